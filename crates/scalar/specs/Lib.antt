@@ -1,0 +1,4 @@
+pub mod Digits
+pub mod Ln
+pub mod Root
+pub mod Scalar

@@ -1,0 +1,5 @@
+// Numbers: the logarithm and the root of document 01's "Arithmetic", and the small conversions that the crates above share.
+pub mod bits;
+pub mod digits;
+pub mod log;
+pub mod root;
