@@ -1,8 +1,8 @@
 -- The root of a whole number, rounded down and to the nearest. Assumes nothing.
-use mathlib.Core.Path.{_≡_, refl, sym, ap, _∙_, subst}
+use mathlib.Core.Path.{_≡_, refl}
 use mathlib.Core.Bool.{Bool, true, false, cond}
-use Prim.Native.Nat.{ℕ, zero, suc, _≤_, _<_, _-_, _+_, _*_, _/_, _%_, _^_}
-use native.Mathlib.Nat.{add-mul, mul-add, mul-one, pow-suc, le-antisymm, lt-of-not-le, le-of-suc-le-suc, lt-irrefl, lt-of-lt-of-le, le-trans, mul-le-mul-right, mul-le-mul-left}
+use Prim.Native.Nat.{ℕ, zero, suc, _≤_, _<_, _-_, _+_, _*_, _/_, _^_}
+use native.Mathlib.Nat.{add-mul, mul-add, pow-suc, le-antisymm, lt-of-not-le, le-of-suc-le-suc, lt-irrefl, le-trans, mul-le-mul-right, mul-le-mul-left}
 use native.Mathlib.Omega.{arith}
 use lib.Dec.{leb}
 use borrow.Author.Tests.{leb-true, leb-false}

@@ -12,7 +12,7 @@ use lib.Ieee.Bits.{nanBits-above}
 use borrow.Author.Tests.{lt-ltb, le-ltb, le-leb, lt-leb, leb-true, leb-false, ltb-true, ltb-false, eqb-true}
 use Rattle.scalar.specs.Ln.{lnOf, lnScaled, lnNear, rootTwo, half, one}
 use Rattle.scalar.specs.Digits.{nil}
-use Rattle.scalar.proofs.Positive.{Oddly, oddly, odd-shift, pow-lt-back, size-exact, Shift, some, not-yes, not-no}
+use Rattle.scalar.proofs.Positive.{oddly, odd-shift, pow-lt-back, size-exact, Shift, some, not-yes, not-no}
 
 -- ---- exponents
 minus-up : (j : ℕ) → j < 53 → minus (1022 + j) 1074 ≡ minus 0 (52 - j)

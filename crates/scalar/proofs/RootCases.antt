@@ -1,7 +1,7 @@
 -- Which case of the root a number is. Assumes nothing.
 use mathlib.Core.Path.{_≡_, refl}
 use mathlib.Core.Bool.{Bool, true, false, _&&_}
-use Prim.Native.Nat.{ℕ, zero, suc, _<_, _*_}
+use Prim.Native.Nat.{zero, suc, _*_}
 use native.Mathlib.Nat.{lt-irrefl, zero-mul}
 use native.Mathlib.Omega.{arith}
 use lib.Dec.{eqb}

@@ -1,20 +1,20 @@
 -- From the digits of a positive f64 to those of its root. Assumes nothing.
 use mathlib.Core.Path.{_≡_, refl, sym, ap, _∙_, subst}
 use mathlib.Core.Logic.{inl, inr}
-use mathlib.Core.Bool.{Bool, true, false, cond, not}
+use mathlib.Core.Bool.{Bool, false, cond, not}
 use Prim.Native.Nat.{ℕ, zero, suc, _≤_, _<_, _-_, _+_, _*_, _/_, _%_, _^_}
-use native.Mathlib.Nat.{lt-irrefl, mul-assoc, mul-comm, mul-one, mul-right-comm, mul-div-cancel, le-of-mul-le-mul-right, lt-of-mul-lt-mul-right, mul-le-mul-right, mul-lt-mul-of-pos-right, eq-or-lt-of-le, pow-suc, mod-eq-of-lt, lt-of-lt-of-le}
+use native.Mathlib.Nat.{lt-irrefl, mul-assoc, mul-comm, mul-right-comm, mul-div-cancel, le-of-mul-le-mul-right, lt-of-mul-lt-mul-right, mul-le-mul-right, mul-lt-mul-of-pos-right, eq-or-lt-of-le, mod-eq-of-lt, lt-of-lt-of-le}
 use native.Mathlib.Omega.{arith}
-use lib.Dec.{T, leb, eqb, lit<, lit≤}
+use lib.Dec.{T, leb, lit<, lit≤}
 use lib.IntN.{ℤ}
 use lib.Pow.{pow-add, pow-pos}
-use lib.Ieee.{Float, fin, binary64, up, down, minus, size, odd, ofBits, ofFields}
+use lib.Ieee.{Float, fin, binary64, up, down, minus, size, odd, ofBits}
 use lib.Ieee.Digits.{minus-val}
 use lib.Ieee.Fits.{down-pos}
 use borrow.Author.Tests.{lt-leb, le-leb, le-ltb, ne-eqb}
 use lib.Ieee.{nanBits}
 use lib.Ieee.Bits.{nanBits-above}
-use Rattle.scalar.proofs.Positive.{oddly, Oddly, odd-shift, size-exact, Shift}
+use Rattle.scalar.proofs.Positive.{oddly, odd-shift, size-exact, Shift}
 use Rattle.scalar.proofs.Floor.{near-is, root-big}
 use Rattle.scalar.specs.Root.{rootOf, nearRoot}
 

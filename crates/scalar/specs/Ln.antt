@@ -1,6 +1,6 @@
 -- Document 01, "Arithmetic", the logarithm: each operation rounded once, in the order written. Definitions only.
 use Prim.Native.Nat.{ℕ, zero, suc, _-_}
-use mathlib.Core.Bool.{Bool, true, false, cond}
+use mathlib.Core.Bool.{true, false, cond}
 use mathlib.Core.List.{List, [], _∷_, map, foldl}
 use lib.IntN.{ℤ, pos, _+ℤ_}
 use lib.Ieee.{Float, nan, inf, fin, binary64, add, sub, mul, div, lt, ofBits, ofInt, round, size, minus}

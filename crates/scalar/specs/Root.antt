@@ -1,6 +1,6 @@
 -- Document 01, "Arithmetic": "Root: IEEE 754, nearest, ties to even." Definitions only.
 use Prim.Native.Nat.{ℕ, zero, suc, _+_, _-_, _*_, _/_, _%_, _^_}
-use mathlib.Core.Bool.{Bool, true, false, cond}
+use mathlib.Core.Bool.{false, cond}
 use lib.Dec.{leb}
 use lib.Ieee.{Float, nan, inf, fin, up, down, size, odd}
 

@@ -1,3 +1,4 @@
+-- `scalar::bits::from_word` meets its contract. Assumes nothing.
 use borrow.Author.Needs.{needs}
 use Prim.Native.Nat.{_-_}
 use mathlib.Core.Path.{_≡_, ap}
@@ -6,26 +7,19 @@ use mir.Syntax.{w64}
 use mir.Val.{toZ}
 use Rattle.scalar.proofs.bits.from_word.Statement.{statement}
 use Rattle.scalar.proofs.bits.from_word.Tie as tie
-use Rattle.scalar.proofs.bits.from_word.Reads as reads
-use Rattle.scalar.proofs.bits.from_word.Lts as lts
 
--- src/bits.rt:59:9
 cast-result : tie.Need-cast-result
 cast-result c = search needs
 
--- src/bits.rt:61:12
 sub-result : tie.Need-sub-result
 sub-result c = search needs
 
--- src/bits.rt:61:11
 cast-result-2 : tie.Need-cast-result-2
 cast-result-2 c = search needs
 
--- src/bits.rt:55:1
 returns : tie.Need-returns
 returns c = search needs
 
--- src/bits.rt:55:1
 returns-2 : tie.Need-returns-2
 returns-2 c = let e : 18446744073709551615 - (18446744073709551615 - c .before .args .b) ≡ c .before .args .b = omega arith in ap (toZ w64) e
 

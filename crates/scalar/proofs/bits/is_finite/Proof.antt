@@ -1,7 +1,6 @@
 -- `scalar::bits::is_finite` meets its contract. Assumes nothing.
-use mathlib.Core.Path.{_≡_, refl, sym, subst}
-use mathlib.Core.Bool.{Bool, true, false}
-use lib.Dec.{T}
+use mathlib.Core.Path.{_≡_, refl, sym}
+use mathlib.Core.Bool.{true, false}
 use lib.Ieee.{Float, nan, inf, fin, binary64, ofBits, lt, div, neg}
 use Rattle.scalar.specs.Scalar.{finite}
 use Rattle.scalar.proofs.bits.is_finite.Statement.{statement}

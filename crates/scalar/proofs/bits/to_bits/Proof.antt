@@ -1,13 +1,12 @@
+-- `scalar::bits::to_bits` meets its contract. Assumes nothing.
 use borrow.Author.Needs.{needs}
 use mathlib.Core.Path.{_≡_, sym, ap, subst}
-use mathlib.Core.Bool.{Bool, true, false, not}
+use mathlib.Core.Bool.{false, not}
 use lib.Dec.{T}
 use lib.Ieee.{Float, nan, inf, fin, binary64, toBits, ne, isNan}
 use lib.Ieee.Compare.{differs-from-itself}
 use Rattle.scalar.proofs.bits.to_bits.Statement.{statement}
 use Rattle.scalar.proofs.bits.to_bits.Tie as tie
-use Rattle.scalar.proofs.bits.to_bits.Reads as reads
-use Rattle.scalar.proofs.bits.to_bits.Lts as lts
 
 number : (x : Float) → ne x x ≡ false → T (not (isNan x))
 unfolding isNan ne
@@ -19,11 +18,9 @@ returns : tie.Need-returns
 unfolding toBits
 returns c = sym (ap (toBits binary64) (differs-from-itself (c .before .args .x) (subst T (sym (c .if1 .taken)) tt)))
 
--- src/bits.rt:40:5
 float-to-bits-result : tie.Need-float-to-bits-result
 float-to-bits-result c = number (c .before .args .x) (c .if1 .left)
 
--- src/bits.rt:34:1
 returns-2 : tie.Need-returns-2
 returns-2 c = search needs
 

@@ -1,13 +1,13 @@
 -- `scalar::bits::to_word` meets its contract. Assumes nothing.
 use Prim.Native.Nat.{ℕ, suc, _-_, _≤_, _<_, _^_, zero-le}
-use mathlib.Core.Path.{_≡_, refl, sym, ap, _∙_, subst}
+use mathlib.Core.Path.{_≡_, refl, sym, subst}
 use mathlib.Core.Bool.{true, false}
 use native.Mathlib.Omega.{arith}
 use lib.Dec.{T, le→leb}
 use lib.IntN.{ℤ, pos, negsuc, natAbs}
 use lib.Signed.{leZ, nonNeg}
 use mir.Syntax.{w64}
-use mir.Val.{Fits, SFits, toZ, ofZ}
+use mir.Val.{SFits, toZ, ofZ}
 use mir.ValLaws.{toZ-ofZ, toZ-pos, ofZ-fits}
 use Rattle.scalar.proofs.bits.to_word.Statement.{statement}
 use Rattle.scalar.proofs.bits.to_word.Tie as tie

@@ -1,3 +1,4 @@
+-- `scalar::log::exponent` meets its contract. Assumes nothing.
 use borrow.Author.Needs.{needs}
 use Prim.Native.Nat.{ℕ, suc, _<_, _-_, _^_}
 use native.Mathlib.Omega.{arith}
@@ -12,8 +13,6 @@ use mir.Val.{SFits, toZ, ofZ}
 use mir.ValLaws.{toZ-ofZ, toZ-pos}
 use Rattle.scalar.proofs.log.exponent.Statement.{statement}
 use Rattle.scalar.proofs.log.exponent.Tie as tie
-use Rattle.scalar.proofs.log.exponent.Reads as reads
-use Rattle.scalar.proofs.log.exponent.Lts as lts
 
 small : (k : ℕ) → k < 4096 → mag (subℕ k 1074) < 2 ^ 63
 small k h = go (ltb k 1074)
@@ -42,15 +41,12 @@ counted k h = go (ltb k 1074)
 cast-result : tie.Need-cast-result
 cast-result c = search needs
 
--- src/log.rt:42:6
 sub-result : tie.Need-sub-result
 sub-result c = in-range (c .args .k) (c .pre)
 
--- src/log.rt:42:5
 int-to-float-result : tie.Need-int-to-float-result
 int-to-float-result c = subst (λ (z : ℤ). T (inFloat binary64 z)) (sym (back (c .before .args .k) (c .before .pre))) (counted (c .before .args .k) (c .before .pre))
 
--- src/log.rt:38:1
 returns : tie.Need-returns
 returns c = ap (ofInt binary64) (back (c .before .args .k) (c .before .pre))
 

@@ -1,5 +1,5 @@
 -- `root::root_digits` meets its contract. Assumes nothing.
-use Prim.Native.Nat.{ℕ, _-_}
+use Prim.Native.Nat.{_-_}
 use native.Mathlib.Omega.{arith}
 use native.Mathlib.Nat.{lt-of-lt-of-le}
 use lib.Pow.{pow-mono}
@@ -7,8 +7,6 @@ use mathlib.Core.Logic.{⊎-elim}
 use Rattle.scalar.proofs.RootDigits.{Inv, under, next-one, next-zero, done}
 use Rattle.scalar.proofs.root.root_digits.Statement.{statement}
 use Rattle.scalar.proofs.root.root_digits.Tie as tie
-use Rattle.scalar.proofs.root.root_digits.Reads as reads
-use Rattle.scalar.proofs.root.root_digits.Lts as lts
 
 abbrev Inv-loop : tie.InvT-loop
 Inv-loop m root₀ rest₀ left₀ i₀ root rest left i = Inv m root rest left i

@@ -1,18 +1,14 @@
+-- `scalar::root::root_scaled` meets its contract. Assumes nothing.
 use borrow.Author.Needs.{needs}
 use native.Mathlib.Omega.{arith}
-use mathlib.Core.Path.{_≡_, sym, _∙_, ap}
 use lib.Count.{leadingZeros, leading-le}
 use lib.Dec.{lit<}
 use native.Mathlib.Nat.{lt-of-le-of-lt}
 use Rattle.scalar.proofs.Positive.{Shift, shift}
 use Rattle.scalar.proofs.RootScale.{Found, scaled-lt, down-is, up-is, no-nan}
-use Prim.Native.Nat.{_<_}
 use native.Mathlib.Nat.{lt-trans}
 use Rattle.scalar.proofs.root.root_scaled.Statement.{statement}
 use Rattle.scalar.proofs.root.root_scaled.Tie as tie
-use Rattle.scalar.proofs.root.root_scaled.Reads as reads
-use Rattle.scalar.proofs.root.root_scaled.Lts as lts
-use Rattle.scalar.proofs.root.root_digits.Reads as root-digits-reads
 
 facts : (c : tie.Start) → Shift (c .args .q) (leadingZeros 64 (c .args .q))
 facts c = shift (c .args .q) (c .pre .0) (c .pre .1)

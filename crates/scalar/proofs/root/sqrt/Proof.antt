@@ -1,3 +1,4 @@
+-- `scalar::root::sqrt` meets its contract. Assumes nothing.
 use borrow.Author.Needs.{needs}
 use mathlib.Core.Path.{sym, ap, _∙_, subst}
 use Rattle.scalar.specs.Digits.{Falls}
@@ -5,48 +6,34 @@ use Rattle.scalar.specs.Root.{rootOf}
 use Rattle.scalar.proofs.RootCases.{top-is, zero-is, none-is}
 use Rattle.scalar.proofs.root.sqrt.Statement.{statement}
 use Rattle.scalar.proofs.root.sqrt.Tie as tie
-use Rattle.scalar.proofs.root.sqrt.Reads as reads
-use Rattle.scalar.proofs.root.sqrt.Lts as lts
-use Rattle.scalar.proofs.digits.digits_of.Reads as digits-of-reads
-use Rattle.scalar.proofs.root.root_scaled.Reads as root-scaled-reads
 
--- src/root.rt:63:11
 digits-of-requires : tie.Need-digits-of-requires
 digits-of-requires c κs = search needs
 
--- src/root.rt:64:26
 enum-known-q : tie.Need-enum-known-q
 enum-known-q c = search needs
 
--- src/root.rt:64:36
 root-scaled-requires : tie.Need-root-scaled-requires
 root-scaled-requires c κs = let f = subst (Falls (c .before .before .before .before .args .a)) (c .before .q .given .1) (c .before .before .before .digits-of .ensures) in (f .some, f .few, f .low)
 
--- src/root.rt:65:29
 enum-told : tie.Need-enum-told
 enum-told c = search needs
 
--- src/root.rt:66:25
 enum-told-2 : tie.Need-enum-told-2
 enum-told-2 c = search needs
 
--- src/root.rt:67:26
 enum-told-3 : tie.Need-enum-told-3
 enum-told-3 c = search needs
 
--- src/root.rt:60:1
 returns : tie.Need-returns
 returns c = c .root-scaled .ensures ∙ sym (ap rootOf (subst (Falls (c .before .before .before .before .before .args .a)) (c .before .before .q .given .1) (c .before .before .before .before .digits-of .ensures) .is))
 
--- src/root.rt:60:1
 returns-2 : tie.Need-returns-2
 returns-2 c = let e = subst (Falls (c .before .before .before .args .a)) (c .enum-told .given .1) (c .before .before .digits-of .ensures) in e ∙ sym (ap rootOf e ∙ top-is)
 
--- src/root.rt:60:1
 returns-3 : tie.Need-returns-3
 returns-3 c = zero-is (c .before .before .before .args .a) (subst (Falls (c .before .before .before .args .a)) (c .enum-told2 .given .1) (c .before .before .digits-of .ensures))
 
--- src/root.rt:60:1
 returns-4 : tie.Need-returns-4
 returns-4 c = let f = subst (Falls (c .before .before .before .args .a)) (c .enum-told3 .given .1) (c .before .before .digits-of .ensures) in none-is (c .before .before .before .args .a) (f .0) (f .1)
 
