@@ -1,3 +1,4 @@
+pub mod Algebra
 pub mod Positive
 pub mod Logarithm
 pub mod Reciprocals
