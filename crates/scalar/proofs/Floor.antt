@@ -13,7 +13,7 @@ pub record IsFloor (n s : ℕ) : Type 0 where
   pub low : s * s ≤ n
   pub high : n < s * s + 2 * s + 1
 
-sq-next : (s : ℕ) → (s + 1) * (s + 1) ≡ s * s + 2 * s + 1
+pub sq-next : (s : ℕ) → (s + 1) * (s + 1) ≡ s * s + 2 * s + 1
 sq-next s =
     let a : (s + 1) * (s + 1) ≡ s * (s + 1) + 1 * (s + 1) = add-mul s 1 (s + 1) in
     let b : s * (s + 1) ≡ s * s + s * 1 = mul-add s s 1 in
@@ -31,7 +31,7 @@ floor-is (suc k) n h = go (floorRoot k (n / 4)) (floor-is k (n / 4) (omega (arit
         pick true e = record { low = leb-true _ _ e; high = omega (arith, f .high, sq-odd t) }
         pick false e = record { low = omega (arith, f .low, sq-even t); high = omega (arith, leb-false ((2 * t + 1) * (2 * t + 1)) n e, sq-odd t, sq-even t) }
 
-square-mono : (a b : ℕ) → a ≤ b → a * a ≤ b * b
+pub square-mono : (a b : ℕ) → a ≤ b → a * a ≤ b * b
 square-mono a b h = le-trans (mul-le-mul-right a h) (mul-le-mul-left b h)
 
 at-most : (n s t : ℕ) → IsFloor n s → IsFloor n t → s ≤ t

@@ -5,3 +5,5 @@ pub mod Floor
 pub mod RootDigits
 pub mod RootScale
 pub mod RootCases
+pub mod Nearest
+pub mod RootLaw
