@@ -1,8 +1,8 @@
 -- The law of the root: `rootOf` of a positive f64 is its real root rounded to the nearest, ties to even. Assumes nothing.
 use mathlib.Core.Path.{_≡_, sym, ap, _∙_, subst}
 use mathlib.Core.Bool.{Bool, true, false, cond}
-use Prim.Native.Nat.{ℕ, suc, _+_, _-_, _*_, _/_, _%_, _^_, _≤_, _<_}
-use native.Mathlib.Nat.{le-of-eq, le-trans, le-of-suc-le-suc, lt-irrefl, lt-of-not-le, lt-of-le-of-lt, lt-of-lt-of-le, mul-comm, mul-assoc, mul-left-comm, mul-mul-mul-comm, add-mul, mul-pos, zero-mul, mul-le-mul-right, mul-lt-mul-of-pos-right, le-of-mul-le-mul-right}
+use Prim.Native.Nat.{ℕ, _+_, _-_, _*_, _/_, _%_, _^_, _≤_, _<_}
+use native.Mathlib.Nat.{le-of-eq, le-trans, lt-of-le-of-lt, lt-of-lt-of-le, mul-comm, mul-assoc, mul-left-comm, mul-mul-mul-comm, add-mul, mul-pos, zero-mul, mul-le-mul-right, mul-lt-mul-of-pos-right, le-of-mul-le-mul-right}
 use native.Mathlib.Omega.{arith}
 use lib.Dec.{T, lit<, ltb, ltb→lt}
 use lib.Count.{leadingZeros}
@@ -18,39 +18,32 @@ use Rattle.scalar.specs.Digits.{IsFinite, nil}
 use Rattle.scalar.specs.Root.{rootOf, nearRoot, NearestRoot}
 use Rattle.scalar.proofs.Positive.{Shift, shift, finite-digits}
 use Rattle.scalar.proofs.RootDigits.{sq-even, sq-odd}
-use Rattle.scalar.proofs.Floor.{IsNear, near-law, sq-next, square-mono}
+use Rattle.scalar.proofs.Floor.{IsNear, near-law, sq-next, sq-le, sq-lt}
 use Rattle.scalar.proofs.RootScale.{brought, gather, parity, once-or-twice}
 use Rattle.scalar.proofs.Nearest.{rounds-down, rounds-up}
 
--- ---- squares in order
-sq-le : (x y : ℕ) → x * x ≤ y * y → x ≤ y
-sq-le x y h = le-of-suc-le-suc (lt-of-not-le (λ (g : suc y ≤ x). lt-irrefl (y * y) (omega (arith, square-mono (y + 1) x (omega arith), sq-next y))))
-
-sq-lt : (x y : ℕ) → x * x < y * y → x < y
-sq-lt x y h = lt-of-not-le (λ (g : y ≤ x). lt-irrefl (y * y) (omega (arith, square-mono y x g)))
-
--- n / u is a fraction whose square stands below or above that of P: c / 2 then bounds the fraction
+-- ---- P / u stands beside the root of n: on its side of c / 2, if that root does
 module _ (P n u c : ℕ) where
-  doubled : n * (u * u) * 4 ≡ 4 * n * (u * u)
-  doubled = mul-comm (n * (u * u)) 4 ∙ sym (mul-assoc 4 n (u * u))
+  four-times : n * (u * u) * 4 ≡ 4 * n * (u * u)
+  four-times = mul-comm (n * (u * u)) 4 ∙ sym (mul-assoc 4 n (u * u))
 
   root-lt : 0 < u → P * P ≤ n * (u * u) → 4 * n < c * c → 2 * P < c * u
   root-lt U h g =
       sq-lt (2 * P) (c * u)
       (subst (λ (x : ℕ). 2 * P * (2 * P) < x) (mul-mul-mul-comm c c u u)
-      (lt-of-le-of-lt (omega (arith, sq-even P, doubled)) (mul-lt-mul-of-pos-right g (mul-pos U U))))
+      (lt-of-le-of-lt (omega (arith, sq-even P, four-times)) (mul-lt-mul-of-pos-right g (mul-pos U U))))
 
   root-gt : 0 < u → n * (u * u) ≤ P * P → c * c < 4 * n → c * u < 2 * P
   root-gt U h g =
       sq-lt (c * u) (2 * P)
       (subst (λ (x : ℕ). x < 2 * P * (2 * P)) (mul-mul-mul-comm c c u u)
-      (lt-of-lt-of-le (mul-lt-mul-of-pos-right g (mul-pos U U)) (omega (arith, sq-even P, doubled))))
+      (lt-of-lt-of-le (mul-lt-mul-of-pos-right g (mul-pos U U)) (omega (arith, sq-even P, four-times))))
 
   root-ge : n * (u * u) ≤ P * P → c * c ≤ 4 * n → c * u ≤ 2 * P
   root-ge h g =
       sq-le (c * u) (2 * P)
       (subst (λ (x : ℕ). x ≤ 2 * P * (2 * P)) (mul-mul-mul-comm c c u u)
-      (le-trans (mul-le-mul-right (u * u) g) (omega (arith, sq-even P, doubled))))
+      (le-trans (mul-le-mul-right (u * u) g) (omega (arith, sq-even P, four-times))))
 
 -- ---- a fraction beside the root of n * 4 ^ k units rounds to the same side of r * 2 ^ k units
 module _ (n r k : ℕ) (many : 2 ^ 104 ≤ n) (few : n < 2 ^ 106) (v : IsNear n r) where
@@ -69,14 +62,14 @@ module _ (n r k : ℕ) (many : 2 ^ 104 ≤ n) (few : n < 2 ^ 106) (v : IsNear n 
   most : r ≤ 2 ^ 53
   most = omega (arith, sq-lt (2 * (r - 1) + 1) (2 ^ 54) (omega (arith, under)))
 
-  pub root-down : (P c : ℕ) → 0 < c → P * P ≤ n * (c * 2 ^ k * (c * 2 ^ k)) → kept 53 P c * 2 ^ drop 53 P c ≤ r * 2 ^ k
+  root-down : (P c : ℕ) → 0 < c → P * P ≤ n * (c * 2 ^ k * (c * 2 ^ k)) → kept 53 P c * 2 ^ drop 53 P c ≤ r * 2 ^ k
   root-down P c C h =
       let u = c * 2 ^ k in
       let U : 0 < u = mul-pos C (pow-pos k) in
       rounds-down P c r k C least (omega (arith, root-lt P n u (2 ^ 54) U h (omega arith)))
       (omega (arith, root-lt P n u (2 * r + 1) U h over, add-mul (2 * r) 1 u, mul-assoc 2 r u))
 
-  pub root-up : (P c : ℕ) → 0 < c → n * (c * 2 ^ k * (c * 2 ^ k)) ≤ P * P → r * 2 ^ k ≤ kept 53 P c * 2 ^ drop 53 P c
+  root-up : (P c : ℕ) → 0 < c → n * (c * 2 ^ k * (c * 2 ^ k)) ≤ P * P → r * 2 ^ k ≤ kept 53 P c * 2 ^ drop 53 P c
   root-up P c C h =
       let u = c * 2 ^ k in
       let U : 0 < u = mul-pos C (pow-pos k) in
