@@ -2,7 +2,7 @@
 use mathlib.Core.Path.{_≡_, refl}
 use mathlib.Core.Bool.{Bool, true, false, cond}
 use Prim.Native.Nat.{ℕ, zero, suc, _≤_, _<_, _-_, _+_, _*_, _/_, _^_}
-use native.Mathlib.Nat.{add-mul, mul-add, pow-suc, le-antisymm, lt-of-not-le, le-of-suc-le-suc, lt-irrefl, le-trans, mul-le-mul-right, mul-le-mul-left}
+use native.Mathlib.Nat.{add-mul, mul-add, pow-suc, le-antisymm, lt-of-not-le, lt-irrefl, mul-le-mul}
 use native.Mathlib.Omega.{arith}
 use lib.Dec.{leb}
 use borrow.Author.Tests.{leb-true, leb-false}
@@ -13,7 +13,7 @@ pub record IsFloor (n s : ℕ) : Type 0 where
   pub low : s * s ≤ n
   pub high : n < s * s + 2 * s + 1
 
-sq-next : (s : ℕ) → (s + 1) * (s + 1) ≡ s * s + 2 * s + 1
+pub sq-next : (s : ℕ) → (s + 1) * (s + 1) ≡ s * s + 2 * s + 1
 sq-next s =
     let a : (s + 1) * (s + 1) ≡ s * (s + 1) + 1 * (s + 1) = add-mul s 1 (s + 1) in
     let b : s * (s + 1) ≡ s * s + s * 1 = mul-add s s 1 in
@@ -31,11 +31,14 @@ floor-is (suc k) n h = go (floorRoot k (n / 4)) (floor-is k (n / 4) (omega (arit
         pick true e = record { low = leb-true _ _ e; high = omega (arith, f .high, sq-odd t) }
         pick false e = record { low = omega (arith, f .low, sq-even t); high = omega (arith, leb-false ((2 * t + 1) * (2 * t + 1)) n e, sq-odd t, sq-even t) }
 
-square-mono : (a b : ℕ) → a ≤ b → a * a ≤ b * b
-square-mono a b h = le-trans (mul-le-mul-right a h) (mul-le-mul-left b h)
+pub sq-lt : (x y : ℕ) → x * x < y * y → x < y
+sq-lt x y h = lt-of-not-le (λ (g : y ≤ x). lt-irrefl (y * y) (omega (arith, mul-le-mul g g)))
+
+pub sq-le : (x y : ℕ) → x * x ≤ y * y → x ≤ y
+sq-le x y h = omega (arith, sq-lt x (y + 1) (omega (arith, sq-next y)))
 
 at-most : (n s t : ℕ) → IsFloor n s → IsFloor n t → s ≤ t
-at-most n s t a b = le-of-suc-le-suc (lt-of-not-le (λ (g : suc t ≤ s). lt-irrefl n (omega (arith, square-mono (t + 1) s (omega arith), sq-next t, a .low, b .high))))
+at-most n s t a b = omega (arith, sq-lt s (t + 1) (omega (arith, sq-next t, a .low, b .high)))
 
 pub floor-unique : (n s t : ℕ) → IsFloor n s → IsFloor n t → s ≡ t
 floor-unique n s t a b = le-antisymm (at-most n s t a b) (at-most n t s b a)
@@ -51,7 +54,7 @@ near-is k n q rem h e g =
 
 -- a root of 105 digits or more has 53 or more
 pub root-big : (n q rem : ℕ) → q * q + rem ≡ n → rem ≤ 2 * q → 2 ^ 104 ≤ n → 2 ^ 52 ≤ q
-root-big n q rem e g h = le-of-suc-le-suc (lt-of-not-le (λ (l : suc q ≤ 2 ^ 52). lt-irrefl n (omega (arith, square-mono (q + 1) (2 ^ 52) (omega arith), sq-next q))))
+root-big n q rem e g h = omega (arith, sq-lt (2 ^ 52) (q + 1) (omega (arith, sq-next q)))
 
 -- what `nearRoot` is: (r - 1/2)² < n < (r + 1/2)², multiplied out in whole numbers. So no whole number is as near to the root as r, and there is no tie
 pub record IsNear (n r : ℕ) : Type 0 where

@@ -4,5 +4,8 @@ pub mod Logarithm
 pub mod Reciprocals
 pub mod Floor
 pub mod RootDigits
+pub mod RootGuess
 pub mod RootScale
 pub mod RootCases
+pub mod Nearest
+pub mod RootLaw

@@ -13,8 +13,8 @@ use lib.Ieee.{Float, nan, inf, fin, binary64, fits, minus, size, odd, ofFields, 
 use lib.Ieee.Bits.{ofBits-toBits}
 use lib.Ieee.Fits.{up-pos}
 use lib.Ieee.Digits.{size-lt, size-le}
-use borrow.Author.Tests.{ne-eqb}
-use Rattle.scalar.specs.Digits.{nil}
+use borrow.Author.Tests.{ne-eqb, eqb-true, eqb-false}
+use Rattle.scalar.specs.Digits.{nil, IsFinite}
 
 -- ---- an odd number with i zeros after it
 none : (i : ℕ) → i < 0 → ⊥
@@ -160,3 +160,19 @@ module _ (a : Float) (held : T (fits binary64 a)) (p : lt nil a ≡ true) where
   pub field-mid : (exponentField (toBits binary64 a) ≡ 2047 → ⊥) → (exponentField (toBits binary64 a) ≡ 0 → ⊥)
       → a ≡ odd 53 false (0x10_0000_0000_0000 + digitsField (toBits binary64 a)) (exponentField (toBits binary64 a) - 1) 1074
   field-mid n z = at-mid (sign (toBits binary64 a)) (exponentField (toBits binary64 a)) (digitsField (toBits binary64 a)) a (by-fields a held) p n z
+
+  -- one that is finite has digits
+  pub finite-digits : (a ≡ inf false → ⊥) → (q : ℕ) × (y : ℕ) × IsFinite a q y
+  finite-digits n = go (eqb (exponentField (toBits binary64 a)) 0) refl
+    where
+      b : ℕ
+      b = toBits binary64 a
+
+      not-top : exponentField b ≡ 2047 → ⊥
+      not-top e = n (field-top e)
+
+      go : (t : Bool) → eqb (exponentField b) 0 ≡ t → (q : ℕ) × (y : ℕ) × IsFinite a q y
+      go true e = let z = field-zero (eqb-true _ _ e) in (digitsField b, 0, record { is = z .1; some = z .0; few = omega arith; low = omega arith })
+      go false e =
+          let u = eqb-false (exponentField b) 0 e in
+          (0x10_0000_0000_0000 + digitsField b, exponentField b - 1, record { is = field-mid not-top u; some = omega arith; few = omega arith; low = omega (arith, not-top, u) })

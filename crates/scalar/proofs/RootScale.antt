@@ -19,7 +19,7 @@ use Rattle.scalar.proofs.Floor.{near-is, root-big}
 use Rattle.scalar.specs.Root.{rootOf, nearRoot}
 
 -- the digit where the root's parity stands: 2 ^ p for p = 0 or 1
-parity : (i : ℕ) → 2 ^ (i % 2) ≡ 1 + i % 2
+pub parity : (i : ℕ) → 2 ^ (i % 2) ≡ 1 + i % 2
 parity i = go (i % 2) (omega arith)
   where
     go : (p : ℕ) → p < 2 → 2 ^ p ≡ 1 + p
@@ -66,16 +66,20 @@ length-is q y s f =
     let z : size (q * 2 ^ y) ≡ suc i = size-exact i (q * 2 ^ y) (le-of-mul-le-mul-right lo (pow-pos s)) (lt-of-mul-lt-mul-right (2 ^ s) hi) in
     omega arith
 
+-- powers of two gathered
+pub gather : (q a b c d : ℕ) → q * 2 ^ a * 2 ^ b * 2 ^ c * 2 ^ d ≡ q * 2 ^ (a + b + c + d)
+gather q a b c d =
+    ap (λ (x : ℕ). x * 2 ^ c * 2 ^ d) (mul-assoc q (2 ^ a) (2 ^ b) ∙ ap (λ (x : ℕ). q * x) (sym (pow-add 2 a b)))
+    ∙ ap (λ (x : ℕ). x * 2 ^ d) (mul-assoc q (2 ^ (a + b)) (2 ^ c) ∙ ap (λ (x : ℕ). q * x) (sym (pow-add 2 (a + b) c)))
+    ∙ mul-assoc q (2 ^ (a + b + c)) (2 ^ d)
+    ∙ ap (λ (x : ℕ). q * x) (sym (pow-add 2 (a + b + c) d))
+
 square-is : (q y s p : ℕ) → s < 53 → q * 2 ^ y * 2 ^ (104 + p) / 2 ^ (y + (52 - s)) ≡ q * 2 ^ s * 2 ^ p * 2 ^ 52
 square-is q y s p h =
     let i = y + (52 - s) in
-    let gather : (a b c d : ℕ) → q * 2 ^ a * 2 ^ b * 2 ^ c * 2 ^ d ≡ q * 2 ^ (a + b + c + d) = λ a b c d.
-    ap (λ (x : ℕ). x * 2 ^ c * 2 ^ d) (mul-assoc q (2 ^ a) (2 ^ b) ∙ ap (λ (x : ℕ). q * x) (sym (pow-add 2 a b)))
-    ∙ ap (λ (x : ℕ). x * 2 ^ d) (mul-assoc q (2 ^ (a + b)) (2 ^ c) ∙ ap (λ (x : ℕ). q * x) (sym (pow-add 2 (a + b) c)))
-    ∙ mul-assoc q (2 ^ (a + b + c)) (2 ^ d) ∙ ap (λ (x : ℕ). q * x) (sym (pow-add 2 (a + b + c) d)) in
     let even : s + p + 52 + i ≡ y + (104 + p) = omega arith in
     let top : q * 2 ^ y * 2 ^ (104 + p) ≡ q * 2 ^ s * 2 ^ p * 2 ^ 52 * 2 ^ i =
-    mul-assoc q (2 ^ y) (2 ^ (104 + p)) ∙ ap (λ (x : ℕ). q * x) (sym (pow-add 2 y (104 + p)) ∙ ap (λ (x : ℕ). 2 ^ x) (sym even)) ∙ sym (gather s p 52 i) in
+    mul-assoc q (2 ^ y) (2 ^ (104 + p)) ∙ ap (λ (x : ℕ). q * x) (sym (pow-add 2 y (104 + p)) ∙ ap (λ (x : ℕ). 2 ^ x) (sym even)) ∙ sym (gather q s p 52 i) in
     ap (λ (x : ℕ). x / 2 ^ i) top ∙ mul-div-cancel (q * 2 ^ s * 2 ^ p * 2 ^ 52) (pow-pos i)
 
 pub brought : (q y s : ℕ) → 0 < q → q < 2 ^ 53 → Full q s
@@ -120,7 +124,7 @@ place y z = y + (52 - (z - 11))
 abbrev pub scaled : ℕ → ℕ → ℕ → ℕ
 scaled q y z = q * 2 ^ (z - 11) % 0x1_0000_0000_0000_0000 * (1 + place y z % 2)
 
-once-or-twice : (a p : ℕ) → p < 2 → (a ≤ a * (1 + p)) × (a * (1 + p) ≤ 2 * a)
+pub once-or-twice : (a p : ℕ) → p < 2 → (a ≤ a * (1 + p)) × (a * (1 + p) ≤ 2 * a)
 once-or-twice a zero h = (omega arith, omega arith)
 once-or-twice a (suc zero) h = (omega arith, omega arith)
 once-or-twice a (suc (suc p)) h = absurd (lt-irrefl 0 (omega arith))

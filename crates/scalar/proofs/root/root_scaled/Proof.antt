@@ -28,14 +28,14 @@ sub-i c = omega (arith, facts c .under)
 add-i : tie.Need-add-i
 add-i c = search needs
 
-add-root-digits : tie.Need-add-root-digits
-add-root-digits c = search needs
+add-whole-root : tie.Need-add-whole-root
+add-whole-root c = search needs
 
-mul-root-digits : tie.Need-mul-root-digits
-mul-root-digits c = record { fits = lt-trans (scaled-lt (c .args .q) (c .args .y) _ (facts c)) (lit< tt) }
+mul-whole-root : tie.Need-mul-whole-root
+mul-whole-root c = record { fits = lt-trans (scaled-lt (c .args .q) (c .args .y) _ (facts c)) (lit< tt) }
 
-root-digits-requires : tie.Need-root-digits-requires
-root-digits-requires c κs = scaled-lt (c .args .q) (c .args .y) _ (facts c)
+whole-root-requires : tie.Need-whole-root-requires
+whole-root-requires c κs = scaled-lt (c .args .q) (c .args .y) _ (facts c)
 
 add-base : tie.Need-add-base
 add-base c = search needs
@@ -46,14 +46,14 @@ mul-base c = search needs
 add-result : tie.Need-add-result
 add-result c = search needs
 
-found : (c : tie.After-root-digits) → Found (c .before .args .q) (c .before .args .y) (leadingZeros 64 (c .before .args .q)) (c .root-digits .result .root) (c .root-digits .result .rest)
+found : (c : tie.After-whole-root) → Found (c .before .args .q) (c .before .args .y) (leadingZeros 64 (c .before .args .q)) (c .whole-root .result .root) (c .whole-root .result .rest)
 found c =
     let s = c .before in
-    let e = c .root-digits .ensures in
+    let e = c .whole-root .ensures in
     record { plus = s .pre .0; few = s .pre .1; low = s .pre .2; shifted = facts s; whole = e .0; rest = e .1; under = e .2 }
 
 float-from-bits-result : tie.Need-float-from-bits-result
-float-from-bits-result c = no-nan _ (omega (arith, c .before .before .pre .2, c .before .root-digits .ensures .2))
+float-from-bits-result c = no-nan _ (omega (arith, c .before .before .pre .2, c .before .whole-root .ensures .2))
 
 returns : tie.Need-returns
 returns c = down-is (found (c .before)) (c .if1 .taken)
@@ -65,7 +65,7 @@ add-result-3 : tie.Need-add-result-3
 add-result-3 c = search needs
 
 float-from-bits-result-2 : tie.Need-float-from-bits-result-2
-float-from-bits-result-2 c = no-nan _ (omega (arith, c .before .before .pre .2, c .before .root-digits .ensures .2))
+float-from-bits-result-2 c = no-nan _ (omega (arith, c .before .before .pre .2, c .before .whole-root .ensures .2))
 
 returns-2 : tie.Need-returns-2
 returns-2 c = up-is (found (c .before)) (c .if1 .left)
@@ -79,9 +79,9 @@ root-scaled-spec =
     shl-digits
     sub-i
     add-i
-    add-root-digits
-    mul-root-digits
-    root-digits-requires
+    add-whole-root
+    mul-whole-root
+    whole-root-requires
     add-base
     mul-base
     add-result
