@@ -1,0 +1,4 @@
+pub mod Config
+pub mod Little
+pub mod Frame
+pub mod Body
