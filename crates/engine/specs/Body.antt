@@ -1,7 +1,7 @@
 -- Document 01, "Frame body", and refusals 5, 6 and 7. Definitions only.
 use Prim.Native.Nat.{ℕ, zero, suc, _+_, _-_, _*_}
 use mathlib.Core.List.{List, [], _∷_}
-use mathlib.Core.Bool.{Bool, true, false, cond, _&&_, not}
+use mathlib.Core.Bool.{Bool, true, cond, _&&_, not}
 use lib.ListN.{length, getD}
 use lib.Dec.{leb, ltb, eqb}
 use lib.IntN.{ℤ, natAbs}

@@ -3,7 +3,7 @@ use Prim.Native.Nat.{ℕ}
 use mathlib.Core.Bool.{Bool, _&&_}
 use lib.Dec.{leb}
 use lib.IntN.{ℤ, pos}
-use lib.Ieee.{Float, binary64, mul, ofBits}
+use lib.Ieee.{Float, binary64, ofBits}
 use Rattle.scalar.specs.Scalar.{finite}
 use Rattle.engine.specs.declared.config.FgoConfig.{FgoConfig}
 

@@ -1,10 +1,8 @@
 -- Document 01, "types.rs, engine.rs: records": what a frame says. Definitions only.
 use Prim.Native.Nat.{ℕ, zero, suc}
-use mathlib.Core.List.{List, []}
-use lib.IntN.{ℤ, pos}
+use mathlib.Core.List.{List}
+use lib.IntN.{ℤ}
 use lib.Ieee.{Float, nan}
-use Rattle.engine.specs.declared.types.EngineId.{EngineId}
-use Rattle.engine.specs.declared.types.ObservationIndex.{ObservationIndex}
 use Rattle.engine.specs.declared.types.TrackingMode.{TrackingMode}
 use Rattle.engine.specs.declared.types.TrackingMode.the-variants.{LidarOnly, CameraAssociated, CameraAssisted}
 use Rattle.engine.specs.declared.types.Outcome.{Outcome}

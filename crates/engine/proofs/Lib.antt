@@ -1,0 +1,5 @@
+pub mod Bytes
+pub mod Every
+pub mod Passing
+pub mod Seen
+pub mod Settings

@@ -1,0 +1,93 @@
+-- `engine::body::association_ok` meets its contract. Assumes nothing.
+use mathlib.Core.Path.{_∙_}
+use borrow.Author.Tests.{eq-eqb, ne-eqb}
+use Rattle.engine.specs.Body.{associationOk}
+use Rattle.engine.proofs.Every.{code-tested, present-tested}
+use borrow.Author.Needs.{needs}
+use Rattle.engine.proofs.body.association_ok.Statement.{statement}
+use Rattle.engine.proofs.body.association_ok.Tie as tie
+
+add-present-refusal : tie.Need-add-present-refusal
+add-present-refusal c = search needs
+
+shared-slice-read-present-refusal : tie.Need-shared-slice-read-present-refusal
+shared-slice-read-present-refusal c = search needs
+
+add-u64-at : tie.Need-add-u64-at
+add-u64-at c = search needs
+
+u64-at-requires : tie.Need-u64-at-requires
+u64-at-requires c κs = search needs
+
+present-refusal-requires : tie.Need-present-refusal-requires
+present-refusal-requires c κs = search needs
+
+returns : tie.Need-returns
+unfolding associationOk
+returns c = rw (present-tested _ (c .before .present-refusal .ensures) (c .before .before .u64-at .ensures) ∙ ne-eqb _ 0 (c .if1 .taken))
+
+add-code-refusal : tie.Need-add-code-refusal
+add-code-refusal c = search needs
+
+shared-slice-read-code-refusal : tie.Need-shared-slice-read-code-refusal
+shared-slice-read-code-refusal c = search needs
+
+code-refusal-requires : tie.Need-code-refusal-requires
+code-refusal-requires c κs = search needs
+
+returns-2 : tie.Need-returns-2
+unfolding associationOk
+returns-2 c = rw (present-tested _ (c .before .before .before .before .present-refusal .ensures) (c .before .before .before .before .before .u64-at .ensures) ∙ eq-eqb _ 0 (c .before .before .before .if1 .left), code-tested _ (c .before .code-refusal .ensures) ∙ ne-eqb _ 0 (c .if2 .taken))
+
+add-present-refusal-2 : tie.Need-add-present-refusal-2
+add-present-refusal-2 c = search needs
+
+shared-slice-read-present-refusal-2 : tie.Need-shared-slice-read-present-refusal-2
+shared-slice-read-present-refusal-2 c = search needs
+
+add-u64-at-2 : tie.Need-add-u64-at-2
+add-u64-at-2 c = search needs
+
+u64-at-requires-2 : tie.Need-u64-at-requires-2
+u64-at-requires-2 c κs = search needs
+
+present-refusal-requires-2 : tie.Need-present-refusal-requires-2
+present-refusal-requires-2 c κs = search needs
+
+returns-3 : tie.Need-returns-3
+unfolding associationOk
+returns-3 c = rw (present-tested _ (c .before .before .before .before .before .before .before .before .present-refusal .ensures) (c .before .before .before .before .before .before .before .before .before .u64-at .ensures) ∙ eq-eqb _ 0 (c .before .before .before .before .before .before .before .if1 .left), code-tested _ (c .before .before .before .before .before .code-refusal .ensures) ∙ eq-eqb _ 0 (c .before .before .before .before .if2 .left), present-tested _ (c .before .present-refusal2 .ensures) (c .before .before .u64-at2 .ensures) ∙ ne-eqb _ 0 (c .if3 .taken))
+
+add-u32-at : tie.Need-add-u32-at
+add-u32-at c = search needs
+
+u32-at-requires : tie.Need-u32-at-requires
+u32-at-requires c κs = search needs
+
+returns-4 : tie.Need-returns-4
+unfolding associationOk
+returns-4 c = rw (present-tested _ (c .before .before .before .before .before .before .before .before .before .present-refusal .ensures) (c .before .before .before .before .before .before .before .before .before .before .u64-at .ensures) ∙ eq-eqb _ 0 (c .before .before .before .before .before .before .before .before .if1 .left), code-tested _ (c .before .before .before .before .before .before .code-refusal .ensures) ∙ eq-eqb _ 0 (c .before .before .before .before .before .if2 .left), present-tested _ (c .before .before .present-refusal2 .ensures) (c .before .before .before .u64-at2 .ensures) ∙ eq-eqb _ 0 (c .before .if3 .left), c .u32-at .ensures)
+
+pub association-ok-spec : {M : Type 1} → statement M
+association-ok-spec =
+    tie.close
+    (tie.spec
+    add-present-refusal
+    shared-slice-read-present-refusal
+    add-u64-at
+    u64-at-requires
+    present-refusal-requires
+    returns
+    add-code-refusal
+    shared-slice-read-code-refusal
+    code-refusal-requires
+    returns-2
+    add-present-refusal-2
+    shared-slice-read-present-refusal-2
+    add-u64-at-2
+    u64-at-requires-2
+    present-refusal-requires-2
+    returns-3
+    add-u32-at
+    u32-at-requires
+    returns-4)
