@@ -110,7 +110,7 @@ fn settings_of(s: &[u8]) -> FgoConfig
 }
 
 // What a recording says at its start.
-pub fn contents(s: &[u8]) -> Contents
+pub fn contents_of(s: &[u8]) -> Contents
     ensures { λ r. ⌜ r ≡ contentsOf (now (s .entry)) ⌝ }
 {
     let n = refusal_of(s);

@@ -1,0 +1,58 @@
+-- `recording::refusal_of` meets its contract. Assumes nothing.
+use mathlib.Core.Path.{sym, _∙_}
+use borrow.Author.Tests.{le-ltb, lt-ltb}
+use Rattle.recording.specs.Recording.{refusal}
+use borrow.Author.Needs.{needs}
+use Rattle.recording.proofs.refusal_of.Statement.{statement}
+use Rattle.recording.proofs.refusal_of.Tie as tie
+
+returns : tie.Need-returns
+unfolding refusal
+returns c = rw (lt-ltb _ _ (c .if1 .taken))
+
+returns-2 : tie.Need-returns-2
+unfolding refusal
+returns-2 c = rw (le-ltb _ _ (c .before .if1 .left), lt-ltb _ _ (c .if2 .taken))
+
+count-of-requires : tie.Need-count-of-requires
+count-of-requires c κs = search needs
+
+returns-3 : tie.Need-returns-3
+unfolding refusal
+returns-3 c = rw (le-ltb _ _ (c .before .before .before .if1 .left), le-ltb _ _ (c .before .before .if2 .left), lt-ltb _ _ (rw (c .before .count-of .ensures) at (c .if3 .taken)))
+
+mul-if4 : tie.Need-mul-if4
+mul-if4 c = search needs
+
+add-if4 : tie.Need-add-if4
+add-if4 c = search needs
+
+returns-4 : tie.Need-returns-4
+unfolding refusal
+returns-4 c = rw (le-ltb _ _ (c .before .before .before .before .if1 .left), le-ltb _ _ (c .before .before .before .if2 .left), le-ltb _ _ (rw (c .before .before .count-of .ensures) at (c .before .if3 .left)), lt-ltb _ _ (rw (c .before .before .count-of .ensures) at (c .if4 .taken)))
+
+fills-rest-requires : tie.Need-fills-rest-requires
+fills-rest-requires c κs = (c .before .before .before .before .if1 .left, rw (c .before .before .count-of .ensures) at (c .if4 .left))
+
+returns-5 : tie.Need-returns-5
+unfolding refusal
+returns-5 c = rw (le-ltb _ _ (c .before .before .before .before .before .before .if1 .left), le-ltb _ _ (c .before .before .before .before .before .if2 .left), le-ltb _ _ (rw (c .before .before .before .before .count-of .ensures) at (c .before .before .before .if3 .left)), le-ltb _ _ (rw (c .before .before .before .before .count-of .ensures) at (c .before .before .if4 .left)), sym (c .before .fills-rest .ensures) ∙ c .if5 .taken)
+
+returns-6 : tie.Need-returns-6
+unfolding refusal
+returns-6 c = rw (le-ltb _ _ (c .before .before .before .before .before .before .if1 .left), le-ltb _ _ (c .before .before .before .before .before .if2 .left), le-ltb _ _ (rw (c .before .before .before .before .count-of .ensures) at (c .before .before .before .if3 .left)), le-ltb _ _ (rw (c .before .before .before .before .count-of .ensures) at (c .before .before .if4 .left)), sym (c .before .fills-rest .ensures) ∙ c .if5 .left)
+
+pub refusal-of-spec : {M : Type 1} → statement M
+refusal-of-spec =
+    tie.close
+    (tie.spec
+    returns
+    returns-2
+    count-of-requires
+    returns-3
+    mul-if4
+    add-if4
+    returns-4
+    fills-rest-requires
+    returns-5
+    returns-6)
