@@ -55,3 +55,9 @@ pub all-at : (p : ℕ → Bool) (n i : ℕ) → all p n ≡ true → i < n → p
 unfolding all
 all-at p zero i h g = absurd (omega arith)
 all-at p (suc n) i h g = let hs = both _ _ h in hold p i n g (eqb i n) refl (hs .1) (λ l. all-at p n i (hs .0) l)
+
+-- and what holds of each holds of all
+pub all-true : (p : ℕ → Bool) (n : ℕ) → ((i : ℕ) → i < n → p i ≡ true) → all p n ≡ true
+unfolding all
+all-true p zero h = refl
+all-true p (suc n) h = let a = all-true p n (λ i g. h i (omega arith)) in let b = h n (omega arith) in rw (a, b)

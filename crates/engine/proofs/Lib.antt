@@ -3,3 +3,5 @@ pub mod Every
 pub mod Passing
 pub mod Seen
 pub mod Settings
+pub mod Laid
+pub mod ReadBack

@@ -2,3 +2,4 @@ pub mod Config
 pub mod Little
 pub mod Frame
 pub mod Body
+pub mod Encode
