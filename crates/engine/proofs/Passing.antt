@@ -1,5 +1,5 @@
 -- What a body that passes tells, and the rows of a body, for any layout. Assumes nothing.
-use Prim.Native.Nat.{ℕ, zero, suc, _+_, _<_, _≤_}
+use Prim.Native.Nat.{ℕ, zero, suc, _+_, _-_, _<_, _≤_}
 use mathlib.Core.Path.{_≡_, refl}
 use mathlib.Core.List.{List}
 use mathlib.Core.Bool.{Bool, true, false, cond, _&&_}
@@ -9,7 +9,7 @@ use lib.ListN.{length, getD, List·getD-eq-default}
 use lib.Dec.{eqb}
 use borrow.Author.Tests.{eqb-true, leb-true}
 use Rattle.engine.specs.Little.{little}
-use Rattle.engine.specs.Body.{Layout, codeOk, timeOk, zeroBytes, trackCount, sensorCount, observationCount, associationCount, size, time, headOk, tracksOk, associationsOk, observationsOk, indicesOk, refusal, rows}
+use Rattle.engine.specs.Body.{Layout, codeOk, presentOk, associationOk, timeOk, zeroBytes, trackCount, sensorCount, observationCount, associationCount, size, time, headOk, tracksOk, associationsOk, observationsOk, indicesOk, refusal, rows}
 use Rattle.engine.proofs.Every.{both}
 
 -- what the header's test tells
@@ -46,6 +46,21 @@ sized k s h =
       time = h8 .0;
       exact = eqb-true _ _ (h8 .1);
     }
+
+-- what the test of an association tells
+pub record Associates (w : ℕ) (s : List ℕ) (o : ℕ) : Type 0 where
+  pub id : presentOk (getD s (o + w) 0) (little 8 s (o + 8)) ≡ true
+  pub outcome : codeOk (getD s (o + (w + 1)) 0) ≡ true
+  pub cost : presentOk (getD s (o + (w + 2)) 0) (little 8 s (o + 16)) ≡ true
+  pub zeros : zeroBytes (5 - w) s (o + (w + 3)) ≡ true
+
+pub associates : (w : ℕ) (s : List ℕ) (o : ℕ) → associationOk w s o ≡ true → Associates w s o
+unfolding associationOk
+associates w s o h =
+    let h1 = both _ _ h in
+    let h2 = both _ _ (h1 .1) in
+    let h3 = both _ _ (h2 .1) in
+    record { id = h1 .0; outcome = h2 .0; cost = h3 .0; zeros = h3 .1 }
 
 pub record Passed (k : Layout) (s : List ℕ) : Type 0 where
   pub head : headOk k s ≡ true

@@ -1,6 +1,6 @@
 -- `recording::fills_rest` meets its contract. Assumes nothing.
 use Prim.Native.Nat.{ℕ, _+_, _*_, _-_, _≤_}
-use mathlib.Core.Path.{_≡_, sym, ap, _∙_}
+use mathlib.Core.Path.{_≡_, sym, ap}
 use mathlib.Core.Bool.{true}
 use native.Mathlib.Omega.{arith}
 use lib.Dec.{eqb}
@@ -38,7 +38,7 @@ offset-of-requires c κs = search needs
 
 returns : tie.Need-returns Inv-loop μ-loop
 unfolding fills
-returns c = let f = all-less (λ k. eqb (offset (c .before .before .before .before .before .before .args .s .now) k) (start (c .before .before .before .before .before .before .args .s .now) k)) (c .before .before .before .loop .i) (count (c .before .before .before .before .before .before .args .s .now)) (omega arith) (ne-eqb _ _ (λ e. c .if1 .taken (c .before .offset-of .ensures ∙ e ∙ sym (c .before .before .before .loop .inv .2)))) in rw f
+returns c = let f = all-less (λ k. eqb (offset (c .before .before .before .before .before .before .args .s .now) k) (start (c .before .before .before .before .before .before .args .s .now) k)) (c .before .before .before .loop .i) (count (c .before .before .before .before .before .before .args .s .now)) (omega arith) (ne-eqb _ _ (λ (e : offset (c .before .before .before .before .before .before .args .s .now) (c .before .before .before .loop .i) ≡ start (c .before .before .before .before .before .before .args .s .now) (c .before .before .before .loop .i)). omega (arith, c .before .offset-of .ensures, c .before .before .before .loop .inv .2))) in rw f
 
 size-of-requires : tie.Need-size-of-requires Inv-loop μ-loop
 size-of-requires c κs = search needs
@@ -53,7 +53,7 @@ loop-less : tie.Need-loop-less Inv-loop μ-loop
 loop-less c = search needs
 
 loop-again : tie.Need-loop-again Inv-loop μ-loop
-loop-again c = (omega arith, c .before .before .before .before .loop .inv .1, rw (c .size-of .ensures, c .before .before .before .before .loop .inv .2) (sym (start-more _ _)), omega (arith, c .size-of .ensures, little-below 4 (c .before .before .before .before .before .before .before .args .s .now) (96 + 8 * c .before .before .before .before .loop .i) (c .before .before .before .before .before .before .shared-slice-known .given)), all-more _ (c .before .before .before .before .loop .i) (c .before .before .before .before .loop .inv .4) (eq-eqb _ _ (sym (c .before .before .offset-of .ensures) ∙ c .before .if1 .left ∙ c .before .before .before .before .loop .inv .2)))
+loop-again c = (omega arith, c .before .before .before .before .loop .inv .1, rw (c .size-of .ensures, c .before .before .before .before .loop .inv .2) (sym (start-more _ _)), omega (arith, c .size-of .ensures, little-below 4 (c .before .before .before .before .before .before .before .args .s .now) (96 + 8 * c .before .before .before .before .loop .i) (c .before .before .before .before .before .before .shared-slice-known .given)), all-more _ (c .before .before .before .before .loop .i) (c .before .before .before .before .loop .inv .4) (eq-eqb (offset (c .before .before .before .before .before .before .before .args .s .now) (c .before .before .before .before .loop .i)) (start (c .before .before .before .before .before .before .before .args .s .now) (c .before .before .before .before .loop .i)) (omega (arith, c .before .before .offset-of .ensures, c .before .before .before .before .loop .inv .2))))
 
 returns-2 : tie.Need-returns-2 Inv-loop μ-loop
 unfolding fills

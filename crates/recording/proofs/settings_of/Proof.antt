@@ -1,4 +1,10 @@
 -- `recording::settings_of` meets its contract. Assumes nothing.
+use Prim.Native.Nat.{ℕ}
+use mathlib.Core.Path.{_≡_}
+use mir.Syntax.{w64}
+use mir.Val.{toZ, ofZ}
+use Rattle.scalar.specs.Scalar.{signed}
+use Rattle.engine.specs.Little.{little}
 use Rattle.recording.specs.Recording.{settings}
 use Rattle.engine.proofs.Bytes.{signed-passed}
 use borrow.Author.Needs.{needs}
@@ -40,7 +46,7 @@ u64-at-requires-2 c κs = search needs
 
 returns : tie.Need-returns
 unfolding settings
-returns c = rw (c .before .before .before .before .before .before .before .before .before .before .u64-at .ensures, c .before .before .before .before .before .before .before .before .before .f64-at .ensures, c .before .before .before .before .before .before .before .before .f64-at2 .ensures, c .before .before .before .before .before .before .before .f64-at3 .ensures, c .before .before .before .before .before .before .f64-at4 .ensures, c .before .before .before .before .before .f64-at5 .ensures, c .before .before .before .before .f64-at6 .ensures, c .before .before .before .f64-at7 .ensures, c .before .before .i64-at .ensures, signed-passed (c .before .before .before .before .before .before .before .before .before .before .before .before .args .s .now) 64 (c .before .before .before .before .before .before .before .before .before .before .before .shared-slice-known .given), c .before .i64-at2 .ensures, signed-passed (c .before .before .before .before .before .before .before .before .before .before .before .before .args .s .now) 72 (c .before .before .before .before .before .before .before .before .before .before .before .shared-slice-known .given), c .u64-at2 .ensures)
+returns c = let p : (o : ℕ) → toZ w64 (ofZ w64 (signed (little 8 (c .before .before .before .before .before .before .before .before .before .before .before .before .args .s .now) o))) ≡ signed (little 8 (c .before .before .before .before .before .before .before .before .before .before .before .before .args .s .now) o) = λ o. signed-passed (c .before .before .before .before .before .before .before .before .before .before .before .before .args .s .now) o (c .before .before .before .before .before .before .before .before .before .before .before .shared-slice-known .given) in rw (c .before .before .before .before .before .before .before .before .before .before .u64-at .ensures, c .before .before .before .before .before .before .before .before .before .f64-at .ensures, c .before .before .before .before .before .before .before .before .f64-at2 .ensures, c .before .before .before .before .before .before .before .f64-at3 .ensures, c .before .before .before .before .before .before .f64-at4 .ensures, c .before .before .before .before .before .f64-at5 .ensures, c .before .before .before .before .f64-at6 .ensures, c .before .before .before .f64-at7 .ensures, c .before .before .i64-at .ensures, p, c .before .i64-at2 .ensures, p, c .u64-at2 .ensures)
 
 pub settings-of-spec : {M : Type 1} → statement M
 settings-of-spec =

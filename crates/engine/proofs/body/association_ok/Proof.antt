@@ -1,4 +1,11 @@
 -- `engine::body::association_ok` meets its contract. Assumes nothing.
+use Prim.Native.Nat.{_+_}
+use mathlib.Core.Path.{_≡_}
+use Rattle.engine.specs.Little.{little}
+use mathlib.Core.Path.{sym, _∙_}
+use mathlib.Core.Bool.{true≢false}
+use Rattle.engine.proofs.Every.{never}
+use Rattle.engine.proofs.Passing.{associates}
 use mathlib.Core.Path.{_∙_}
 use borrow.Author.Tests.{eq-eqb, ne-eqb}
 use Rattle.engine.specs.Body.{associationOk}
@@ -23,8 +30,7 @@ present-refusal-requires : tie.Need-present-refusal-requires
 present-refusal-requires c κs = search needs
 
 returns : tie.Need-returns
-unfolding associationOk
-returns c = rw (present-tested _ (c .before .present-refusal .ensures) (c .before .before .u64-at .ensures) ∙ ne-eqb _ 0 (c .if1 .taken))
+returns c = never _ (λ h. true≢false (sym (associates 1 (c .before .before .before .before .before .args .s .now) (c .before .before .before .before .before .args .o) h .id) ∙ present-tested _ (c .before .present-refusal .ensures) (c .before .before .u64-at .ensures) ∙ ne-eqb _ 0 (c .if1 .taken)))
 
 add-code-refusal : tie.Need-add-code-refusal
 add-code-refusal c = search needs
@@ -36,8 +42,7 @@ code-refusal-requires : tie.Need-code-refusal-requires
 code-refusal-requires c κs = search needs
 
 returns-2 : tie.Need-returns-2
-unfolding associationOk
-returns-2 c = rw (present-tested _ (c .before .before .before .before .present-refusal .ensures) (c .before .before .before .before .before .u64-at .ensures) ∙ eq-eqb _ 0 (c .before .before .before .if1 .left), code-tested _ (c .before .code-refusal .ensures) ∙ ne-eqb _ 0 (c .if2 .taken))
+returns-2 c = never _ (λ h. true≢false (sym (associates 1 (c .before .before .before .before .before .before .before .before .args .s .now) (c .before .before .before .before .before .before .before .before .args .o) h .outcome) ∙ code-tested _ (c .before .code-refusal .ensures) ∙ ne-eqb _ 0 (c .if2 .taken)))
 
 add-present-refusal-2 : tie.Need-add-present-refusal-2
 add-present-refusal-2 c = search needs
@@ -55,8 +60,7 @@ present-refusal-requires-2 : tie.Need-present-refusal-requires-2
 present-refusal-requires-2 c κs = search needs
 
 returns-3 : tie.Need-returns-3
-unfolding associationOk
-returns-3 c = rw (present-tested _ (c .before .before .before .before .before .before .before .before .present-refusal .ensures) (c .before .before .before .before .before .before .before .before .before .u64-at .ensures) ∙ eq-eqb _ 0 (c .before .before .before .before .before .before .before .if1 .left), code-tested _ (c .before .before .before .before .before .code-refusal .ensures) ∙ eq-eqb _ 0 (c .before .before .before .before .if2 .left), present-tested _ (c .before .present-refusal2 .ensures) (c .before .before .u64-at2 .ensures) ∙ ne-eqb _ 0 (c .if3 .taken))
+returns-3 c = let e : c .before .before .u64-at2 .result ≡ little 8 (c .before .before .before .before .before .before .before .before .before .before .before .before .args .s .now) (c .before .before .before .before .before .before .before .before .before .before .before .before .args .o + 16) = c .before .before .u64-at2 .ensures in never _ (λ h. true≢false (sym (associates 1 (c .before .before .before .before .before .before .before .before .before .before .before .before .args .s .now) (c .before .before .before .before .before .before .before .before .before .before .before .before .args .o) h .cost) ∙ present-tested _ (c .before .present-refusal2 .ensures) e ∙ ne-eqb _ 0 (c .if3 .taken)))
 
 add-u32-at : tie.Need-add-u32-at
 add-u32-at c = search needs

@@ -1,4 +1,6 @@
 -- `engine::body::head_ok` meets its contract. Assumes nothing.
+use lib.ListN.{length}
+use Rattle.engine.specs.Body.{narrow, trackCount, observationCount, associationCount}
 use mathlib.Core.Path.{sym, _∙_}
 use mathlib.Core.Bool.{true≢false}
 use native.Mathlib.Omega.{arith}
@@ -74,11 +76,11 @@ size-of-requires c κs = search needs
 returns-9 : tie.Need-returns-9
 unfolding headOk
 returns-9 c = rw (
-  le-leb _ _ (c .before .before .before .before .before .before .before .before .before .before .before .before .before .before .before .before .before .before .if1 .left),
+  le-leb 16 (length (c .before .before .before .before .before .before .before .before .before .before .before .before .before .before .before .before .before .before .before .before .args .s .now)) (omega arith),
   code-tested _ (c .before .before .before .before .before .before .before .before .before .before .before .before .before .before .before .before .code-refusal .ensures) ∙ eq-eqb _ 0 (c .before .before .before .before .before .before .before .before .before .before .before .before .before .before .before .if2 .left),
-  le-leb _ _ (rw (c .before .before .before .before .before .before .before .before .before .before .before .before .before .before .track-count .ensures) at (c .before .before .before .before .before .before .before .before .before .before .before .before .before .if3 .left)),
-  le-leb _ _ (rw (c .before .before .before .before .before .before .before .before .before .before .before .before .observation-count .ensures) at (c .before .before .before .before .before .before .before .before .before .before .before .if4 .left)),
-  le-leb _ _ (rw (c .before .before .before .before .before .before .before .before .before .before .association-count .ensures) at (c .before .before .before .before .before .before .before .before .before .if5 .left)),
+  le-leb (trackCount narrow (c .before .before .before .before .before .before .before .before .before .before .before .before .before .before .before .before .before .before .before .before .args .s .now)) 32 (omega (arith, c .before .before .before .before .before .before .before .before .before .before .before .before .before .before .track-count .ensures)),
+  le-leb (observationCount narrow (c .before .before .before .before .before .before .before .before .before .before .before .before .before .before .before .before .before .before .before .before .args .s .now)) 32 (omega (arith, c .before .before .before .before .before .before .before .before .before .before .before .before .observation-count .ensures)),
+  le-leb (associationCount narrow (c .before .before .before .before .before .before .before .before .before .before .before .before .before .before .before .before .before .before .before .before .args .s .now)) 32 (omega (arith, c .before .before .before .before .before .before .before .before .before .before .association-count .ensures)),
   le-leb _ _ (rw (c .before .before .before .before .before .before .before .before .sensors-most .ensures, c .before .before .before .before .before .before .before .before .before .before .before .before .before .before .track-count .ensures, c .before .before .before .before .before .before .before .sensor-count .ensures) at (c .before .before .before .before .before .before .if6 .left)),
   rw (c .before .before .before .before .before .u24-at .ensures) at (eq-eqb _ 0 (c .before .before .before .before .if7 .left)),
   sym (rw (c .before .before .before .i64-at .ensures, signed-passed (c .before .before .before .before .before .before .before .before .before .before .before .before .before .before .before .before .before .before .before .before .args .s .now) 8 (c .before .before .before .before .before .before .before .before .before .before .before .before .before .before .before .before .before .before .before .shared-slice-known .given)) at (c .before .before .time-ok .ensures)) ∙ not-false _ (c .before .if8 .left),

@@ -32,7 +32,7 @@ cast-x : tie.Need-cast-x Inv-loop μ-loop
 cast-x c = record { fits = omega (arith, c .shared-slice-known .given (c .before .before .before .args .from + 24 * c .before .before .loop .j) .fits) }
 
 returns : tie.Need-returns Inv-loop μ-loop
-returns c = sym (all-less _ (c .before .before .before .loop .j) (c .before .before .before .before .args .m) (omega arith) (index-past 1 _ _ 32 (c .before .before .before .loop .j) (c .before .before .before .loop .inv .2) (little-one _ _) _ (c .if1 .taken)))
+returns c = sym (all-less _ (c .before .before .before .loop .j) (c .before .before .before .before .args .m) (omega arith) (index-past 1 _ _ 32 (c .before .before .before .loop .j) (c .before .before .before .loop .inv .2) (little-one _ _) _ (omega arith)))
 
 array-read-if2 : tie.Need-array-read-if2 Inv-loop μ-loop
 array-read-if2 c = omega arith

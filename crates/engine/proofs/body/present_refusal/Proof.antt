@@ -1,4 +1,6 @@
 -- `engine::body::present_refusal` meets its contract. Assumes nothing.
+use mathlib.Core.Path.{_≡_}
+use native.Mathlib.Omega.{arith}
 use borrow.Author.Tests.{eq-eqb, ne-eqb}
 use Rattle.engine.specs.Body.{presentOk}
 use Rattle.engine.proofs.body.present_refusal.Statement.{statement}
@@ -14,11 +16,11 @@ returns-2 c = simp (eq-eqb _ _ (c .before .match .keys1), ne-eqb _ _ (c .if1 .le
 
 returns-3 : tie.Need-returns-3
 unfolding presentOk
-returns-3 c = rw (c .match .keys2)
+returns-3 c = let e : c .before .args .b ≡ 1 = omega arith in rw e
 
 returns-4 : tie.Need-returns-4
 unfolding presentOk
-returns-4 c = simp (ne-eqb _ _ (c .match .rest .0 .1), ne-eqb _ _ (c .match .rest .1))
+returns-4 c = simp (ne-eqb (c .before .args .b) 0 (λ (z : c .before .args .b ≡ 0). omega arith), ne-eqb (c .before .args .b) 1 (λ (z : c .before .args .b ≡ 1). omega arith))
 
 pub present-refusal-spec : {M : Type 1} → statement M
 present-refusal-spec = tie.close (tie.spec returns returns-2 returns-3 returns-4)

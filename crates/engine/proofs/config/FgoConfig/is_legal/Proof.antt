@@ -58,8 +58,8 @@ is-finite-requires-7 c κs = search needs
 returns-9 : tie.Need-returns-9
 unfolding legal
 returns-9 c = rw (
-  le-leb _ _ (c .before .before .before .before .before .before .before .before .before .before .before .before .before .before .before .if1 .left),
-  le-leb _ _ (c .before .before .before .before .before .before .before .before .before .before .before .before .before .if2 .left),
+  le-leb (c .before .before .before .before .before .before .before .before .before .before .before .before .before .before .before .before .before .args .self .«lag_frames») 16 (omega arith),
+  le-leb (c .before .before .before .before .before .before .before .before .before .before .before .before .before .before .before .before .before .args .self .«max_passes») 1000 (omega arith),
   sym (c .before .before .before .before .before .before .before .before .before .before .before .before .is-finite .ensures) ∙ not-false _ (c .before .before .before .before .before .before .before .before .before .before .before .if3 .left),
   sym (c .before .before .before .before .before .before .before .before .before .before .is-finite2 .ensures) ∙ not-false _ (c .before .before .before .before .before .before .before .before .before .if4 .left),
   sym (c .before .before .before .before .before .before .before .before .is-finite3 .ensures) ∙ not-false _ (c .before .before .before .before .before .before .before .if5 .left),
