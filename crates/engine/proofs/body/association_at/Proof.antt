@@ -22,10 +22,10 @@ add-u64-at : tie.Need-add-u64-at
 add-u64-at c = search needs
 
 u64-at-requires : tie.Need-u64-at-requires
-u64-at-requires c κs = search needs
+u64-at-requires c κs = omega arith
 
 associated-of-requires : tie.Need-associated-of-requires
-associated-of-requires c κs = search needs
+associated-of-requires c κs = tt
 
 add-outcome-of : tie.Need-add-outcome-of
 add-outcome-of c = search needs
@@ -34,7 +34,7 @@ shared-slice-read-outcome-of : tie.Need-shared-slice-read-outcome-of
 shared-slice-read-outcome-of c = search needs
 
 outcome-of-requires : tie.Need-outcome-of-requires
-outcome-of-requires c κs = search needs
+outcome-of-requires c κs = tt
 
 add-cost-of : tie.Need-add-cost-of
 add-cost-of c = search needs
@@ -46,10 +46,10 @@ add-f64-at : tie.Need-add-f64-at
 add-f64-at c = search needs
 
 f64-at-requires : tie.Need-f64-at-requires
-f64-at-requires c κs = search needs
+f64-at-requires c κs = omega arith
 
 cost-of-requires : tie.Need-cost-of-requires
-cost-of-requires c κs = search needs
+cost-of-requires c κs = tt
 
 returns : tie.Need-returns
 unfolding associationAt

@@ -6,10 +6,10 @@ use Rattle.engine.proofs.body.associations_from.Statement.{statement}
 use Rattle.engine.proofs.body.associations_from.Tie as tie
 
 observations-from-requires : tie.Need-observations-from-requires
-observations-from-requires c κs = search needs
+observations-from-requires c κs = tt
 
 observation-count-requires : tie.Need-observation-count-requires
-observation-count-requires c κs = search needs
+observation-count-requires c κs = tt
 
 mul-result : tie.Need-mul-result
 mul-result c = record { fits = omega (arith, c .observation-count .ensures, little-below 1 (c .before .before .before .args .s .now) 2 (c .before .before .shared-slice-known .given)) }

@@ -23,55 +23,55 @@ shared-slice-read-code-refusal : tie.Need-shared-slice-read-code-refusal
 shared-slice-read-code-refusal c = search needs
 
 code-refusal-requires : tie.Need-code-refusal-requires
-code-refusal-requires c κs = search needs
+code-refusal-requires c κs = tt
 
 returns-2 : tie.Need-returns-2
 returns-2 c = never _ (λ h. true≢false (sym (sized narrow (c .before .before .before .before .before .args .s .now) h .mode) ∙ code-tested _ (c .before .code-refusal .ensures) ∙ ne-eqb _ 0 (c .if2 .taken)))
 
 track-count-requires : tie.Need-track-count-requires
-track-count-requires c κs = search needs
+track-count-requires c κs = tt
 
 returns-3 : tie.Need-returns-3
 returns-3 c = never _ (λ h. omega (arith, sized narrow (c .before .before .before .before .before .before .before .args .s .now) h .tracks, c .before .track-count .ensures))
 
 observation-count-requires : tie.Need-observation-count-requires
-observation-count-requires c κs = search needs
+observation-count-requires c κs = tt
 
 returns-4 : tie.Need-returns-4
 returns-4 c = never _ (λ h. omega (arith, sized narrow (c .before .before .before .before .before .before .before .before .before .args .s .now) h .observations, c .before .observation-count .ensures))
 
 association-count-requires : tie.Need-association-count-requires
-association-count-requires c κs = search needs
+association-count-requires c κs = tt
 
 returns-5 : tie.Need-returns-5
 returns-5 c = never _ (λ h. omega (arith, sized narrow (c .before .before .before .before .before .before .before .before .before .before .before .args .s .now) h .associations, c .before .association-count .ensures))
 
 sensors-most-requires : tie.Need-sensors-most-requires
-sensors-most-requires c κs = search needs
+sensors-most-requires c κs = tt
 
 sensor-count-requires : tie.Need-sensor-count-requires
-sensor-count-requires c κs = search needs
+sensor-count-requires c κs = tt
 
 returns-6 : tie.Need-returns-6
 returns-6 c = never _ (λ h. omega (arith, sized narrow (c .before .before .before .before .before .before .before .before .before .before .before .before .before .before .args .s .now) h .sensors, c .before .sensor-count .ensures, rw (c .before .before .before .before .before .before .before .before .track-count .ensures) at (c .before .before .sensors-most .ensures)))
 
 u24-at-requires : tie.Need-u24-at-requires
-u24-at-requires c κs = search needs
+u24-at-requires c κs = omega arith
 
 returns-7 : tie.Need-returns-7
 returns-7 c = never _ (λ h. c .if7 .taken (c .before .u24-at .ensures ∙ sized narrow (c .before .before .before .before .before .before .before .before .before .before .before .before .before .before .before .before .args .s .now) h .zeros))
 
 i64-at-requires : tie.Need-i64-at-requires
-i64-at-requires c κs = search needs
+i64-at-requires c κs = omega arith
 
 time-ok-requires : tie.Need-time-ok-requires
-time-ok-requires c κs = search needs
+time-ok-requires c κs = tt
 
 returns-8 : tie.Need-returns-8
 returns-8 c = never _ (λ h. true≢false (sym (sized narrow (c .before .before .before .before .before .before .before .before .before .before .before .before .before .before .before .before .before .before .before .args .s .now) h .time) ∙ sym (rw (c .before .before .i64-at .ensures, signed-passed (c .before .before .before .before .before .before .before .before .before .before .before .before .before .before .before .before .before .before .before .args .s .now) 8 (c .before .before .before .before .before .before .before .before .before .before .before .before .before .before .before .before .before .before .shared-slice-known .given)) at (c .before .time-ok .ensures)) ∙ not-true _ (c .if8 .taken)))
 
 size-of-requires : tie.Need-size-of-requires
-size-of-requires c κs = search needs
+size-of-requires c κs = tt
 
 returns-9 : tie.Need-returns-9
 unfolding headOk

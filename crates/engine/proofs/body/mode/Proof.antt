@@ -16,7 +16,7 @@ shared-slice-read-mode-of : tie.Need-shared-slice-read-mode-of
 shared-slice-read-mode-of c = search needs
 
 mode-of-requires : tie.Need-mode-of-requires
-mode-of-requires c κs = search needs
+mode-of-requires c κs = tt
 
 returns-2 : tie.Need-returns-2
 unfolding frameOf

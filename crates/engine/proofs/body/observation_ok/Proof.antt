@@ -3,15 +3,16 @@ use mathlib.Core.Path.{sym, ap, _∙_}
 use borrow.Author.Tests.{not-true, not-false}
 use Rattle.scalar.specs.Scalar.{finite}
 use Rattle.engine.specs.Body.{observationOk}
+use native.Mathlib.Omega.{arith}
 use borrow.Author.Needs.{needs}
 use Rattle.engine.proofs.body.observation_ok.Statement.{statement}
 use Rattle.engine.proofs.body.observation_ok.Tie as tie
 
 f64-at-requires : tie.Need-f64-at-requires
-f64-at-requires c κs = search needs
+f64-at-requires c κs = omega arith
 
 is-finite-requires : tie.Need-is-finite-requires
-is-finite-requires c κs = search needs
+is-finite-requires c κs = tt
 
 returns : tie.Need-returns
 unfolding observationOk
@@ -21,10 +22,10 @@ add-f64-at : tie.Need-add-f64-at
 add-f64-at c = search needs
 
 f64-at-requires-2 : tie.Need-f64-at-requires-2
-f64-at-requires-2 c κs = search needs
+f64-at-requires-2 c κs = omega arith
 
 is-finite-requires-2 : tie.Need-is-finite-requires-2
-is-finite-requires-2 c κs = search needs
+is-finite-requires-2 c κs = tt
 
 returns-2 : tie.Need-returns-2
 unfolding observationOk
@@ -34,10 +35,10 @@ add-f64-at-2 : tie.Need-add-f64-at-2
 add-f64-at-2 c = search needs
 
 f64-at-requires-3 : tie.Need-f64-at-requires-3
-f64-at-requires-3 c κs = search needs
+f64-at-requires-3 c κs = omega arith
 
 is-finite-requires-3 : tie.Need-is-finite-requires-3
-is-finite-requires-3 c κs = search needs
+is-finite-requires-3 c κs = tt
 
 returns-3 : tie.Need-returns-3
 unfolding observationOk

@@ -5,10 +5,10 @@ use Rattle.engine.proofs.body.observations_from.Statement.{statement}
 use Rattle.engine.proofs.body.observations_from.Tie as tie
 
 sensors-from-requires : tie.Need-sensors-from-requires
-sensors-from-requires c κs = search needs
+sensors-from-requires c κs = tt
 
 sensor-count-requires : tie.Need-sensor-count-requires
-sensor-count-requires c κs = search needs
+sensor-count-requires c κs = tt
 
 mul-result : tie.Need-mul-result
 mul-result c = record { fits = omega (arith, c .sensor-count .ensures, c .before .before .shared-slice-known .given 4 .fits) }

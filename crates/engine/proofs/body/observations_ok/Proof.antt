@@ -3,7 +3,6 @@ use Prim.Native.Nat.{_+_, _*_, _-_, _≤_}
 use mathlib.Core.Path.{_≡_, sym, _∙_}
 use mathlib.Core.Bool.{true}
 use native.Mathlib.Omega.{arith}
-use borrow.Author.Needs.{needs}
 use borrow.Author.Tests.{not-true, not-false}
 use Rattle.engine.specs.Body.{all, observationOk}
 use Rattle.engine.proofs.Every.{all-none, all-more, all-less}
@@ -26,7 +25,7 @@ add-observation-ok : tie.Need-add-observation-ok Inv-loop μ-loop
 add-observation-ok c = omega arith
 
 observation-ok-requires : tie.Need-observation-ok-requires Inv-loop μ-loop
-observation-ok-requires c κs = search needs
+observation-ok-requires c κs = omega arith
 
 returns : tie.Need-returns Inv-loop μ-loop
 returns c = sym (all-less _ (c .before .before .before .loop .i) (c .before .before .before .before .before .args .n) (omega arith) (sym (c .before .observation-ok .ensures) ∙ not-true _ (c .if1 .taken)))

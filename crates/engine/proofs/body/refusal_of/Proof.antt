@@ -4,19 +4,18 @@ use native.Mathlib.Omega.{arith}
 use borrow.Author.Tests.{not-true, not-false}
 use Rattle.engine.specs.Body.{narrow, refusal, tracksOk, associationsOk, observationsOk, indicesOk}
 use Rattle.engine.proofs.Passing.{sized}
-use borrow.Author.Needs.{needs}
 use Rattle.engine.proofs.body.refusal_of.Statement.{statement}
 use Rattle.engine.proofs.body.refusal_of.Tie as tie
 
 head-ok-requires : tie.Need-head-ok-requires
-head-ok-requires c κs = search needs
+head-ok-requires c κs = tt
 
 returns : tie.Need-returns
 unfolding refusal
 returns c = rw (sym (c .before .head-ok .ensures) ∙ not-true _ (c .if1 .taken))
 
 track-count-requires : tie.Need-track-count-requires
-track-count-requires c κs = search needs
+track-count-requires c κs = tt
 
 tracks-ok-requires : tie.Need-tracks-ok-requires
 tracks-ok-requires c κs = let z = sized narrow (c .before .before .before .before .args .s .now) (sym (c .before .before .head-ok .ensures) ∙ not-false _ (c .before .if1 .left)) in omega (arith, z .exact, c .track-count .ensures)
@@ -26,10 +25,10 @@ unfolding refusal tracksOk
 returns-2 c = rw (sym (c .before .before .before .before .head-ok .ensures) ∙ not-false _ (c .before .before .before .if1 .left), rw (c .before .before .track-count .ensures) at (sym (c .before .tracks-ok .ensures) ∙ not-true _ (c .if2 .taken)))
 
 associations-from-requires : tie.Need-associations-from-requires
-associations-from-requires c κs = search needs
+associations-from-requires c κs = tt
 
 association-count-requires : tie.Need-association-count-requires
-association-count-requires c κs = search needs
+association-count-requires c κs = tt
 
 associations-ok-requires : tie.Need-associations-ok-requires
 associations-ok-requires c κs = let z = sized narrow (c .before .before .before .before .before .before .before .before .args .s .now) (sym (c .before .before .before .before .before .before .head-ok .ensures) ∙ not-false _ (c .before .before .before .before .before .if1 .left)) in omega (arith, z .exact, c .before .associations-from .ensures, c .association-count .ensures)
@@ -39,10 +38,10 @@ unfolding refusal tracksOk associationsOk
 returns-3 c = rw (sym (c .before .before .before .before .before .before .before .before .head-ok .ensures) ∙ not-false _ (c .before .before .before .before .before .before .before .if1 .left), rw (c .before .before .before .before .before .before .track-count .ensures) at (sym (c .before .before .before .before .before .tracks-ok .ensures) ∙ not-false _ (c .before .before .before .before .if2 .left)), rw (c .before .before .before .associations-from .ensures, c .before .before .association-count .ensures) at (sym (c .before .associations-ok .ensures) ∙ not-true _ (c .if3 .taken)))
 
 observation-count-requires : tie.Need-observation-count-requires
-observation-count-requires c κs = search needs
+observation-count-requires c κs = tt
 
 observations-from-requires : tie.Need-observations-from-requires
-observations-from-requires c κs = search needs
+observations-from-requires c κs = tt
 
 observations-ok-requires : tie.Need-observations-ok-requires
 observations-ok-requires c κs = let z = sized narrow (c .before .before .before .before .before .before .before .before .before .before .before .before .args .s .now) (sym (c .before .before .before .before .before .before .before .before .before .before .head-ok .ensures) ∙ not-false _ (c .before .before .before .before .before .before .before .before .before .if1 .left)) in omega (arith, z .exact, c .observations-from .ensures, c .before .observation-count .ensures)

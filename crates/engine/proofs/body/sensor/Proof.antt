@@ -3,19 +3,18 @@ use mathlib.Core.Path.{sym, _∙_}
 use native.Mathlib.Omega.{arith}
 use Rattle.engine.specs.Body.{narrow, frameOf}
 use Rattle.engine.proofs.Passing.{sized-body, row-at, row-past}
-use borrow.Author.Needs.{needs}
 use Rattle.engine.proofs.body.sensor.Statement.{statement}
 use Rattle.engine.proofs.body.sensor.Tie as tie
 
 sensor-count-requires : tie.Need-sensor-count-requires
-sensor-count-requires c κs = search needs
+sensor-count-requires c κs = tt
 
 returns : tie.Need-returns
 unfolding frameOf
 returns c = λ e. sym (row-past _ _ _ _ (rw (c .before .sensor-count .ensures) at (c .if1 .taken)))
 
 sensors-from-requires : tie.Need-sensors-from-requires
-sensors-from-requires c κs = search needs
+sensors-from-requires c κs = tt
 
 mul-o : tie.Need-mul-o
 mul-o c = record { fits = omega (arith, c .before .before .sensor-count .ensures, c .before .before .before .shared-slice-known .given 4 .fits) }
@@ -30,7 +29,7 @@ returns-2 : tie.Need-returns-2
 returns-2 c = λ e. absurd (omega (arith, sized-body narrow (c .before .before .before .before .before .args .s .now) e .exact, c .before .before .before .sensor-count .ensures, c .before .sensors-from .ensures))
 
 u32-at-requires : tie.Need-u32-at-requires
-u32-at-requires c κs = search needs
+u32-at-requires c κs = omega arith
 
 returns-3 : tie.Need-returns-3
 unfolding frameOf

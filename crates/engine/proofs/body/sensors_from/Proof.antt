@@ -5,7 +5,7 @@ use Rattle.engine.proofs.body.sensors_from.Statement.{statement}
 use Rattle.engine.proofs.body.sensors_from.Tie as tie
 
 track-count-requires : tie.Need-track-count-requires
-track-count-requires c κs = search needs
+track-count-requires c κs = tt
 
 mul-result : tie.Need-mul-result
 mul-result c = record { fits = omega (arith, c .track-count .ensures, c .before .shared-slice-known .given 1 .fits) }

@@ -6,10 +6,10 @@ use Rattle.engine.proofs.body.size_of.Statement.{statement}
 use Rattle.engine.proofs.body.size_of.Tie as tie
 
 associations-from-requires : tie.Need-associations-from-requires
-associations-from-requires c κs = search needs
+associations-from-requires c κs = tt
 
 association-count-requires : tie.Need-association-count-requires
-association-count-requires c κs = search needs
+association-count-requires c κs = tt
 
 mul-result : tie.Need-mul-result
 mul-result c = record { fits = omega (arith, c .association-count .ensures, little-below 1 (c .before .before .before .args .s .now) 3 (c .before .before .shared-slice-known .given)) }

@@ -3,7 +3,6 @@ use native.Mathlib.Omega.{arith}
 use Rattle.engine.specs.Body.{narrow, frameOf}
 use Rattle.engine.proofs.Bytes.{signed-passed}
 use Rattle.engine.proofs.Passing.{sized-body}
-use borrow.Author.Needs.{needs}
 use Rattle.engine.proofs.body.time_of.Statement.{statement}
 use Rattle.engine.proofs.body.time_of.Tie as tie
 
@@ -11,7 +10,7 @@ returns : tie.Need-returns
 returns c = λ e. absurd (omega (arith, sized-body narrow (c .before .before .args .s .now) e .long))
 
 i64-at-requires : tie.Need-i64-at-requires
-i64-at-requires c κs = search needs
+i64-at-requires c κs = omega arith
 
 returns-2 : tie.Need-returns-2
 unfolding frameOf

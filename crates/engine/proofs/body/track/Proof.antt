@@ -3,15 +3,14 @@ use mathlib.Core.Path.{sym, _∙_}
 use native.Mathlib.Omega.{arith}
 use Rattle.engine.specs.Body.{narrow, frameOf}
 use Rattle.engine.proofs.Passing.{sized-body, row-at, row-past}
-use borrow.Author.Needs.{needs}
 use Rattle.engine.proofs.body.track.Statement.{statement}
 use Rattle.engine.proofs.body.track.Tie as tie
 
 track-count-requires : tie.Need-track-count-requires
-track-count-requires c κs = search needs
+track-count-requires c κs = tt
 
 no-track-requires : tie.Need-no-track-requires
-no-track-requires c κs = search needs
+no-track-requires c κs = tt
 
 returns : tie.Need-returns
 unfolding frameOf
@@ -27,13 +26,13 @@ add-if2 : tie.Need-add-if2
 add-if2 c = record { fits = omega (arith, c .before .track-count .ensures, c .before .before .shared-slice-known .given 1 .fits) }
 
 no-track-requires-2 : tie.Need-no-track-requires-2
-no-track-requires-2 c κs = search needs
+no-track-requires-2 c κs = tt
 
 returns-2 : tie.Need-returns-2
 returns-2 c = λ e. absurd (omega (arith, sized-body narrow (c .before .before .before .before .before .args .s .now) e .exact, c .before .before .before .track-count .ensures))
 
 track-at-requires : tie.Need-track-at-requires
-track-at-requires c κs = search needs
+track-at-requires c κs = omega arith
 
 returns-3 : tie.Need-returns-3
 unfolding frameOf

@@ -8,7 +8,7 @@ use Rattle.engine.proofs.body.track_at.Statement.{statement}
 use Rattle.engine.proofs.body.track_at.Tie as tie
 
 u64-at-requires : tie.Need-u64-at-requires
-u64-at-requires c κs = search needs
+u64-at-requires c κs = omega arith
 
 add-class-of : tie.Need-add-class-of
 add-class-of c = search needs
@@ -20,13 +20,13 @@ add-u32-at : tie.Need-add-u32-at
 add-u32-at c = search needs
 
 u32-at-requires : tie.Need-u32-at-requires
-u32-at-requires c κs = search needs
+u32-at-requires c κs = omega arith
 
 cast-class-of : tie.Need-cast-class-of
 cast-class-of c = record { fits = omega (arith, c .u32-at .ensures, little-below 4 (c .before .before .before .before .args .s .now) (c .before .before .before .before .args .o + 8) (c .before .before .before .shared-slice-known .given)) }
 
 class-of-requires : tie.Need-class-of-requires
-class-of-requires c κs = search needs
+class-of-requires c κs = tt
 
 returns : tie.Need-returns
 unfolding trackAt

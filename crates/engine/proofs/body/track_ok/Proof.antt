@@ -3,6 +3,7 @@ use mathlib.Core.Path.{_∙_}
 use borrow.Author.Tests.{eq-eqb, ne-eqb}
 use Rattle.engine.specs.Body.{trackOk}
 use Rattle.engine.proofs.Every.{present-tested}
+use native.Mathlib.Omega.{arith}
 use borrow.Author.Needs.{needs}
 use Rattle.engine.proofs.body.track_ok.Statement.{statement}
 use Rattle.engine.proofs.body.track_ok.Tie as tie
@@ -17,10 +18,10 @@ add-u32-at : tie.Need-add-u32-at
 add-u32-at c = search needs
 
 u32-at-requires : tie.Need-u32-at-requires
-u32-at-requires c κs = search needs
+u32-at-requires c κs = omega arith
 
 present-refusal-requires : tie.Need-present-refusal-requires
-present-refusal-requires c κs = search needs
+present-refusal-requires c κs = tt
 
 returns : tie.Need-returns
 unfolding trackOk
@@ -30,7 +31,7 @@ add-u24-at : tie.Need-add-u24-at
 add-u24-at c = search needs
 
 u24-at-requires : tie.Need-u24-at-requires
-u24-at-requires c κs = search needs
+u24-at-requires c κs = omega arith
 
 returns-2 : tie.Need-returns-2
 unfolding trackOk

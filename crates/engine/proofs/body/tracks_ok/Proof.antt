@@ -3,7 +3,6 @@ use Prim.Native.Nat.{_+_, _*_, _-_, _≤_}
 use mathlib.Core.Path.{_≡_, sym, _∙_}
 use mathlib.Core.Bool.{true}
 use native.Mathlib.Omega.{arith}
-use borrow.Author.Needs.{needs}
 use borrow.Author.Tests.{not-true, not-false}
 use Rattle.engine.specs.Body.{all, trackOk}
 use Rattle.engine.proofs.Every.{all-none, all-more, all-less}
@@ -26,7 +25,7 @@ add-track-ok : tie.Need-add-track-ok Inv-loop μ-loop
 add-track-ok c = omega arith
 
 track-ok-requires : tie.Need-track-ok-requires Inv-loop μ-loop
-track-ok-requires c κs = search needs
+track-ok-requires c κs = omega arith
 
 returns : tie.Need-returns Inv-loop μ-loop
 returns c = sym (all-less _ (c .before .before .before .loop .i) (c .before .before .before .before .before .args .n) (omega arith) (sym (c .before .track-ok .ensures) ∙ not-true _ (c .if1 .taken)))

@@ -8,13 +8,13 @@ use Rattle.engine.proofs.little.u16_at.Statement.{statement}
 use Rattle.engine.proofs.little.u16_at.Tie as tie
 
 u8-at-requires : tie.Need-u8-at-requires
-u8-at-requires c κs = search needs
+u8-at-requires c κs = omega arith
 
 add-u8-at : tie.Need-add-u8-at
 add-u8-at c = search needs
 
 u8-at-requires-2 : tie.Need-u8-at-requires-2
-u8-at-requires-2 c κs = search needs
+u8-at-requires-2 c κs = omega arith
 
 mul-result : tie.Need-mul-result
 mul-result c = record { fits = omega (arith, c .u8-at2 .ensures, little-below 1 (c .before .before .before .args .s .now) (c .before .before .before .args .o + 1) (c .before .before .shared-slice-known .given)) }

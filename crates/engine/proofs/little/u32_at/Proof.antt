@@ -8,13 +8,13 @@ use Rattle.engine.proofs.little.u32_at.Statement.{statement}
 use Rattle.engine.proofs.little.u32_at.Tie as tie
 
 u16-at-requires : tie.Need-u16-at-requires
-u16-at-requires c κs = search needs
+u16-at-requires c κs = omega arith
 
 add-u16-at : tie.Need-add-u16-at
 add-u16-at c = search needs
 
 u16-at-requires-2 : tie.Need-u16-at-requires-2
-u16-at-requires-2 c κs = search needs
+u16-at-requires-2 c κs = omega arith
 
 mul-result : tie.Need-mul-result
 mul-result c = record { fits = omega (arith, c .u16-at2 .ensures, little-below 2 (c .before .before .before .args .s .now) (c .before .before .before .args .o + 2) (c .before .before .shared-slice-known .given)) }

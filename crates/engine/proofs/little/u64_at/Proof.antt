@@ -8,13 +8,13 @@ use Rattle.engine.proofs.little.u64_at.Statement.{statement}
 use Rattle.engine.proofs.little.u64_at.Tie as tie
 
 u32-at-requires : tie.Need-u32-at-requires
-u32-at-requires c κs = search needs
+u32-at-requires c κs = omega arith
 
 add-u32-at : tie.Need-add-u32-at
 add-u32-at c = search needs
 
 u32-at-requires-2 : tie.Need-u32-at-requires-2
-u32-at-requires-2 c κs = search needs
+u32-at-requires-2 c κs = omega arith
 
 mul-result : tie.Need-mul-result
 mul-result c = record { fits = omega (arith, c .u32-at2 .ensures, little-below 4 (c .before .before .before .args .s .now) (c .before .before .before .args .o + 4) (c .before .before .shared-slice-known .given)) }

@@ -6,7 +6,6 @@ use Rattle.engine.proofs.Settings.{legal-tells}
 use mathlib.Core.Path.{sym, _∙_}
 use borrow.Author.Tests.{le-leb, not-true, not-false}
 use Rattle.engine.specs.Config.{legal}
-use borrow.Author.Needs.{needs}
 use Rattle.engine.proofs.config.FgoConfig.is_legal.Statement.{statement}
 use Rattle.engine.proofs.config.FgoConfig.is_legal.Tie as tie
 
@@ -17,43 +16,43 @@ returns-2 : tie.Need-returns-2
 returns-2 c = never _ (λ h. omega (arith, legal-tells (c .before .before .before .before .args .self) h .passes))
 
 is-finite-requires : tie.Need-is-finite-requires
-is-finite-requires c κs = search needs
+is-finite-requires c κs = tt
 
 returns-3 : tie.Need-returns-3
 returns-3 c = never _ (λ h. true≢false (sym (legal-tells (c .before .before .before .before .before .before .args .self) h .radius) ∙ sym (c .before .is-finite .ensures) ∙ not-true _ (c .if3 .taken)))
 
 is-finite-requires-2 : tie.Need-is-finite-requires-2
-is-finite-requires-2 c κs = search needs
+is-finite-requires-2 c κs = tt
 
 returns-4 : tie.Need-returns-4
 returns-4 c = never _ (λ h. true≢false (sym (legal-tells (c .before .before .before .before .before .before .before .before .args .self) h .birth) ∙ sym (c .before .is-finite2 .ensures) ∙ not-true _ (c .if4 .taken)))
 
 is-finite-requires-3 : tie.Need-is-finite-requires-3
-is-finite-requires-3 c κs = search needs
+is-finite-requires-3 c κs = tt
 
 returns-5 : tie.Need-returns-5
 returns-5 c = never _ (λ h. true≢false (sym (legal-tells (c .before .before .before .before .before .before .before .before .before .before .args .self) h .miss) ∙ sym (c .before .is-finite3 .ensures) ∙ not-true _ (c .if5 .taken)))
 
 is-finite-requires-4 : tie.Need-is-finite-requires-4
-is-finite-requires-4 c κs = search needs
+is-finite-requires-4 c κs = tt
 
 returns-6 : tie.Need-returns-6
 returns-6 c = never _ (λ h. true≢false (sym (legal-tells (c .before .before .before .before .before .before .before .before .before .before .before .before .args .self) h .clutter) ∙ sym (c .before .is-finite4 .ensures) ∙ not-true _ (c .if6 .taken)))
 
 is-finite-requires-5 : tie.Need-is-finite-requires-5
-is-finite-requires-5 c κs = search needs
+is-finite-requires-5 c κs = tt
 
 returns-7 : tie.Need-returns-7
 returns-7 c = never _ (λ h. true≢false (sym (legal-tells (c .before .before .before .before .before .before .before .before .before .before .before .before .before .before .args .self) h .density) ∙ sym (c .before .is-finite5 .ensures) ∙ not-true _ (c .if7 .taken)))
 
 is-finite-requires-6 : tie.Need-is-finite-requires-6
-is-finite-requires-6 c κs = search needs
+is-finite-requires-6 c κs = tt
 
 returns-8 : tie.Need-returns-8
 returns-8 c = never _ (λ h. true≢false (sym (legal-tells (c .before .before .before .before .before .before .before .before .before .before .before .before .before .before .before .before .args .self) h .sigma) ∙ sym (c .before .is-finite6 .ensures) ∙ not-true _ (c .if8 .taken)))
 
 is-finite-requires-7 : tie.Need-is-finite-requires-7
-is-finite-requires-7 c κs = search needs
+is-finite-requires-7 c κs = tt
 
 returns-9 : tie.Need-returns-9
 unfolding legal
