@@ -1,0 +1,59 @@
+-- `engine::body::observation` meets its contract. Assumes nothing.
+use mathlib.Core.Path.{sym, _∙_}
+use native.Mathlib.Omega.{arith}
+use Rattle.engine.specs.Body.{narrow, frameOf}
+use Rattle.engine.proofs.Bytes.{little-below}
+use Rattle.engine.proofs.Passing.{sized-body, row-at, row-past}
+use Rattle.engine.proofs.body.observation.Statement.{statement}
+use Rattle.engine.proofs.body.observation.Tie as tie
+
+observation-count-requires : tie.Need-observation-count-requires
+observation-count-requires c κs = tt
+
+no-observation-requires : tie.Need-no-observation-requires
+no-observation-requires c κs = tt
+
+returns : tie.Need-returns
+unfolding frameOf
+returns c = λ e. c .no-observation .ensures ∙ sym (row-past _ _ _ _ (rw (c .before .before .observation-count .ensures) at (c .before .if1 .taken)))
+
+observations-from-requires : tie.Need-observations-from-requires
+observations-from-requires c κs = tt
+
+mul-o : tie.Need-mul-o
+mul-o c = record { fits = omega (arith, c .before .before .observation-count .ensures, little-below 1 (c .before .before .before .before .args .s .now) 2 (c .before .before .before .shared-slice-known .given)) }
+
+add-o : tie.Need-add-o
+add-o c = record { fits = omega (arith, c .before .before .observation-count .ensures, c .observations-from .ensures, little-below 1 (c .before .before .before .before .args .s .now) 2 (c .before .before .before .shared-slice-known .given), c .before .before .before .shared-slice-known .given 1 .fits, c .before .before .before .shared-slice-known .given 4 .fits) }
+
+add-if2 : tie.Need-add-if2
+add-if2 c = record { fits = omega (arith, c .before .before .observation-count .ensures, c .observations-from .ensures, little-below 1 (c .before .before .before .before .args .s .now) 2 (c .before .before .before .shared-slice-known .given), c .before .before .before .shared-slice-known .given 1 .fits, c .before .before .before .shared-slice-known .given 4 .fits) }
+
+no-observation-requires-2 : tie.Need-no-observation-requires-2
+no-observation-requires-2 c κs = tt
+
+returns-2 : tie.Need-returns-2
+returns-2 c = λ e. absurd (omega (arith, sized-body narrow (c .before .before .before .before .before .before .args .s .now) e .exact, c .before .before .before .before .observation-count .ensures, c .before .before .observations-from .ensures))
+
+observation-at-requires : tie.Need-observation-at-requires
+observation-at-requires c κs = omega arith
+
+returns-3 : tie.Need-returns-3
+unfolding frameOf
+returns-3 c = λ e. rw (c .before .before .observations-from .ensures) at (c .observation-at .ensures) ∙ sym (row-at _ _ _ _ (rw (c .before .before .before .before .observation-count .ensures) at (c .before .before .before .if1 .left)))
+
+pub observation-spec : {M : Type 1} → statement M
+observation-spec =
+    tie.close
+    (tie.spec
+    observation-count-requires
+    no-observation-requires
+    returns
+    observations-from-requires
+    mul-o
+    add-o
+    add-if2
+    no-observation-requires-2
+    returns-2
+    observation-at-requires
+    returns-3)

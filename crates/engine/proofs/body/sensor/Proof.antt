@@ -1,0 +1,50 @@
+-- `engine::body::sensor` meets its contract. Assumes nothing.
+use mathlib.Core.Path.{sym, _∙_}
+use native.Mathlib.Omega.{arith}
+use Rattle.engine.specs.Body.{narrow, frameOf}
+use Rattle.engine.proofs.Passing.{sized-body, row-at, row-past}
+use Rattle.engine.proofs.body.sensor.Statement.{statement}
+use Rattle.engine.proofs.body.sensor.Tie as tie
+
+sensor-count-requires : tie.Need-sensor-count-requires
+sensor-count-requires c κs = tt
+
+returns : tie.Need-returns
+unfolding frameOf
+returns c = λ e. sym (row-past _ _ _ _ (rw (c .before .sensor-count .ensures) at (c .if1 .taken)))
+
+sensors-from-requires : tie.Need-sensors-from-requires
+sensors-from-requires c κs = tt
+
+mul-o : tie.Need-mul-o
+mul-o c = record { fits = omega (arith, c .before .before .sensor-count .ensures, c .before .before .before .shared-slice-known .given 4 .fits) }
+
+add-o : tie.Need-add-o
+add-o c = record { fits = omega (arith, c .before .before .sensor-count .ensures, c .sensors-from .ensures, c .before .before .before .shared-slice-known .given 1 .fits, c .before .before .before .shared-slice-known .given 4 .fits) }
+
+add-if2 : tie.Need-add-if2
+add-if2 c = record { fits = omega (arith, c .before .before .sensor-count .ensures, c .sensors-from .ensures, c .before .before .before .shared-slice-known .given 1 .fits, c .before .before .before .shared-slice-known .given 4 .fits) }
+
+returns-2 : tie.Need-returns-2
+returns-2 c = λ e. absurd (omega (arith, sized-body narrow (c .before .before .before .before .before .args .s .now) e .exact, c .before .before .before .sensor-count .ensures, c .before .sensors-from .ensures))
+
+u32-at-requires : tie.Need-u32-at-requires
+u32-at-requires c κs = omega arith
+
+returns-3 : tie.Need-returns-3
+unfolding frameOf
+returns-3 c = λ e. rw (c .before .before .sensors-from .ensures) at (c .u32-at .ensures) ∙ sym (row-at _ _ _ _ (rw (c .before .before .before .before .sensor-count .ensures) at (c .before .before .before .if1 .left)))
+
+pub sensor-spec : {M : Type 1} → statement M
+sensor-spec =
+    tie.close
+    (tie.spec
+    sensor-count-requires
+    returns
+    sensors-from-requires
+    mul-o
+    add-o
+    add-if2
+    returns-2
+    u32-at-requires
+    returns-3)

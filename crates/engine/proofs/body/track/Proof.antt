@@ -1,0 +1,54 @@
+-- `engine::body::track` meets its contract. Assumes nothing.
+use mathlib.Core.Path.{sym, _∙_}
+use native.Mathlib.Omega.{arith}
+use Rattle.engine.specs.Body.{narrow, frameOf}
+use Rattle.engine.proofs.Passing.{sized-body, row-at, row-past}
+use Rattle.engine.proofs.body.track.Statement.{statement}
+use Rattle.engine.proofs.body.track.Tie as tie
+
+track-count-requires : tie.Need-track-count-requires
+track-count-requires c κs = tt
+
+no-track-requires : tie.Need-no-track-requires
+no-track-requires c κs = tt
+
+returns : tie.Need-returns
+unfolding frameOf
+returns c = λ e. c .no-track .ensures ∙ sym (row-past _ _ _ _ (rw (c .before .before .track-count .ensures) at (c .before .if1 .taken)))
+
+mul-o : tie.Need-mul-o
+mul-o c = record { fits = omega (arith, c .before .track-count .ensures, c .before .before .shared-slice-known .given 1 .fits) }
+
+add-o : tie.Need-add-o
+add-o c = record { fits = omega (arith, c .before .track-count .ensures, c .before .before .shared-slice-known .given 1 .fits) }
+
+add-if2 : tie.Need-add-if2
+add-if2 c = record { fits = omega (arith, c .before .track-count .ensures, c .before .before .shared-slice-known .given 1 .fits) }
+
+no-track-requires-2 : tie.Need-no-track-requires-2
+no-track-requires-2 c κs = tt
+
+returns-2 : tie.Need-returns-2
+returns-2 c = λ e. absurd (omega (arith, sized-body narrow (c .before .before .before .before .before .args .s .now) e .exact, c .before .before .before .track-count .ensures))
+
+track-at-requires : tie.Need-track-at-requires
+track-at-requires c κs = omega arith
+
+returns-3 : tie.Need-returns-3
+unfolding frameOf
+returns-3 c = λ e. c .track-at .ensures ∙ sym (row-at _ _ _ _ (rw (c .before .before .before .track-count .ensures) at (c .before .before .if1 .left)))
+
+pub track-spec : {M : Type 1} → statement M
+track-spec =
+    tie.close
+    (tie.spec
+    track-count-requires
+    no-track-requires
+    returns
+    mul-o
+    add-o
+    add-if2
+    no-track-requires-2
+    returns-2
+    track-at-requires
+    returns-3)

@@ -1,0 +1,191 @@
+-- Document 01, "Frame body", and refusals 5, 6 and 7. Definitions only.
+use Prim.Native.Nat.{ℕ, zero, suc, _+_, _-_, _*_}
+use mathlib.Core.List.{List, [], _∷_}
+use mathlib.Core.Bool.{Bool, true, cond, _&&_, not}
+use lib.ListN.{length, getD}
+use lib.Dec.{leb, ltb, eqb}
+use lib.IntN.{ℤ, natAbs}
+use lib.Ieee.{binary64, ofBits}
+use Rattle.scalar.specs.Scalar.{finite, signed}
+use Rattle.engine.specs.declared.types.EngineTrack.{EngineTrack}
+use Rattle.engine.specs.declared.types.Observation.{Observation}
+use Rattle.engine.specs.declared.types.Association.{Association}
+use Rattle.engine.specs.Little.{little}
+use Rattle.engine.specs.Frame.{Frame, modeOf, outcomeOf, associatedOf, classOf, costOf}
+
+-- ---- where things stand: what a kind of body is, apart from the meaning of its rows
+
+pub record Layout : Type 0 where
+  -- bytes of a count of observations or associations, and of an index
+  pub width : ℕ
+  -- the most observations, and the most associations
+  pub most : ℕ
+  -- bytes of the header, and where in it each count stands
+  pub head : ℕ
+  pub sensorsAt : ℕ
+  pub observationsAt : ℕ
+  pub associationsAt : ℕ
+  -- the header's zeros: how many, and where
+  pub zeros : ℕ
+  pub zerosAt : ℕ
+
+-- "bytes mode, engine tracks, observations, associations (each at most 32), sensors, three zeros; i64 time"
+abbrev pub narrow : Layout
+narrow =
+    record { width = 1; most = 32; head = 16; sensorsAt = 4; observationsAt = 2; associationsAt = 3; zeros = 3; zerosAt = 5 }
+
+-- ---- tests
+
+-- p holds of each number below n
+unfoldable pub all : (ℕ → Bool) → ℕ → Bool
+all p zero = true
+all p (suc n) = all p n && p n
+
+-- the mode byte and the outcome byte have three codes
+unfoldable pub codeOk : ℕ → Bool
+codeOk b = leb b 2
+
+-- "Present bytes are 0 or 1; an absent value is zero"
+unfoldable pub presentOk : ℕ → ℕ → Bool
+presentOk p v = cond (eqb p 0) (eqb v 0) (eqb p 1)
+
+-- "time, at most 2^62 − 1 in size"
+unfoldable pub timeOk : ℤ → Bool
+timeOk t = ltb (natAbs t) 4611686018427387904
+
+-- n zero bytes
+abbrev pub zeroBytes : ℕ → List ℕ → ℕ → Bool
+zeroBytes n s o = eqb (little n s o) 0
+
+-- "Tracks: u64 id, u32 class, byte class present, three zeros"
+unfoldable pub trackOk : List ℕ → ℕ → Bool
+trackOk s o = presentOk (getD s (o + 12) 0) (little 4 s (o + 8)) && zeroBytes 3 s (o + 13)
+
+-- "Associations: bytes index, id present, outcome, cost present, four zeros, u64 id, f64 cost (any bits)", with an index of w bytes
+unfoldable pub associationOk : ℕ → List ℕ → ℕ → Bool
+associationOk w s o =
+    presentOk (getD s (o + w) 0) (little 8 s (o + 8))
+    && (codeOk (getD s (o + (w + 1)) 0)
+    && (presentOk (getD s (o + (w + 2)) 0) (little 8 s (o + 16)) && zeroBytes (5 - w) s (o + (w + 3))))
+
+-- 6: "a coordinate not finite"
+unfoldable pub observationOk : List ℕ → ℕ → Bool
+observationOk s o =
+    finite (ofBits binary64 (little 8 s o))
+    && (finite (ofBits binary64 (little 8 s (o + 8))) && finite (ofBits binary64 (little 8 s (o + 16))))
+
+-- the index of association j, of those that stand from place a on
+abbrev pub indexAt : ℕ → List ℕ → ℕ → ℕ → ℕ
+indexAt w s a j = little w s (a + 24 * j)
+
+-- 7: "an association's index is past the observations, or stands twice"
+unfoldable pub indexOk : ℕ → List ℕ → ℕ → ℕ → ℕ → Bool
+indexOk w s a n j = ltb (indexAt w s a j) n && all (λ i. not (eqb (indexAt w s a i) (indexAt w s a j))) j
+
+module _ (k : Layout) (s : List ℕ) where
+  -- how many of each
+  abbrev pub trackCount : ℕ
+  trackCount = getD s 1 0
+
+  abbrev pub sensorCount : ℕ
+  sensorCount = getD s (k .sensorsAt) 0
+
+  abbrev pub observationCount : ℕ
+  observationCount = little (k .width) s (k .observationsAt)
+
+  abbrev pub associationCount : ℕ
+  associationCount = little (k .width) s (k .associationsAt)
+
+  -- where the sensors, the observations and the associations begin, and where the body ends
+  abbrev pub sensorsFrom : ℕ
+  sensorsFrom = k .head + 16 * trackCount
+
+  abbrev pub observationsFrom : ℕ
+  observationsFrom = sensorsFrom + 4 * sensorCount
+
+  abbrev pub associationsFrom : ℕ
+  associationsFrom = observationsFrom + 24 * observationCount
+
+  abbrev pub size : ℕ
+  size = associationsFrom + 24 * associationCount
+
+  abbrev pub time : ℤ
+  time = signed (little 8 s 8)
+
+  -- "sensors (at most 8, 0 without engine tracks)"; "The length is exact"
+  unfoldable pub headOk : Bool
+  headOk =
+      leb (k .head) (length s)
+      && (codeOk (getD s 0 0)
+      && (leb trackCount 32
+      && (leb observationCount (k .most)
+      && (leb associationCount (k .most)
+      && (leb sensorCount (cond (eqb trackCount 0) 0 8)
+      && (zeroBytes (k .zeros) s (k .zerosAt) && (timeOk time && eqb (length s) size)))))))
+
+  unfoldable pub tracksOk : Bool
+  tracksOk = all (λ i. trackOk s (k .head + 16 * i)) trackCount
+
+  unfoldable pub associationsOk : Bool
+  associationsOk = all (λ j. associationOk (k .width) s (associationsFrom + 24 * j)) associationCount
+
+  unfoldable pub observationsOk : Bool
+  observationsOk = all (λ i. observationOk s (observationsFrom + 24 * i)) observationCount
+
+  unfoldable pub indicesOk : Bool
+  indicesOk = all (indexOk (k .width) s associationsFrom observationCount) associationCount
+
+  -- the refusal that a body gets, in the table's order; 0 for none
+  unfoldable pub refusal : ℕ
+  refusal = cond (headOk && (tracksOk && associationsOk)) (cond observationsOk (cond indicesOk 0 7) 6) 5
+
+-- ---- reading
+
+-- g at n numbers from i on
+unfoldable pub rows : {A : Type 0} → (ℕ → A) → ℕ → ℕ → List A
+rows g i zero = []
+rows g i (suc n) = g i ∷ rows g (suc i) n
+
+unfoldable pub trackAt : List ℕ → ℕ → EngineTrack
+trackAt s o = record { id = record { 0 = little 8 s o }; class = classOf (getD s (o + 12) 0) (little 4 s (o + 8)) }
+
+unfoldable pub observationAt : List ℕ → ℕ → Observation
+observationAt s o =
+    record {
+      x = ofBits binary64 (little 8 s o);
+      y = ofBits binary64 (little 8 s (o + 8));
+      z = ofBits binary64 (little 8 s (o + 16));
+    }
+
+unfoldable pub associationAt : ℕ → List ℕ → ℕ → Association
+associationAt w s o =
+    record {
+      index = record { 0 = little w s o };
+      track = associatedOf (getD s (o + w) 0) (little 8 s (o + 8));
+      outcome = outcomeOf (getD s (o + (w + 1)) 0);
+      cost = costOf (getD s (o + (w + 2)) 0) (ofBits binary64 (little 8 s (o + 16)));
+    }
+
+-- what a body says, whether it is refused or not
+unfoldable pub frameOf : Layout → List ℕ → Frame
+frameOf k s =
+    record {
+      mode = modeOf (getD s 0 0);
+      time = time k s;
+      tracks = rows (λ i. trackAt s (k .head + 16 * i)) 0 (trackCount k s);
+      sensors = rows (λ i. little 4 s (sensorsFrom k s + 4 * i)) 0 (sensorCount k s);
+      observations = rows (λ i. observationAt s (observationsFrom k s + 24 * i)) 0 (observationCount k s);
+      associations = rows (λ j. associationAt (k .width) s (associationsFrom k s + 24 * j)) 0 (associationCount k s);
+    }
+
+-- what a push makes of a body: a frame, or 5, 6 or 7
+pub data Decoded : Type 0 where
+  refused : ℕ → Decoded
+  read : Frame → Decoded
+
+abbrev pub decodedBy : ℕ → Frame → Decoded
+decodedBy zero f = read f
+decodedBy (suc n) f = refused (suc n)
+
+unfoldable pub decode : Layout → List ℕ → Decoded
+decode k s = decodedBy (refusal k s) (frameOf k s)

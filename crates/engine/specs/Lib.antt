@@ -1,0 +1,5 @@
+pub mod Config
+pub mod Little
+pub mod Frame
+pub mod Body
+pub mod Encode

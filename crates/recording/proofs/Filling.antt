@@ -1,0 +1,41 @@
+-- A recording that passes is its contents and then its bodies, in order without gaps. Assumes nothing.
+use Prim.Native.Nat.{ℕ, zero, suc, _+_, _*_, _<_}
+use mathlib.Core.Path.{_≡_, sym}
+use mathlib.Core.List.{List, flatten}
+use mathlib.Core.Bool.{true}
+use native.Mathlib.Omega.{arith}
+use lib.ListN.{length, take, drop, take-append-drop}
+use lib.Seq.{drop-drop, drop-length}
+use borrow.Author.Tests.{le-leb}
+use Rattle.engine.specs.Body.{rows}
+use Rattle.recording.specs.Recording.{count, offset, size, start, refusal, holds, bodyAt}
+use Rattle.recording.specs.Filled.{PassesFilled}
+use Rattle.recording.proofs.Recorded.{start-grows, recorded}
+
+module _ (s : List ℕ) (e : refusal s ≡ 0) where
+  holds-each : (i : ℕ) → i < count s → holds s i ≡ true
+  unfolding holds
+  holds-each i h =
+      let r = recorded s e in
+      let p = r .places i h in
+      let g = start-grows s i (count s) h in
+      rw (le-leb (100 + 8 * i) (length s) (omega (arith, r .table)), le-leb (offset s i + size s i) (length s) (omega (arith, p, g, r .whole)))
+
+  body-is : (i : ℕ) → i < count s → bodyAt s i ≡ take (size s i) (drop (start s i) s)
+  unfolding bodyAt
+  body-is i h = rw (holds-each i h, recorded s e .places i h)
+
+  -- from where body i has to begin, bodies i, i + 1, .. follow to the end
+  rest : (n i : ℕ) → i + n ≡ count s → drop (start s i) s ≡ flatten (rows (bodyAt s) i n)
+  unfolding rows flatten start
+  rest zero i h = let q : i ≡ count s = omega arith in rw (q, recorded s e .whole) (drop-length s)
+  rest (suc n) i h =
+      let b = body-is i (omega arith) in
+      let ih = rest n (suc i) (omega arith) in
+      rw (b, ← ih, ← drop-drop (size s i) (start s i) s) (sym (take-append-drop (size s i) (drop (start s i) s)))
+
+pub fills-all : PassesFilled
+unfolding start
+fills-all s e =
+    let r : drop (92 + 8 * count s) s ≡ flatten (rows (bodyAt s) 0 (count s)) = rest s e (count s) 0 (omega arith) in
+    record { bytes = rw (← r) (sym (take-append-drop (92 + 8 * count s) s)); held = holds-each s e }

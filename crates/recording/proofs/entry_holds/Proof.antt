@@ -1,0 +1,39 @@
+-- `recording::entry_holds` meets its contract. Assumes nothing.
+use Prim.Native.Nat.{_+_, _*_}
+use native.Mathlib.Omega.{arith}
+use lib.ListN.{length}
+use borrow.Author.Tests.{le-leb, lt-leb}
+use Rattle.engine.proofs.Bytes.{little-below}
+use Rattle.recording.specs.Recording.{holds}
+use borrow.Author.Needs.{needs}
+use Rattle.recording.proofs.entry_holds.Statement.{statement}
+use Rattle.recording.proofs.entry_holds.Tie as tie
+
+returns : tie.Need-returns
+unfolding holds
+returns c = rw (lt-leb (100 + 8 * c .before .before .args .i) (length (c .before .before .args .s .now)) (omega arith))
+
+sub-if2 : tie.Need-sub-if2
+sub-if2 c = search needs
+
+returns-2 : tie.Need-returns-2
+unfolding holds
+returns-2 c = rw (lt-leb (100 + 8 * c .before .before .before .args .i) (length (c .before .before .before .args .s .now)) (omega arith))
+
+offset-of-requires : tie.Need-offset-of-requires
+offset-of-requires c κs = search needs
+
+size-of-requires : tie.Need-size-of-requires
+size-of-requires c κs = search needs
+
+add-result : tie.Need-add-result
+add-result c = record { fits = omega (arith, c .before .offset-of .ensures, c .size-of .ensures, little-below 4 (c .before .before .before .before .before .args .s .now) (92 + 8 * c .before .before .before .before .before .args .i) (c .before .before .before .before .shared-slice-known .given), little-below 4 (c .before .before .before .before .before .args .s .now) (96 + 8 * c .before .before .before .before .before .args .i) (c .before .before .before .before .shared-slice-known .given)) }
+
+returns-3 : tie.Need-returns-3
+unfolding holds
+returns-3 c = rw (le-leb (100 + 8 * c .before .before .before .before .before .args .i) (length (c .before .before .before .before .before .args .s .now)) (omega arith), c .before .offset-of .ensures, c .size-of .ensures)
+
+pub entry-holds-spec : {M : Type 1} → statement M
+entry-holds-spec =
+    tie.close
+    (tie.spec returns sub-if2 returns-2 offset-of-requires size-of-requires add-result returns-3)

@@ -1,0 +1,17 @@
+-- "The bodies exactly fill the rest, in order without gaps", as a law of what is read. Definitions only.
+use Prim.Native.Nat.{ℕ, _+_, _*_, _<_}
+use mathlib.Core.Path.{_≡_}
+use mathlib.Core.List.{List, _++_, flatten}
+use mathlib.Core.Bool.{true}
+use lib.ListN.{take}
+use Rattle.engine.specs.Body.{rows}
+use Rattle.recording.specs.Recording.{count, refusal, holds, bodyAt}
+
+pub record Filled (s : List ℕ) : Type 0 where
+  -- settings, count and contents table, and then every body in turn: no byte is in none of them or in two
+  pub bytes : s ≡ take (92 + 8 * count s) s ++ flatten (rows (bodyAt s) 0 (count s))
+  pub held : (i : ℕ) → i < count s → holds s i ≡ true
+
+-- a recording that 11 and 12 do not refuse
+abbrev pub PassesFilled : Type 0
+PassesFilled = (s : List ℕ) → refusal s ≡ 0 → Filled s

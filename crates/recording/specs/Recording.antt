@@ -1,0 +1,85 @@
+-- Document 01, "Recording and print", and refusals 11 and 12. Definitions only.
+use Prim.Native.Nat.{ℕ, zero, suc, _+_, _*_}
+use mathlib.Core.List.{List, []}
+use mathlib.Core.Bool.{Bool, cond, _&&_}
+use lib.ListN.{length, take, drop}
+use lib.Dec.{leb, ltb, eqb}
+use lib.Ieee.{Float, binary64, ofBits}
+use lib.IntN.{ℤ}
+use Rattle.scalar.specs.Scalar.{signed}
+use Rattle.engine.specs.Little.{little}
+use Rattle.engine.specs.Body.{all}
+use Rattle.engine.specs.declared.config.FgoConfig.{FgoConfig}
+use Rattle.recording.specs.declared.Contents.{Contents}
+use Rattle.recording.specs.declared.Contents.the-variants.{Refused, Frames}
+
+module _ (s : List ℕ) where
+  -- field i of the settings, as a number, as an f64 and as an i64
+  abbrev field : ℕ → ℕ
+  field i = little 8 s (8 * i)
+
+  abbrev real : ℕ → Float
+  real i = ofBits binary64 (field i)
+
+  abbrev nanoseconds : ℕ → ℤ
+  nanoseconds i = signed (field i)
+
+  -- "settings (11 fields of 8 bytes, `FgoConfig` order)"
+  unfoldable pub settings : FgoConfig
+  settings =
+      record {
+        «lag_frames» = field 0;
+        «radius_m» = real 1;
+        «birth_cost» = real 2;
+        «miss_cost» = real 3;
+        «clutter_cost» = real 4;
+        «accel_spectral_density» = real 5;
+        «position_sigma_m» = real 6;
+        «initial_velocity_variance» = real 7;
+        «coast_ns» = nanoseconds 8;
+        «forget_after_ns» = nanoseconds 9;
+        «max_passes» = field 10;
+      }
+
+  -- "u32 count"
+  abbrev pub count : ℕ
+  count = little 4 s 88
+
+  -- "per frame u32 offset (from the recording's start) and length"
+  abbrev pub offset : ℕ → ℕ
+  offset i = little 4 s (92 + 8 * i)
+
+  abbrev pub size : ℕ → ℕ
+  size i = little 4 s (96 + 8 * i)
+
+  -- where the body of frame i has to begin: "in order without gaps"
+  unfoldable pub start : ℕ → ℕ
+  start zero = 92 + 8 * count
+  start (suc i) = start i + size i
+
+  -- "the bodies exactly fill the rest, in order without gaps"
+  unfoldable pub fills : Bool
+  fills = all (λ i. eqb (offset i) (start i)) count && eqb (start count) (length s)
+
+  -- 11: "over 65,536 bytes, over 256 frames, or shorter than its contents table"; 12: the bodies do not fill the rest so; 0 for none
+  unfoldable pub refusal : ℕ
+  refusal =
+      cond (ltb 65536 (length s)) 11
+      (cond (ltb (length s) 92) 11
+      (cond (ltb 256 count) 11 (cond (ltb (length s) (92 + 8 * count)) 11 (cond fills 0 12))))
+
+  -- the contents table has entry i, and the recording the bytes that it names
+  unfoldable pub holds : ℕ → Bool
+  holds i = leb (100 + 8 * i) (length s) && leb (offset i + size i) (length s)
+
+  -- the body of frame i; nothing where the recording does not hold one
+  unfoldable pub bodyAt : ℕ → List ℕ
+  bodyAt i = cond (holds i) (take (size i) (drop (offset i) s)) []
+
+-- what a recording says at its start
+abbrev pub contentsBy : ℕ → FgoConfig → ℕ → Contents
+contentsBy zero c n = Frames c n
+contentsBy (suc r) c n = Refused (suc r)
+
+unfoldable pub contentsOf : List ℕ → Contents
+contentsOf s = contentsBy (refusal s) (settings s) (count s)

@@ -1,0 +1,189 @@
+// A recording: settings, a contents table and frame bodies; and a reader over it that stands at one entry.
+use engine::config::FgoConfig;
+use engine::little;
+use scalar::bits;
+ghost use mathlib.Core.Path.{_≡_};
+ghost use mathlib.Core.Bool.{true};
+ghost use Prim.Native.Nat.{_+_, _*_, _≤_};
+ghost use lib.ListN.{length};
+ghost use lib.Ieee.{binary64, ofBits};
+ghost use Rattle.scalar.specs.Scalar.{signed};
+ghost use Rattle.engine.specs.Little.{little as littleOf};
+ghost use Rattle.recording.specs.Recording.{count, offset, size, holds, fills, refusal, settings, contentsOf, bodyAt};
+
+// What a recording says at its start: refusal 11 or 12, or its settings and the number of its frames.
+pub enum Contents {
+    Refused(u8),
+    Frames { config: FgoConfig, count: usize },
+}
+
+fn count_of(s: &[u8]) -> usize
+    requires { ⌜ 92 ≤ length (now s) ⌝ }
+    ensures { λ r. ⌜ r ≡ count (now (s .entry)) ⌝ }
+{
+    little::u32_at(s, 88) as usize
+}
+
+// Where frame i is said to begin.
+fn offset_of(s: &[u8], i: usize) -> usize
+    requires { ⌜ 100 + 8 * i ≤ length (now s) ⌝ }
+    ensures { λ r. ⌜ r ≡ offset (now (s .entry)) i ⌝ }
+{
+    little::u32_at(s, 92 + 8 * i) as usize
+}
+
+// How many bytes frame i is said to have.
+fn size_of(s: &[u8], i: usize) -> usize
+    requires { ⌜ 100 + 8 * i ≤ length (now s) ⌝ }
+    ensures { λ r. ⌜ r ≡ size (now (s .entry)) i ⌝ }
+{
+    little::u32_at(s, 96 + 8 * i) as usize
+}
+
+// The bodies exactly fill the rest, in order without gaps.
+fn fills_rest(s: &[u8]) -> bool
+    requires { ⌜ (length (now s) ≤ 65536) × (92 + 8 * count (now s) ≤ length (now s)) ⌝ }
+    ensures { λ r. ⌜ r ≡ fills (now (s .entry)) ⌝ }
+{
+    let n = count_of(s);
+    let mut at = 92 + 8 * n;
+    let mut i = 0;
+    while i < n {
+        if offset_of(s, i) != at {
+            return false;
+        }
+        at += size_of(s, i);
+        i += 1;
+    }
+    at == s.len()
+}
+
+// The refusal that a recording gets: 0 for none, 11 or 12.
+fn refusal_of(s: &[u8]) -> u8
+    ensures { λ r. ⌜ r ≡ refusal (now (s .entry)) ⌝ }
+{
+    if 65536 < s.len() {
+        return 11;
+    }
+    if s.len() < 92 {
+        return 11;
+    }
+    let n = count_of(s);
+    if 256 < n {
+        return 11;
+    }
+    if s.len() < 92 + 8 * n {
+        return 11;
+    }
+    if fills_rest(s) { 0 } else { 12 }
+}
+
+// The eleven settings, in the order of `FgoConfig`.
+fn settings_of(s: &[u8]) -> FgoConfig
+    requires { ⌜ 88 ≤ length (now s) ⌝ }
+    ensures { λ r. ⌜ r ≡ settings (now (s .entry)) ⌝ }
+{
+    let lag_frames = little::u64_at(s, 0) as usize;
+    let radius_m = little::f64_at(s, 8);
+    let birth_cost = little::f64_at(s, 16);
+    let miss_cost = little::f64_at(s, 24);
+    let clutter_cost = little::f64_at(s, 32);
+    let accel_spectral_density = little::f64_at(s, 40);
+    let position_sigma_m = little::f64_at(s, 48);
+    let initial_velocity_variance = little::f64_at(s, 56);
+    let coast_ns = little::i64_at(s, 64);
+    let forget_after_ns = little::i64_at(s, 72);
+    let max_passes = little::u64_at(s, 80) as usize;
+    FgoConfig {
+        lag_frames,
+        radius_m,
+        birth_cost,
+        miss_cost,
+        clutter_cost,
+        accel_spectral_density,
+        position_sigma_m,
+        initial_velocity_variance,
+        coast_ns,
+        forget_after_ns,
+        max_passes,
+    }
+}
+
+// What a recording says at its start.
+pub fn contents_of(s: &[u8]) -> Contents
+    ensures { λ r. ⌜ r ≡ contentsOf (now (s .entry)) ⌝ }
+{
+    let n = refusal_of(s);
+    if n != 0 {
+        return Contents::Refused(n);
+    }
+    Contents::Frames {
+        config: settings_of(s),
+        count: count_of(s),
+    }
+}
+
+// The contents table has entry i, and the recording the bytes that it names.
+fn entry_holds(s: &[u8], i: usize) -> bool
+    ensures { λ r. ⌜ r ≡ holds (now (s .entry)) i ⌝ }
+{
+    if s.len() < 100 {
+        return false;
+    }
+    if (s.len() - 100) / 8 < i {
+        return false;
+    }
+    offset_of(s, i) + size_of(s, i) <= s.len()
+}
+
+// The body of frame i, as a part of the recording; nothing where it does not hold one.
+fn body_at(s: &[u8], i: usize) -> &[u8]
+    ensures { λ r. ⌜ now r ≡ bodyAt (now (s .entry)) i ⌝ }
+{
+    if !entry_holds(s, i) {
+        return &s[0..0];
+    }
+    let from = offset_of(s, i);
+    let to = from + size_of(s, i);
+    &s[from..to]
+}
+
+// A reader over the lent recording that stands at one entry.
+pub struct Reader<'a> {
+    pub recording: &'a [u8],
+    pub entry: usize,
+}
+
+// A reader at the first entry.
+pub fn new<'a>(recording: &'a [u8]) -> Reader<'a>
+    ensures { λ r. ⌜ (r .recording ≡ recording .entry) × (r .entry ≡ 0) ⌝ }
+{
+    Reader {
+        recording,
+        entry: 0,
+    }
+}
+
+// The reader at another entry.
+pub fn moved<'a>(r: Reader<'a>, entry: usize) -> Reader<'a>
+    ensures { λ q. ⌜ (q .recording ≡ r .entry .recording) × (q .entry ≡ entry) ⌝ }
+{
+    Reader {
+        recording: r.recording,
+        entry,
+    }
+}
+
+// The body at the reader's entry.
+pub fn body<'a>(r: Reader<'a>) -> &'a [u8]
+    ensures { λ b. ⌜ now b ≡ bodyAt (now (r .entry .recording)) (r .entry .entry) ⌝ }
+{
+    body_at(r.recording, r.entry)
+}
+
+// The body of frame i, by a reader: what a caller with a plain slice uses.
+pub fn frame_at(s: &[u8], i: usize) -> &[u8]
+    ensures { λ b. ⌜ now b ≡ bodyAt (now (s .entry)) i ⌝ }
+{
+    body(moved(new(s), i))
+}
