@@ -1,0 +1,3 @@
+pub mod Textbook
+pub mod Logs
+pub mod Steps

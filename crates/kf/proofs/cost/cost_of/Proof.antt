@@ -1,0 +1,18 @@
+-- `kf::cost::cost_of` meets its contract. Assumes nothing.
+use borrow.Author.Needs.{needs}
+use mathlib.Core.Path.{ap, _∙_}
+use Rattle.kf.specs.Cost.{closed}
+use Rattle.kf.proofs.cost.cost_of.Statement.{statement}
+use Rattle.kf.proofs.cost.cost_of.Tie as tie
+
+run-window-requires : tie.Need-run-window-requires
+run-window-requires c κs = search needs
+
+close-requires : tie.Need-close-requires
+close-requires c κs = search needs
+
+returns : tie.Need-returns
+returns c = (c .close .ensures ∙ ap (closed _) (c .before .run-window .ensures .0), c .before .run-window .ensures .1)
+
+pub cost-of-spec : {M : Type 1} → statement M
+cost-of-spec = tie.close (tie.spec run-window-requires close-requires returns)

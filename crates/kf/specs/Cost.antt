@@ -1,0 +1,119 @@
+-- Document 01, "Cost", and the windows that the code lends. Definitions only.
+use Prim.Native.Nat.{ℕ, zero, suc, _+_, _-_, _*_, _<_, _≤_}
+use mathlib.Core.Path.{_≡_}
+use mathlib.Core.Bool.{true, cond}
+use mathlib.Core.List.{List, [], _∷_, foldl}
+use lib.ListN.{length, getD}
+use lib.Dec.{ltb}
+use lib.IntN.{pos}
+use lib.Ieee.{Float, nan, binary64, ofBits, ofInt, add, mul, lt}
+use Rattle.engine.specs.declared.config.FgoConfig.{FgoConfig}
+use Rattle.engine.specs.declared.types.ScanIndex.{ScanIndex}
+use Rattle.engine.specs.Config.{birth, miss, density, variance}
+use Rattle.kf.specs.declared.filter.Kf.{Kf}
+use Rattle.kf.specs.declared.cost.Run.{Run}
+use Rattle.kf.specs.declared.cost.Dot.{Dot}
+use Rattle.kf.specs.declared.cost.Fold.{Fold}
+use Rattle.kf.specs.declared.cost.Fold.the-variants.{Fresh, Frozen, Going}
+use Rattle.scalar.specs.F64.{f64}
+use Rattle.kf.specs.Plain.{logTerm}
+use Rattle.kf.specs.Filter.{started, predicted, updated}
+
+-- a detection of a window: the number of its scan, that scan's time in seconds, where it lies, and the variance of its position
+pub record Det : Type 0 where
+  pub scan : ℕ
+  pub t : Float
+  pub x : Float
+  pub y : Float
+  pub r : Float
+
+-- "scans skipped since the last"
+abbrev pub gap : ℕ → ℕ → ℕ
+gap scan last = scan - last - 1
+
+-- "Each further one predicts and adds its NLL; scans skipped since the last (or frozen last) are misses"
+unfoldable pub added : FgoConfig → Run → Det → Run
+added c s d =
+    let u = updated (predicted (s .kf) (d .t) (density c)) (d .x) (d .y) (d .r) in
+    record { kf = u .kf; total = add binary64 (s .total) (u .nll); last = record { 0 = d .scan }; misses = s .misses + gap (d .scan) (s .last .0) }
+
+-- "From a frozen part: its filter, total 0.0"
+abbrev pub resumed : Kf → ScanIndex → Run
+resumed k l = record { kf = k; total = ofBits binary64 0; last = l; misses = 0 }
+
+-- "Else start at the first detection, total birth_cost"
+abbrev pub born : FgoConfig → Det → Run
+born c d = record { kf = started (d .x) (d .y) (d .t) (d .r) (variance c); total = birth c; last = record { 0 = d .scan }; misses = 0 }
+
+-- one detection more
+unfoldable pub step : FgoConfig → Fold → Det → Fold
+step c Fresh d = Going (born c d)
+step c (Frozen k l) d = Going (added c (resumed k l) d)
+step c (Going s) d = Going (added c s d)
+
+unfoldable pub run : FgoConfig → Fold → List Det → Fold
+run c s ds = foldl (step c) s ds
+
+-- "empty window 0.0, frozen part or not"; "Total + misses·miss_cost"
+unfoldable pub closed : FgoConfig → Fold → Float
+closed c Fresh = ofBits binary64 0
+closed c (Frozen k l) = ofBits binary64 0
+closed c (Going s) = add binary64 (s .total) (mul binary64 (ofInt binary64 (pos (s .misses))) (miss c))
+
+-- the cost of a window, from a frozen part or from none
+abbrev pub cost : FgoConfig → Fold → List Det → Float
+cost c from ds = closed c (run c from ds)
+
+-- ---- what the code lends: the number of the first scan, the scans' times, and x, y and r of each dot
+
+pub record View : Type 0 where
+  pub first : ℕ
+  pub times : List Float
+  pub dots : List Float
+
+abbrev pub viewOf : ScanIndex → List Float → List Float → View
+viewOf first times dots = record { first = first .0; times = times; dots = dots }
+
+abbrev pub noDot : Dot
+noDot = record { x = nan; y = nan; r = nan }
+
+-- dot i; NaN past the 128th
+abbrev pub dotAt : List Float → ℕ → Dot
+dotAt ds i = cond (ltb i 128) (record { x = getD ds (3 * i) nan; y = getD ds (3 * i + 1) nan; r = getD ds (3 * i + 2) nan }) noDot
+
+abbrev pub detOf : ScanIndex → Float → Dot → Det
+detOf scan t d = record { scan = scan .0; t = t; x = d .x; y = d .y; r = d .r }
+
+-- dot j, as the detection of the held scan k
+abbrev pub detAt : View → ℕ → ℕ → Det
+detAt v k j = detOf (record { 0 = v .first + k }) (getD (v .times) k nan) (dotAt (v .dots) j)
+
+-- the detections of a row that begins at the held scan k: for each scan one more than the dot, 0 where there is none
+unfoldable pub dets : View → ℕ → List ℕ → List Det
+dets v k [] = []
+dets v k (zero ∷ r) = dets v (suc k) r
+dets v k (suc j ∷ r) = detAt v k j ∷ dets v (suc k) r
+
+-- ---- what the inner functions ask, beside the meaning
+
+abbrev pub missesOf : Fold → ℕ
+missesOf Fresh = 0
+missesOf (Frozen k l) = 0
+missesOf (Going s) = s .misses
+
+-- logarithms worked out before: at each place the pattern of a variance s above 0, and ln((2·pi)·s)
+pub record Kept (seen : List ℕ) (logs : List Float) : Type 0 where
+  pub seen-long : length seen ≡ 64
+  pub logs-long : length logs ≡ 64
+  pub right : (i : ℕ) → i < 64 → lt (ofBits binary64 0) (ofBits binary64 (getD seen i 0)) ≡ true → getD logs i nan ≡ logTerm f64 (ofBits binary64 (getD seen i 0))
+
+pub record Recalled (s l : Float) (seen : List ℕ) (logs : List Float) : Type 0 where
+  pub is : l ≡ logTerm f64 s
+  pub kept : Kept seen logs
+
+-- a row's part that ends within the 17 scans, scan numbers far below 2^64, and few misses so far
+pub record Asks (slots : List ℕ) (k : ℕ) (first : ScanIndex) (from : Fold) (seen : List ℕ) (logs : List Float) : Type 0 where
+  pub within : k + length slots ≤ 17
+  pub early : first .0 < 8589934592
+  pub few : missesOf from < 1152921504606846976
+  pub kept : Kept seen logs

@@ -1,0 +1,41 @@
+-- The plain filter at f64: "The filter is x, y, their speeds, p00, p01, p11 and t". Definitions only.
+use mathlib.Core.List.{[], _∷_}
+use lib.Ieee.{Float, binary64, sub}
+use Rattle.scalar.specs.F64.{f64}
+use Rattle.kf.specs.declared.filter.Kf.{Kf}
+use Rattle.kf.specs.declared.filter.Updated.{Updated}
+use Rattle.kf.specs.Plain.{Axis, Cov, startAxis, startCov, predictAxis, predictCov, gain, innovation, updateAxis, updateCov, logTerm, nll}
+
+abbrev pub axisX : Kf → Axis Float
+axisX k = record { at = k .x; speed = k .vx }
+
+abbrev pub axisY : Kf → Axis Float
+axisY k = record { at = k .y; speed = k .vy }
+
+abbrev pub covOf : Kf → Cov Float
+covOf k = record { p00 = k .p00; p01 = k .p01; p11 = k .p11 }
+
+-- the filter of two axes, a covariance and a time
+abbrev pub kfOf : Axis Float → Axis Float → Cov Float → Float → Kf
+kfOf x y p t =
+    record { x = x .at; y = y .at; vx = x .speed; vy = y .speed; p00 = p .p00; p01 = p .p01; p11 = p .p11; t = t }
+
+abbrev pub started : Float → Float → Float → Float → Float → Kf
+started x y t r v = kfOf (startAxis f64 x) (startAxis f64 y) (startCov f64 r v) t
+
+abbrev pub predicted : Kf → Float → Float → Kf
+predicted k t q =
+    let dt = sub binary64 t (k .t) in
+    kfOf (predictAxis f64 dt (axisX k)) (predictAxis f64 dt (axisY k)) (predictCov f64 q dt (covOf k)) t
+
+abbrev pub updated : Kf → Float → Float → Float → Updated
+updated k x y r =
+    let g = gain f64 r (covOf k) in
+    record {
+      kf = kfOf (updateAxis f64 g x (axisX k)) (updateAxis f64 g y (axisY k)) (updateCov f64 g (covOf k)) (k .t);
+      nll = nll f64 (g .s) (innovation f64 x (axisX k) ∷ innovation f64 y (axisY k) ∷ []);
+    }
+
+-- the logarithm of an update
+abbrev pub logOf : Kf → Float → Float
+logOf k r = logTerm f64 (gain f64 r (covOf k) .s)

@@ -1,0 +1,4 @@
+pub mod Plain
+pub mod Filter
+pub mod Textbook
+pub mod Cost

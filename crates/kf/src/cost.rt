@@ -1,0 +1,226 @@
+// The cost of a window of detections: a left fold over them, and a close.
+//
+// A window is given as a row: for each scan held one more than the place of its detection among the dots, 0 where it has none. Three numbers stand
+// for each dot: x, y and the variance of its position.
+use crate::filter::Kf;
+use engine::config::FgoConfig;
+use engine::types::ScanIndex;
+use scalar::log;
+ghost use mathlib.Core.Path.{_≡_};
+ghost use Prim.Native.Nat.{_+_, _*_, _-_, _<_, _≤_};
+ghost use lib.ListN.{take, drop};
+ghost use Rattle.kf.specs.Cost.{dotAt, gap, added, born, step, run, closed, cost, dets, detOf, viewOf, missesOf, Kept, Recalled, Asks};
+
+// Scans held at most: those of the lag, and the one that is pushed.
+pub const SCANS: usize = 17;
+
+// Detections in windows at most, and the numbers that stand for them.
+pub const DETECTIONS: usize = 128;
+
+pub const DOTS: usize = 384;
+
+// Logarithms kept at most.
+pub const KEPT: usize = 64;
+
+// Where the fold over a window stands.
+pub enum Fold {
+    // Nothing yet, and no frozen part.
+    Fresh,
+    // Nothing yet, after a frozen part: its filter and its last scan.
+    Frozen { kf: Kf, last: ScanIndex },
+    // After a detection.
+    Going(Run),
+}
+
+// The filter after the last detection, the NLLs so far, the last detection's scan, and the scans without a detection.
+pub struct Run {
+    pub kf: Kf,
+    pub total: f64,
+    pub last: ScanIndex,
+    pub misses: u64,
+}
+
+pub struct Dot {
+    pub x: f64,
+    pub y: f64,
+    pub r: f64,
+}
+
+// Dot i; NaN past the last.
+pub fn dot_at(dots: &[f64; DOTS], i: usize) -> Dot
+    ensures { λ d. ⌜ d ≡ dotAt (now (dots .entry)) i ⌝ }
+{
+    if i < DETECTIONS {
+        return Dot {
+            x: dots[3 * i],
+            y: dots[3 * i + 1],
+            r: dots[3 * i + 2],
+        };
+    }
+    let nan = 0.0 / 0.0;
+    Dot {
+        x: nan,
+        y: nan,
+        r: nan,
+    }
+}
+
+// The scans skipped between two.
+fn skipped(scan: u64, last: u64) -> u64
+    ensures { λ r. ⌜ r ≡ gap scan last ⌝ }
+{
+    if last < scan {
+        return scan - last - 1;
+    }
+    0
+}
+
+// The logarithm that an update of variance s adds, from those worked out before if it is there.
+fn log_of(s: f64, seen: &mut [u64; KEPT], logs: &mut [f64; KEPT]) -> f64
+    requires { ⌜ Kept (now seen) (now logs) ⌝ }
+    ensures { λ l. ⌜ Recalled s l (now (seen .exit)) (now (logs .exit)) ⌝ }
+{
+    if 0.0 < s {
+        let b = f64::to_bits(s);
+        let i = (b / 0x1_0000_0000 % 64) as usize;
+        if seen[i] == b {
+            return logs[i];
+        }
+        let l = log::ln(2.0 * 3.141592653589793 * s);
+        seen[i] = b;
+        logs[i] = l;
+        return l;
+    }
+    log::ln(2.0 * 3.141592653589793 * s)
+}
+
+impl Run {
+    // Predict to the detection's time, update with its position, and add its NLL; the scans skipped are misses.
+    fn add(
+        self,
+        c: FgoConfig,
+        scan: ScanIndex,
+        t: f64,
+        d: Dot,
+        seen: &mut [u64; KEPT],
+        logs: &mut [f64; KEPT],
+    ) -> Run
+        requires { ⌜ (self .misses + scan .0 < 18446744073709551616) × Kept (now seen) (now logs) ⌝ }
+        ensures { λ u. ⌜ (u ≡ added c self (detOf scan t d)) × Kept (now (seen .exit)) (now (logs .exit)) ⌝ }
+    {
+        let last = self.last;
+        let misses = self.misses + skipped(scan.0, last.0);
+        let kf = self.kf;
+        let total = self.total;
+        let p = kf.predict(t, c.accel_spectral_density);
+        let l = log_of(p.p00 + d.r, seen, logs);
+        let u = p.update_by(d.x, d.y, d.r, l);
+        let moved = u.kf;
+        Run {
+            kf: moved,
+            total: total + u.nll,
+            last: scan,
+            misses,
+        }
+    }
+}
+
+// A window that starts with a detection.
+fn born_at(c: FgoConfig, scan: ScanIndex, t: f64, d: Dot) -> Run
+    ensures { λ r. ⌜ r ≡ born c (detOf scan t d) ⌝ }
+{
+    let kf = Kf::start(d.x, d.y, t, d.r, c.initial_velocity_variance);
+    Run {
+        kf,
+        total: c.birth_cost,
+        last: scan,
+        misses: 0,
+    }
+}
+
+impl Fold {
+    // One detection more.
+    pub fn add(
+        self,
+        c: FgoConfig,
+        scan: ScanIndex,
+        t: f64,
+        d: Dot,
+        seen: &mut [u64; KEPT],
+        logs: &mut [f64; KEPT],
+    ) -> Fold
+        requires { ⌜ (missesOf self + scan .0 < 18446744073709551616) × Kept (now seen) (now logs) ⌝ }
+        ensures { λ f. ⌜ (f ≡ step c self (detOf scan t d)) × Kept (now (seen .exit)) (now (logs .exit)) ⌝ }
+    {
+        match self {
+            Fold::Fresh => Fold::Going(born_at(c, scan, t, d)),
+            Fold::Frozen { kf, last } => {
+                let r = Run {
+                    kf,
+                    total: 0.0,
+                    last,
+                    misses: 0,
+                };
+                Fold::Going(r.add(c, scan, t, d, seen, logs))
+            }
+            Fold::Going(r) => Fold::Going(r.add(c, scan, t, d, seen, logs)),
+        }
+    }
+
+    // The cost of the window that was folded.
+    pub fn close(self, c: FgoConfig) -> f64
+        ensures { λ r. ⌜ r ≡ closed c self ⌝ }
+    {
+        match self {
+            Fold::Fresh => 0.0,
+            Fold::Frozen { kf: _, last: _ } => 0.0,
+            Fold::Going(r) => r.total + std::num::nearest_u64_to_f64(r.misses) * c.miss_cost,
+        }
+    }
+}
+
+// The fold over a part of a row that begins at the held scan k: no row has a slot past the last scan.
+pub fn run_window<'a>(
+    c: FgoConfig,
+    from: Fold,
+    slots: &'a [usize],
+    k: usize,
+    first: ScanIndex,
+    times: &'a [f64; SCANS],
+    dots: &'a [f64; DOTS],
+    seen: &mut [u64; KEPT],
+    logs: &mut [f64; KEPT],
+) -> Fold
+    requires { ⌜ Asks (now slots) k first from (now seen) (now logs) ⌝ }
+    ensures { λ f. ⌜ (f ≡ run c from (dets (viewOf first (now (times .entry)) (now (dots .entry))) k (now (slots .entry)))) × Kept (now (seen .exit)) (now (logs .exit)) ⌝ }
+{
+    let mut f = from;
+    let mut i: usize = 0;
+    while i < slots.len() {
+        let code = slots[i];
+        if 0 < code {
+            let scan = ScanIndex(first.0 + (k + i) as u64);
+            f = f.add(c, scan, times[k + i], dot_at(dots, code - 1), seen, logs);
+        }
+        i += 1;
+    }
+    f
+}
+
+// The cost of a window, from a frozen part or from none.
+pub fn cost_of<'a>(
+    c: FgoConfig,
+    from: Fold,
+    slots: &'a [usize],
+    first: ScanIndex,
+    times: &'a [f64; SCANS],
+    dots: &'a [f64; DOTS],
+    seen: &mut [u64; KEPT],
+    logs: &mut [f64; KEPT],
+) -> f64
+    requires { ⌜ Asks (now slots) 0 first from (now seen) (now logs) ⌝ }
+    ensures { λ r. ⌜ (r ≡ cost c from (dets (viewOf first (now (times .entry)) (now (dots .entry))) 0 (now (slots .entry)))) × Kept (now (seen .exit)) (now (logs .exit)) ⌝ }
+{
+    let f = run_window(c, from, slots, 0, first, times, dots, seen, logs);
+    f.close(c)
+}

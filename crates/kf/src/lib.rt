@@ -1,0 +1,3 @@
+// The plain filter, and the cost of a window of detections.
+pub mod cost;
+pub mod filter;
