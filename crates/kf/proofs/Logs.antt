@@ -1,53 +1,81 @@
 -- Logarithms worked out before: what a table of them is when it begins, and after one is put in. Assumes nothing.
 use mathlib.Core.Path.{_≡_, refl, sym, ap, _∙_, subst}
-use mathlib.Core.Bool.{true}
+use mathlib.Core.Bool.{true, not}
 use mathlib.Core.List.{List}
-use Prim.Native.Nat.{ℕ, _<_}
+use Prim.Native.Nat.{ℕ, _+_, _*_, _<_}
 use native.Mathlib.Decide.{ℕ-discrete}
+use native.Mathlib.Omega.{arith}
 use lib.Dec.{T}
 use lib.ListN.{getD, set, replicate, getD-replicate, length-set}
 use lib.Seq.{getD-set-same, getD-set-other}
-use lib.Ieee.{Float, nan, binary64, fits, ofBits, toBits, lt}
+use lib.Ieee.{Float, nan, binary64, fits, isNan, ofBits, toBits, lt}
 use lib.Ieee.Bits.{ofBits-toBits}
 use Rattle.scalar.specs.F64.{f64}
+use Rattle.scalar.proofs.Positive.{positive-no-nan}
 use Rattle.kf.specs.Plain.{logTerm}
 use Rattle.kf.specs.Cost.{Kept, Recalled}
 
--- none yet: no pattern of 0 is above 0
-pub kept-none : Kept (replicate 64 0) (replicate 64 (ofBits binary64 0))
+abbrev nought : Float
+nought = ofBits binary64 0
+
+-- none yet: 0.0 is not above 0
+pub kept-none : Kept (replicate 256 nought)
 kept-none =
     record {
-      seen-long = refl;
-      logs-long = refl;
-      right = λ i h e. absurd (not-zero (subst (λ (b : ℕ). lt (ofBits binary64 0) (ofBits binary64 b) ≡ true) (getD-replicate 64 i 0 0 h) e));
+      long = refl;
+      variance = λ i h. subst (λ (x : Float). T (fits binary64 x) × T (not (isNan x))) (sym (zero-at i h)) held;
+      right = λ i h e. absurd (not-above (subst (λ (x : Float). lt nought x ≡ true) (zero-at i h) e));
     }
   where
-    not-zero : lt (ofBits binary64 0) (ofBits binary64 0) ≡ true → ⊥
-    not-zero e = unfold ofBits lt in subst T (sym e) tt
+    zero-at : (i : ℕ) → i < 128 → getD (replicate 256 nought) (2 * i) nan ≡ nought
+    zero-at i h = getD-replicate 256 (2 * i) nought nan (omega arith)
 
-module _ (s : Float) (held : T (fits binary64 s)) (above : lt (ofBits binary64 0) s ≡ true) (seen : List ℕ) (logs : List Float) (k : Kept seen logs) (i : ℕ) (h : i < 64) where
-  back : ofBits binary64 (toBits binary64 s) ≡ s
-  back = ofBits-toBits binary64 s held
+    held : T (fits binary64 nought) × T (not (isNan nought))
+    held = unfold ofBits fits isNan in (tt, tt)
 
+    not-above : lt nought nought ≡ true → ⊥
+    not-above e = unfold ofBits lt in subst T (sym e) tt
+
+module _ (s : Float) (held : T (fits binary64 s)) (above : lt nought s ≡ true) (logs : List Float) (k : Kept logs) (i : ℕ) (h : i < 128) where
   -- the one at i is that of s
-  pub found : getD seen i 0 ≡ toBits binary64 s → Recalled s (getD logs i nan) seen logs
+  pub found : toBits binary64 (getD logs (2 * i) nan) ≡ toBits binary64 s → Recalled s (getD logs (2 * i + 1) nan) logs
   found e =
-      let same : ofBits binary64 (getD seen i 0) ≡ s = ap (ofBits binary64) e ∙ back in
+      let same : getD logs (2 * i) nan ≡ s = sym (ofBits-toBits binary64 (getD logs (2 * i) nan) (k .variance i h .0)) ∙ ap (ofBits binary64) e ∙ ofBits-toBits binary64 s held in
       record { is = k .right i h (rw same above) ∙ ap (logTerm f64) same; kept = k }
 
   -- it is worked out, and put in at i
-  pub stored : (l : Float) → l ≡ logTerm f64 s → Recalled s l (set seen i (toBits binary64 s)) (set logs i l)
-  stored l e = record { is = e; kept = record { seen-long = simp length-set (k .seen-long); logs-long = simp length-set (k .logs-long); right = at } }
+  pub stored : (l : Float) → l ≡ logTerm f64 s → Recalled s l (set (set logs (2 * i) s) (2 * i + 1) l)
+  stored l e = record { is = e; kept = record { long = simp length-set (k .long); variance = even; right = odd } }
     where
-      at : (j : ℕ) → j < 64 → lt (ofBits binary64 0) (ofBits binary64 (getD (set seen i (toBits binary64 s)) j 0)) ≡ true
-          → getD (set logs i l) j nan ≡ logTerm f64 (ofBits binary64 (getD (set seen i (toBits binary64 s)) j 0))
-      at j g a = elim (ℕ-discrete j i) [
-        | yes q ↦
-            subst
-            (λ (n : ℕ). getD (set logs i l) n nan ≡ logTerm f64 (ofBits binary64 (getD (set seen i (toBits binary64 s)) n 0)))
-            (sym q)
-            (rw (getD-set-same logs i l nan (rw (k .logs-long) h), getD-set-same seen i (toBits binary64 s) 0 (rw (k .seen-long) h), back) e)
+      one-long : 2 * i + 1 < 256
+      one-long = omega arith
+
+      put : List Float
+      put = set (set logs (2 * i) s) (2 * i + 1) l
+
+      -- at i stands s, elsewhere what stood there
+      here : getD put (2 * i) nan ≡ s
+      here =
+          getD-set-other (set logs (2 * i) s) (2 * i + 1) (2 * i) l nan (λ (q : 2 * i ≡ 2 * i + 1). omega arith)
+          ∙ getD-set-same logs (2 * i) s nan (rw (k .long) (omega arith))
+
+      beside : getD put (2 * i + 1) nan ≡ l
+      beside = getD-set-same (set logs (2 * i) s) (2 * i + 1) l nan (rw (length-set logs (2 * i) s, k .long) one-long)
+
+      other : (n : ℕ) → (n ≡ 2 * i → ⊥) → (n ≡ 2 * i + 1 → ⊥) → getD put n nan ≡ getD logs n nan
+      other n a b = getD-set-other (set logs (2 * i) s) (2 * i + 1) n l nan b ∙ getD-set-other logs (2 * i) n s nan a
+
+      even : (j : ℕ) → j < 128 → T (fits binary64 (getD put (2 * j) nan)) × T (not (isNan (getD put (2 * j) nan)))
+      even j g = elim (ℕ-discrete j i) [
+        | yes q ↦ subst (λ (n : ℕ). T (fits binary64 (getD put (2 * n) nan)) × T (not (isNan (getD put (2 * n) nan)))) (sym q) (rw here (held, positive-no-nan s above))
+        | no q ↦ rw (other (2 * j) (λ (w : 2 * j ≡ 2 * i). q (omega arith)) (λ (w : 2 * j ≡ 2 * i + 1). omega arith)) (k .variance j g)
+      ]
+
+      odd : (j : ℕ) → j < 128 → lt nought (getD put (2 * j) nan) ≡ true → getD put (2 * j + 1) nan ≡ logTerm f64 (getD put (2 * j) nan)
+      odd j g a = elim (ℕ-discrete j i) [
+        | yes q ↦ subst (λ (n : ℕ). getD put (2 * n + 1) nan ≡ logTerm f64 (getD put (2 * n) nan)) (sym q) (rw (beside, here) e)
         | no q ↦
-            rw (getD-set-other logs i j l nan q, getD-set-other seen i j (toBits binary64 s) 0 q)
-            (k .right j g (subst (λ (b : ℕ). lt (ofBits binary64 0) (ofBits binary64 b) ≡ true) (getD-set-other seen i j (toBits binary64 s) 0 q) a))
+            let same = other (2 * j) (λ (w : 2 * j ≡ 2 * i). q (omega arith)) (λ (w : 2 * j ≡ 2 * i + 1). omega arith) in
+            rw (same, other (2 * j + 1) (λ (w : 2 * j + 1 ≡ 2 * i). omega arith) (λ (w : 2 * j + 1 ≡ 2 * i + 1). q (omega arith)))
+            (k .right j g (subst (λ (x : Float). lt nought x ≡ true) same a))
       ]

@@ -1,12 +1,12 @@
 -- Document 01, "Cost", and the windows that the code lends. Definitions only.
 use Prim.Native.Nat.{ℕ, zero, suc, _+_, _-_, _*_, _<_, _≤_}
 use mathlib.Core.Path.{_≡_}
-use mathlib.Core.Bool.{true, cond}
+use mathlib.Core.Bool.{true, cond, not}
 use mathlib.Core.List.{List, [], _∷_, foldl}
 use lib.ListN.{length, getD}
-use lib.Dec.{ltb}
+use lib.Dec.{T, ltb}
 use lib.IntN.{pos}
-use lib.Ieee.{Float, nan, binary64, ofBits, ofInt, add, mul, lt}
+use lib.Ieee.{Float, nan, binary64, fits, isNan, ofBits, ofInt, add, mul, lt}
 use Rattle.engine.specs.declared.config.FgoConfig.{FgoConfig}
 use Rattle.engine.specs.declared.types.ScanIndex.{ScanIndex}
 use Rattle.engine.specs.Config.{birth, miss, density, variance}
@@ -64,29 +64,31 @@ closed c (Going s) = add binary64 (s .total) (mul binary64 (ofInt binary64 (pos 
 abbrev pub cost : FgoConfig → Fold → List Det → Float
 cost c from ds = closed c (run c from ds)
 
--- ---- what the code lends: the number of the first scan, the scans' times, and x, y and r of each dot
+-- ---- what the code lends: the number of the first scan, and x, y, r and t of each dot
 
 pub record View : Type 0 where
   pub first : ℕ
-  pub times : List Float
   pub dots : List Float
 
-abbrev pub viewOf : ScanIndex → List Float → List Float → View
-viewOf first times dots = record { first = first .0; times = times; dots = dots }
+abbrev pub viewOf : ScanIndex → List Float → View
+viewOf first dots = record { first = first .0; dots = dots }
 
 abbrev pub noDot : Dot
-noDot = record { x = nan; y = nan; r = nan }
+noDot = record { x = nan; y = nan; r = nan; t = nan }
 
 -- dot i; NaN past the 128th
 abbrev pub dotAt : List Float → ℕ → Dot
-dotAt ds i = cond (ltb i 128) (record { x = getD ds (3 * i) nan; y = getD ds (3 * i + 1) nan; r = getD ds (3 * i + 2) nan }) noDot
+dotAt ds i =
+    cond (ltb i 128)
+    (record { x = getD ds (4 * i) nan; y = getD ds (4 * i + 1) nan; r = getD ds (4 * i + 2) nan; t = getD ds (4 * i + 3) nan })
+    noDot
 
-abbrev pub detOf : ScanIndex → Float → Dot → Det
-detOf scan t d = record { scan = scan .0; t = t; x = d .x; y = d .y; r = d .r }
+abbrev pub detOf : ScanIndex → Dot → Det
+detOf scan d = record { scan = scan .0; t = d .t; x = d .x; y = d .y; r = d .r }
 
 -- dot j, as the detection of the held scan k
 abbrev pub detAt : View → ℕ → ℕ → Det
-detAt v k j = detOf (record { 0 = v .first + k }) (getD (v .times) k nan) (dotAt (v .dots) j)
+detAt v k j = detOf (record { 0 = v .first + k }) (dotAt (v .dots) j)
 
 -- the detections of a row that begins at the held scan k: for each scan one more than the dot, 0 where there is none
 unfoldable pub dets : View → ℕ → List ℕ → List Det
@@ -101,19 +103,19 @@ missesOf Fresh = 0
 missesOf (Frozen k l) = 0
 missesOf (Going s) = s .misses
 
--- logarithms worked out before: at each place the pattern of a variance s above 0, and ln((2·pi)·s)
-pub record Kept (seen : List ℕ) (logs : List Float) : Type 0 where
-  pub seen-long : length seen ≡ 64
-  pub logs-long : length logs ≡ 64
-  pub right : (i : ℕ) → i < 64 → lt (ofBits binary64 0) (ofBits binary64 (getD seen i 0)) ≡ true → getD logs i nan ≡ logTerm f64 (ofBits binary64 (getD seen i 0))
+-- logarithms worked out before: a variance s above 0, and beside it ln((2·pi)·s); 0.0 where there is none
+pub record Kept (logs : List Float) : Type 0 where
+  pub long : length logs ≡ 256
+  pub variance : (i : ℕ) → i < 128 → T (fits binary64 (getD logs (2 * i) nan)) × T (not (isNan (getD logs (2 * i) nan)))
+  pub right : (i : ℕ) → i < 128 → lt (ofBits binary64 0) (getD logs (2 * i) nan) ≡ true → getD logs (2 * i + 1) nan ≡ logTerm f64 (getD logs (2 * i) nan)
 
-pub record Recalled (s l : Float) (seen : List ℕ) (logs : List Float) : Type 0 where
+pub record Recalled (s l : Float) (logs : List Float) : Type 0 where
   pub is : l ≡ logTerm f64 s
-  pub kept : Kept seen logs
+  pub kept : Kept logs
 
--- a row's part that ends within the 17 scans, scan numbers far below 2^64, and few misses so far
-pub record Asks (slots : List ℕ) (k : ℕ) (first : ScanIndex) (from : Fold) (seen : List ℕ) (logs : List Float) : Type 0 where
-  pub within : k + length slots ≤ 17
+-- a row's part of few slots, scan numbers far below 2^64, and few misses so far
+pub record Asks (slots : List ℕ) (k : ℕ) (first : ScanIndex) (from : Fold) (logs : List Float) : Type 0 where
+  pub short : k + length slots ≤ 17
   pub early : first .0 < 8589934592
   pub few : missesOf from < 1152921504606846976
-  pub kept : Kept seen logs
+  pub kept : Kept logs

@@ -1,7 +1,7 @@
 // The cost of a window of detections: a left fold over them, and a close.
 //
-// A window is given as a row: for each scan held one more than the place of its detection among the dots, 0 where it has none. Three numbers stand
-// for each dot: x, y and the variance of its position.
+// A window is given as a row: for each scan held one more than the place of its detection among the dots, 0 where it has none. Four numbers stand
+// for each dot: x, y, the variance of its position, and its scan's time in seconds.
 use crate::filter::Kf;
 use engine::config::FgoConfig;
 use engine::types::ScanIndex;
@@ -17,10 +17,10 @@ pub const SCANS: usize = 17;
 // Detections in windows at most, and the numbers that stand for them.
 pub const DETECTIONS: usize = 128;
 
-pub const DOTS: usize = 384;
+pub const DOTS: usize = 512;
 
-// Logarithms kept at most.
-pub const KEPT: usize = 64;
+// Logarithms worked out before, at most 128: a variance, and the logarithm that it adds.
+pub const LOGS: usize = 256;
 
 // Where the fold over a window stands.
 pub enum Fold {
@@ -44,6 +44,7 @@ pub struct Dot {
     pub x: f64,
     pub y: f64,
     pub r: f64,
+    pub t: f64,
 }
 
 // Dot i; NaN past the last.
@@ -52,9 +53,10 @@ pub fn dot_at(dots: &[f64; DOTS], i: usize) -> Dot
 {
     if i < DETECTIONS {
         return Dot {
-            x: dots[3 * i],
-            y: dots[3 * i + 1],
-            r: dots[3 * i + 2],
+            x: dots[4 * i],
+            y: dots[4 * i + 1],
+            r: dots[4 * i + 2],
+            t: dots[4 * i + 3],
         };
     }
     let nan = 0.0 / 0.0;
@@ -62,6 +64,7 @@ pub fn dot_at(dots: &[f64; DOTS], i: usize) -> Dot
         x: nan,
         y: nan,
         r: nan,
+        t: nan,
     }
 }
 
@@ -76,19 +79,19 @@ fn skipped(scan: u64, last: u64) -> u64
 }
 
 // The logarithm that an update of variance s adds, from those worked out before if it is there.
-fn log_of(s: f64, seen: &mut [u64; KEPT], logs: &mut [f64; KEPT]) -> f64
-    requires { ⌜ Kept (now seen) (now logs) ⌝ }
-    ensures { λ l. ⌜ Recalled s l (now (seen .exit)) (now (logs .exit)) ⌝ }
+fn log_of(s: f64, logs: &mut [f64; LOGS]) -> f64
+    requires { ⌜ Kept (now logs) ⌝ }
+    ensures { λ l. ⌜ Recalled s l (now (logs .exit)) ⌝ }
 {
     if 0.0 < s {
         let b = f64::to_bits(s);
-        let i = (b / 0x1_0000_0000 % 64) as usize;
-        if seen[i] == b {
-            return logs[i];
+        let i = (b / 0x1_0000_0000 % 128) as usize;
+        if f64::to_bits(logs[2 * i]) == b {
+            return logs[2 * i + 1];
         }
         let l = log::ln(2.0 * 3.141592653589793 * s);
-        seen[i] = b;
-        logs[i] = l;
+        logs[2 * i] = s;
+        logs[2 * i + 1] = l;
         return l;
     }
     log::ln(2.0 * 3.141592653589793 * s)
@@ -96,24 +99,16 @@ fn log_of(s: f64, seen: &mut [u64; KEPT], logs: &mut [f64; KEPT]) -> f64
 
 impl Run {
     // Predict to the detection's time, update with its position, and add its NLL; the scans skipped are misses.
-    fn add(
-        self,
-        c: FgoConfig,
-        scan: ScanIndex,
-        t: f64,
-        d: Dot,
-        seen: &mut [u64; KEPT],
-        logs: &mut [f64; KEPT],
-    ) -> Run
-        requires { ⌜ (self .misses + scan .0 < 18446744073709551616) × Kept (now seen) (now logs) ⌝ }
-        ensures { λ u. ⌜ (u ≡ added c self (detOf scan t d)) × Kept (now (seen .exit)) (now (logs .exit)) ⌝ }
+    fn add(self, c: FgoConfig, scan: ScanIndex, d: Dot, logs: &mut [f64; LOGS]) -> Run
+        requires { ⌜ (self .misses + scan .0 < 18446744073709551616) × Kept (now logs) ⌝ }
+        ensures { λ u. ⌜ (u ≡ added c self (detOf scan d)) × Kept (now (logs .exit)) ⌝ }
     {
         let last = self.last;
         let misses = self.misses + skipped(scan.0, last.0);
         let kf = self.kf;
         let total = self.total;
-        let p = kf.predict(t, c.accel_spectral_density);
-        let l = log_of(p.p00 + d.r, seen, logs);
+        let p = kf.predict(d.t, c.accel_spectral_density);
+        let l = log_of(p.p00 + d.r, logs);
         let u = p.update_by(d.x, d.y, d.r, l);
         let moved = u.kf;
         Run {
@@ -126,10 +121,10 @@ impl Run {
 }
 
 // A window that starts with a detection.
-fn born_at(c: FgoConfig, scan: ScanIndex, t: f64, d: Dot) -> Run
-    ensures { λ r. ⌜ r ≡ born c (detOf scan t d) ⌝ }
+fn born_at(c: FgoConfig, scan: ScanIndex, d: Dot) -> Run
+    ensures { λ r. ⌜ r ≡ born c (detOf scan d) ⌝ }
 {
-    let kf = Kf::start(d.x, d.y, t, d.r, c.initial_velocity_variance);
+    let kf = Kf::start(d.x, d.y, d.t, d.r, c.initial_velocity_variance);
     Run {
         kf,
         total: c.birth_cost,
@@ -140,20 +135,12 @@ fn born_at(c: FgoConfig, scan: ScanIndex, t: f64, d: Dot) -> Run
 
 impl Fold {
     // One detection more.
-    pub fn add(
-        self,
-        c: FgoConfig,
-        scan: ScanIndex,
-        t: f64,
-        d: Dot,
-        seen: &mut [u64; KEPT],
-        logs: &mut [f64; KEPT],
-    ) -> Fold
-        requires { ⌜ (missesOf self + scan .0 < 18446744073709551616) × Kept (now seen) (now logs) ⌝ }
-        ensures { λ f. ⌜ (f ≡ step c self (detOf scan t d)) × Kept (now (seen .exit)) (now (logs .exit)) ⌝ }
+    pub fn add(self, c: FgoConfig, scan: ScanIndex, d: Dot, logs: &mut [f64; LOGS]) -> Fold
+        requires { ⌜ (missesOf self + scan .0 < 18446744073709551616) × Kept (now logs) ⌝ }
+        ensures { λ f. ⌜ (f ≡ step c self (detOf scan d)) × Kept (now (logs .exit)) ⌝ }
     {
         match self {
-            Fold::Fresh => Fold::Going(born_at(c, scan, t, d)),
+            Fold::Fresh => Fold::Going(born_at(c, scan, d)),
             Fold::Frozen { kf, last } => {
                 let r = Run {
                     kf,
@@ -161,9 +148,9 @@ impl Fold {
                     last,
                     misses: 0,
                 };
-                Fold::Going(r.add(c, scan, t, d, seen, logs))
+                Fold::Going(r.add(c, scan, d, logs))
             }
-            Fold::Going(r) => Fold::Going(r.add(c, scan, t, d, seen, logs)),
+            Fold::Going(r) => Fold::Going(r.add(c, scan, d, logs)),
         }
     }
 
@@ -179,20 +166,18 @@ impl Fold {
     }
 }
 
-// The fold over a part of a row that begins at the held scan k: no row has a slot past the last scan.
+// The fold over a part of a row that begins at the held scan k.
 pub fn run_window<'a>(
     c: FgoConfig,
     from: Fold,
     slots: &'a [usize],
     k: usize,
     first: ScanIndex,
-    times: &'a [f64; SCANS],
     dots: &'a [f64; DOTS],
-    seen: &mut [u64; KEPT],
-    logs: &mut [f64; KEPT],
+    logs: &mut [f64; LOGS],
 ) -> Fold
-    requires { ⌜ Asks (now slots) k first from (now seen) (now logs) ⌝ }
-    ensures { λ f. ⌜ (f ≡ run c from (dets (viewOf first (now (times .entry)) (now (dots .entry))) k (now (slots .entry)))) × Kept (now (seen .exit)) (now (logs .exit)) ⌝ }
+    requires { ⌜ Asks (now slots) k first from (now logs) ⌝ }
+    ensures { λ f. ⌜ (f ≡ run c from (dets (viewOf first (now (dots .entry))) k (now (slots .entry)))) × Kept (now (logs .exit)) ⌝ }
 {
     let mut f = from;
     let mut i: usize = 0;
@@ -200,7 +185,7 @@ pub fn run_window<'a>(
         let code = slots[i];
         if 0 < code {
             let scan = ScanIndex(first.0 + (k + i) as u64);
-            f = f.add(c, scan, times[k + i], dot_at(dots, code - 1), seen, logs);
+            f = f.add(c, scan, dot_at(dots, code - 1), logs);
         }
         i += 1;
     }
@@ -213,14 +198,12 @@ pub fn cost_of<'a>(
     from: Fold,
     slots: &'a [usize],
     first: ScanIndex,
-    times: &'a [f64; SCANS],
     dots: &'a [f64; DOTS],
-    seen: &mut [u64; KEPT],
-    logs: &mut [f64; KEPT],
+    logs: &mut [f64; LOGS],
 ) -> f64
-    requires { ⌜ Asks (now slots) 0 first from (now seen) (now logs) ⌝ }
-    ensures { λ r. ⌜ (r ≡ cost c from (dets (viewOf first (now (times .entry)) (now (dots .entry))) 0 (now (slots .entry)))) × Kept (now (seen .exit)) (now (logs .exit)) ⌝ }
+    requires { ⌜ Asks (now slots) 0 first from (now logs) ⌝ }
+    ensures { λ r. ⌜ (r ≡ cost c from (dets (viewOf first (now (dots .entry))) 0 (now (slots .entry)))) × Kept (now (logs .exit)) ⌝ }
 {
-    let f = run_window(c, from, slots, 0, first, times, dots, seen, logs);
+    let f = run_window(c, from, slots, 0, first, dots, logs);
     f.close(c)
 }

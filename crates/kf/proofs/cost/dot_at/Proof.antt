@@ -38,8 +38,20 @@ mul-t18 c = search needs
 element-copy-out-t21 : tie.Need-element-copy-out-t21
 element-copy-out-t21 c = search needs
 
+mul-t22 : tie.Need-mul-t22
+mul-t22 c = search needs
+
+add-t23 : tie.Need-add-t23
+add-t23 c = search needs
+
+mul-t24 : tie.Need-mul-t24
+mul-t24 c = search needs
+
+element-copy-out-t27 : tie.Need-element-copy-out-t27
+element-copy-out-t27 c = search needs
+
 returns : tie.Need-returns
-returns c = rw (lt-ltb _ _ (c .before .before .before .if1 .taken))
+returns c = rw (lt-ltb _ _ (c .before .before .before .before .if1 .taken))
 
 returns-2 : tie.Need-returns-2
 unfolding ofBits div
@@ -60,5 +72,9 @@ dot-at-spec =
     add-t17
     mul-t18
     element-copy-out-t21
+    mul-t22
+    add-t23
+    mul-t24
+    element-copy-out-t27
     returns
     returns-2)

@@ -11,10 +11,10 @@ use Rattle.kf.proofs.cost.run_window.Statement.{statement}
 use Rattle.kf.proofs.cost.run_window.Tie as tie
 
 abbrev Inv-loop : tie.InvT-loop
-Inv-loop c slots k first times dots seen₀ logs₀ f₀ i₀ seen logs f i = Inv c (viewOf first times dots) f₀ slots k f i × Kept seen logs
+Inv-loop c slots k first dots logs₀ f₀ i₀ logs f i = Inv c (viewOf first dots) f₀ slots k f i × Kept logs
 
 abbrev μ-loop : tie.MeasureT-loop
-μ-loop c slots k first times dots seen₀ logs₀ f₀ i₀ seen logs f i = length slots - i
+μ-loop c slots k first dots logs₀ f₀ i₀ logs f i = length slots - i
 
 loop-holds : tie.Need-loop-holds Inv-loop μ-loop
 loop-holds c = (record { within = omega arith; few = omega arith; rest = rw (add-zero (c .before .args .k)) refl }, c .before .pre .kept)
@@ -25,20 +25,11 @@ mul-code c = omega (arith, c .before .before .before .good)
 shared-slice-read-code : tie.Need-shared-slice-read-code Inv-loop μ-loop
 shared-slice-read-code c = c .before .loop-test .taken
 
+add-t16 : tie.Need-add-t16 Inv-loop μ-loop
+add-t16 c = let p = c .before .before .before .before .before .pre in omega (arith, p .short, c .before .before .loop-test .taken)
+
 add-t18 : tie.Need-add-t18 Inv-loop μ-loop
-add-t18 c = let p = c .before .before .before .before .before .pre in omega (arith, p .within, c .before .before .loop-test .taken)
-
-add-t20 : tie.Need-add-t20 Inv-loop μ-loop
-add-t20 c = let p = c .before .before .before .before .before .before .pre in omega (arith, p .within, p .early, c .before .before .before .loop-test .taken)
-
-add-add : tie.Need-add-add Inv-loop μ-loop
-add-add c = let p = c .before .before .before .before .before .before .pre in omega (arith, p .within, c .before .before .before .loop-test .taken)
-
-mul-add : tie.Need-mul-add Inv-loop μ-loop
-mul-add c = let p = c .before .before .before .before .before .before .pre in omega (arith, p .within, c .before .before .before .loop-test .taken)
-
-element-copy-out-add : tie.Need-element-copy-out-add Inv-loop μ-loop
-element-copy-out-add c = let p = c .before .before .before .before .before .before .pre in omega (arith, p .within, c .before .before .before .loop-test .taken)
+add-t18 c = let p = c .before .before .before .before .before .before .pre in omega (arith, p .short, p .early, c .before .before .before .loop-test .taken)
 
 sub-dot-at : tie.Need-sub-dot-at Inv-loop μ-loop
 sub-dot-at c = omega arith
@@ -47,7 +38,7 @@ dot-at-requires : tie.Need-dot-at-requires Inv-loop μ-loop
 dot-at-requires c κs = tt
 
 add-requires : tie.Need-add-requires Inv-loop μ-loop
-add-requires c κs = let p = c .before .before .before .before .before .before .before .before .before .before .pre in let v = c .before .before .before .before .before .before .before .before .loop .inv in (omega (arith, p .within, p .early, p .few, v .0 .few, c .before .before .before .before .before .before .before .loop-test .taken, v .0 .within), v .1)
+add-requires c κs = let p = c .before .before .before .before .before .before .before .before .pre in let v = c .before .before .before .before .before .before .loop .inv in (omega (arith, p .short, p .early, p .few, v .0 .few, c .before .before .before .before .before .loop-test .taken, v .0 .within), v .1)
 
 add-i : tie.Need-add-i Inv-loop μ-loop
 add-i c = omega arith
@@ -58,8 +49,8 @@ loop-less c = omega arith
 loop-again : tie.Need-loop-again Inv-loop μ-loop
 loop-again c = let s = c .before .before .before .before .before in let v = c .before .before .before .loop .inv in let t = c .before .before .loop-test .taken in
     ⊎-elim
-    (λ w. rw (w .7, w .8, w .9, w .6 .ensures .0, w .3 .ensures) (takes (v .0) t (w .0 .taken) (omega (arith, s .pre .within, s .pre .early)), w .6 .ensures .1))
-    (λ w. rw (w .1, w .2, w .3) (skips (v .0) t (w .0 .left), v .1))
+    (λ w. rw (w .5, w .6, w .4 .ensures .0, w .2 .ensures) (takes (v .0) t (w .0 .taken) (omega (arith, s .pre .short, s .pre .early)), w .4 .ensures .1))
+    (λ w. rw (w .1, w .2) (skips (v .0) t (w .0 .left), v .1))
     (c .if1 .came)
 
 returns : tie.Need-returns Inv-loop μ-loop
@@ -74,11 +65,8 @@ run-window-spec =
     loop-holds
     mul-code
     shared-slice-read-code
+    add-t16
     add-t18
-    add-t20
-    add-add
-    mul-add
-    element-copy-out-add
     sub-dot-at
     dot-at-requires
     add-requires

@@ -22,19 +22,19 @@ enum-known-self-2 : tie.Need-enum-known-self-2
 enum-known-self-2 c = search needs
 
 add-requires-2 : tie.Need-add-requires-2
-add-requires-2 c κs = let s = c .before .before .before .before .before in (subst (λ f. missesOf f + s .args .scan .0 < 18446744073709551616) (c .before .before .before .self2 .given .1) (s .pre .0), s .pre .1)
+add-requires-2 c κs = let s = c .before .before .before .before in (subst (λ f. missesOf f + s .args .scan .0 < 18446744073709551616) (c .before .before .self2 .given .1) (s .pre .0), s .pre .1)
 
 returns : tie.Need-returns
 unfolding step
-returns c = let s = c .before .before .before in (rw (c .before .enum-told .given .1, c .born-at .ensures) refl, s .pre .1)
+returns c = (rw (c .before .enum-told .given .1, c .born-at .ensures) refl, c .before .before .before .pre .1)
 
 returns-2 : tie.Need-returns-2
 unfolding step
-returns-2 c = let s = c .before .before .before .before .before .before in (rw (c .before .before .before .before .self .given .1, c .add .ensures .0) refl, c .add .ensures .1)
+returns-2 c = (rw (c .before .before .before .self .given .1, c .add .ensures .0) refl, c .add .ensures .1)
 
 returns-3 : tie.Need-returns-3
 unfolding step
-returns-3 c = let s = c .before .before .before .before .before .before in (rw (c .before .before .before .before .self2 .given .1, c .add2 .ensures .0) refl, c .add2 .ensures .1)
+returns-3 c = (rw (c .before .before .before .self2 .given .1, c .add2 .ensures .0) refl, c .add2 .ensures .1)
 
 pub add-spec : {M : Type 1} → statement M
 add-spec =

@@ -22,7 +22,7 @@ update-by-requires c κs = search needs
 
 returns : tie.Need-returns
 unfolding added
-returns c = (rw (c .before .before .update-by .ensures, c .before .before .before .before .before .before .before .before .predict .ensures, c .before .before .before .before .before .before .before .before .before .before .before .skipped .ensures) refl, c .before .before .before .log-of .ensures .kept)
+returns c = (rw (c .before .before .update-by .ensures, c .before .before .before .before .before .before .before .predict .ensures, c .before .before .before .before .before .before .before .before .before .before .skipped .ensures) refl, c .before .before .before .log-of .ensures .kept)
 
 pub add-spec : {M : Type 1} → statement M
 add-spec =
