@@ -1,0 +1,4 @@
+pub mod Grown
+pub mod Matrix
+pub mod Cholesky
+pub mod Rows

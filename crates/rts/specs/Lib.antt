@@ -1,0 +1,2 @@
+pub mod Smoothing
+pub mod Published

@@ -1,0 +1,60 @@
+-- One step of the backward pass over any arithmetic: each operation once, in the order of document 01. Definitions only.
+use mathlib.Core.Bool.{cond}
+use mathlib.Core.List.{List}
+use Rattle.scalar.specs.Num.{Num}
+use Rattle.linalg.specs.Matrix.{mul, mulVec, transpose, add, sub, halfSum}
+use Rattle.linalg.specs.Cholesky.{cholesky, positive, inverse}
+use Rattle.models.specs.Motion.{cvF, cvQ}
+use Rattle.rts.specs.declared.Step.{Step}
+use Rattle.rts.specs.declared.Step.the-variants.{Smoothed, Skipped, Failed}
+
+-- a track's state, six numbers x, and its covariance p
+pub record Estimate (F : Type 0) : Type 0 where
+  pub x : List F
+  pub p : List F
+
+-- what a step did, and the state that it leaves
+pub record Answer (F : Type 0) : Type 0 where
+  pub step : Step
+  pub state : Estimate F
+
+abbrev pub estimate : {F : Type 0} → List F → List F → Estimate F
+estimate x p = record { x = x; p = p }
+
+abbrev pub answer : {F : Type 0} → Step → Estimate F → Answer F
+answer r e = record { step = r; state = e }
+
+module _ (N : Num) where
+  open Num N using (F, le, zero)
+
+  -- "x_pred = f·x"
+  unfoldable pub xPred : F → List F → List F
+  xPred dt x = mulVec N (cvF N dt) x
+
+  -- "p_pred = f·p·fᵀ + cv_q6"
+  unfoldable pub pPred : F → F → List F → List F
+  pPred q dt p = add N 36 (mul N (mul N (cvF N dt) p) (transpose N (cvF N dt))) (cvQ N dt q)
+
+  -- "gain = (p·fᵀ)·inverse", by Cholesky's factor l of p_pred
+  unfoldable pub gain : F → List F → List F → List F
+  gain dt p l = mul N (mul N p (transpose N (cvF N dt))) (inverse N l)
+
+  -- "xs = x + gain·(xs − x_pred)"
+  unfoldable pub smoothedX : F → List F → List F → List F → List F
+  smoothedX dt x g xs = add N 6 x (mulVec N g (sub N 6 xs (xPred dt x)))
+
+  -- "ps = p + (gain·(ps − p_pred))·gainᵀ, then 0.5·(ps + psᵀ)"
+  unfoldable pub smoothedP : List F → List F → List F → List F → List F
+  smoothedP p pp g ps = halfSum N (add N 36 p (mul N (mul N g (sub N 36 ps pp)) (transpose N g)))
+
+  unfoldable pub smoothed : F → F → Estimate F → Estimate F → Estimate F
+  smoothed q dt a s =
+      let pp = pPred q dt (a .p) in
+      let g = gain dt (a .p) (cholesky N pp) in
+      estimate (smoothedX dt (a .x) g (s .x)) (smoothedP (a .p) pp g (s .p))
+
+  -- the state a, followed dt later by one whose smoothed form is s. Where the step is not taken, s stays:
+  -- "dt ≤ 0.0 skips, keeping the later state"; and Cholesky fails where a pivot of p_pred is not above 0
+  unfoldable pub back : F → F → Estimate F → Estimate F → Answer F
+  back q dt a s =
+      cond (le dt zero) (answer Skipped s) (cond (positive N (pPred q dt (a .p))) (answer Smoothed (smoothed q dt a s)) (answer Failed s))
