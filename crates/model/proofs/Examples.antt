@@ -1,0 +1,281 @@
+-- Examples without a letter: edges that document 01 names, and runs that the checker computes, from the bytes of the bodies to the emitted words and
+-- numbers. What these should give was read off the published Rust, with document 01's logarithm. Assumes nothing.
+use Prim.Native.Nat.{ℕ, suc}
+use mathlib.Core.Path.{_≡_, refl}
+use mathlib.Core.Bool.{true, false}
+use mathlib.Core.List.{List, [], _∷_, _++_, map, flatMap}
+use lib.Count.{trailingZeros}
+use lib.ListN.{length}
+use lib.IntN.{pos}
+use lib.Ieee.{binary64, add, sub, mul, div, lt, round, ofInt, ofBits, toBits, neg, sum, units, odd, size, span, climb, ofFields}
+use Rattle.scalar.specs.Scalar.{finite, bitsOf}
+use Rattle.scalar.specs.Ln.{lnOf}
+use Rattle.engine.specs.declared.config.FgoConfig.{FgoConfig}
+use Rattle.engine.specs.declared.types.ClassLabel.the-variants.{Unknown}
+use Rattle.engine.specs.Config.{defaults}
+use Rattle.engine.specs.Little.{little}
+use Rattle.engine.specs.Body.{all, codeOk, presentOk, timeOk, trackOk, associationOk, observationOk, indexOk, headOk, tracksOk, associationsOk, observationsOk, indicesOk, refusal, rows, trackAt, observationAt, associationAt, frameOf, decode}
+use Rattle.engine.specs.Encode.{bytesOf}
+use Rattle.kf.specs.Cost.{added, step as costStep, run as costRun, closed}
+use Rattle.model.specs.Lists.{keep, any, upFrom, insert, find, put, assign}
+use Rattle.model.specs.Windows.{Dot, Prefix, classAmong, dotOf, under, window, present, price}
+use Rattle.model.specs.Placing.{place}
+use Rattle.model.specs.Searching.{recolumn, shared, rest, costOf, close, isCut, cuts, pairsWith, pairs, trySwap, tryMerge, pairCandidates, bestOfPair, trySplit, tryDrop, trackCandidates, bestOfTrack, pairStep, trackStep, pass, passes, improve}
+use Rattle.model.specs.Owning.{holderIn, latest, reown}
+use Rattle.model.specs.Freezing.{mean, freeze, freezeAll, listable, remember}
+use Rattle.model.specs.Emitting.{Listed, report, listing, associationsWords, wordsOf, numbersOf}
+use Rattle.model.specs.Refiner.{arrive, emit, leave, release, settle, full8, full9, full10, pushFrame, push, takes}
+use Rattle.model.specs.History.{Op, pushed, taken, Run, step, run}
+
+-- ---- edges
+
+-- "defaults: age 500,000,000 listed, one more not"
+pub listed-until : (p : Prefix) → p .lastNs ≡ pos 0 → (listable defaults (pos 500000000) (1, p) ≡ true) × (listable defaults (pos 500000001) (1, p) ≡ false)
+listed-until p e = (rw e, rw e)
+
+-- "at a squared distance below radius²": 1.5 metres are not below 1.5, and 1.25 are
+abbrev spot : ℕ → Dot
+spot x = let o = ofBits binary64 0 in record { scan = 0; time = pos 0; x = ofBits binary64 x; y = o; z = o; class = Unknown }
+
+pub close-below : (close defaults 0 [] (spot 0) (spot 0x3ff8_0000_0000_0000) ≡ false) × (close defaults 0 [] (spot 0) (spot 0x3ff4_0000_0000_0000) ≡ true)
+unfolding close add sub mul lt round ofBits neg sum units odd size span climb ofFields trailingZeros
+close-below = (refl, refl)
+
+-- ---- bodies
+
+-- a dot and the engine id of its association
+record Sight : Type 0 where
+  x : ℕ
+  y : ℕ
+  z : ℕ
+  engine : ℕ
+
+abbrev sight : ℕ → ℕ → ℕ → ℕ → Sight
+sight x y z e = record { x = x; y = y; z = z; engine = e }
+
+spotBytes : Sight → List ℕ
+spotBytes s = bytesOf 8 (s .x) ++ (bytesOf 8 (s .y) ++ bytesOf 8 (s .z))
+
+-- "Associations: bytes index, id present, outcome, cost present, four zeros, u64 id, f64 cost", of outcome 1 and without a cost
+sightBytes : ℕ → List Sight → List ℕ
+sightBytes i [] = []
+sightBytes i (s ∷ l) = (i ∷ 1 ∷ 1 ∷ 0 ∷ bytesOf 4 0) ++ (bytesOf 8 (s .engine) ++ (bytesOf 8 0 ++ sightBytes (suc i) l))
+
+-- a body of mode 0 without engine tracks
+body : ℕ → List Sight → List ℕ
+body t l = (0 ∷ 0 ∷ length l ∷ length l ∷ bytesOf 4 0) ++ (bytesOf 8 t ++ (flatMap spotBytes l ++ sightBytes 0 l))
+
+-- default settings, with another lag
+abbrev pub lagging : ℕ → FgoConfig
+lagging n =
+    record {
+      «lag_frames» = n;
+      «radius_m» = defaults .«radius_m»;
+      «birth_cost» = defaults .«birth_cost»;
+      «miss_cost» = defaults .«miss_cost»;
+      «clutter_cost» = defaults .«clutter_cost»;
+      «accel_spectral_density» = defaults .«accel_spectral_density»;
+      «position_sigma_m» = defaults .«position_sigma_m»;
+      «initial_velocity_variance» = defaults .«initial_velocity_variance»;
+      «coast_ns» = defaults .«coast_ns»;
+      «forget_after_ns» = defaults .«forget_after_ns»;
+      «max_passes» = defaults .«max_passes»;
+    }
+
+-- "swaps, merges, splits, drops"
+counts : Run → List ℕ
+counts r = let k = r .state .counters in k .swaps ∷ k .merges ∷ k .splits ∷ k .drops ∷ []
+
+-- position, speed, p00, p01 and p11
+figures : Listed → List ℕ
+figures l = let k = l .kf in map bitsOf (k .x ∷ k .y ∷ l .height ∷ k .vx ∷ k .vy ∷ k .p00 ∷ k .p01 ∷ k .p11 ∷ [])
+
+-- of each emitted frame its words, then the figures of each listed track; at the end the counters. What has to be computed for that is opened here.
+pub shown : FgoConfig → List Op → List (List ℕ)
+unfolding run step push takes decode refusal headOk tracksOk associationsOk observationsOk indicesOk all codeOk presentOk timeOk trackOk associationOk observationOk indexOk rows trackAt observationAt associationAt frameOf little bytesOf spotBytes sightBytes body flatMap finite pushFrame arrive emit leave release settle full8 full9 full10 report listing associationsWords wordsOf numbersOf mean freeze freezeAll remember holderIn latest reown recolumn shared rest costOf close isCut cuts pairsWith pairs trySwap tryMerge pairCandidates bestOfPair trySplit tryDrop trackCandidates bestOfTrack pairStep trackStep pass passes improve place classAmong dotOf under window present price keep any upFrom insert find put assign added costStep costRun closed lnOf add sub mul div lt round ofInt ofBits toBits neg sum units odd size span climb ofFields trailingZeros counts figures
+shown c ops = let r = run c ops in flatMap (λ e. wordsOf e ∷ map figures (e .tracks)) (r .emitted) ++ (counts r ∷ [])
+
+-- ---- document 01's printed frame
+
+-- "Default settings with lag 0, one frame: mode 0, time 0, no engine track, observation (1, 2, 0.5), association 0 with engine id 7, outcome 1"
+pub printedRun : List Op
+printedRun = pushed (body 0 (sight 0x3ff0_0000_0000_0000 0x4000_0000_0000_0000 0x3fe0_0000_0000_0000 7 ∷ [])) ∷ []
+
+abbrev pub printedShows : List (List ℕ)
+printedShows =
+    (0 ∷ 0 ∷ 1 ∷ 1 ∷ 0 ∷ 0 ∷ 1 ∷ 0 ∷ 0 ∷ 0 ∷ 4294967296 ∷ 1 ∷ 0 ∷ 1 ∷ 1 ∷ 0 ∷ [])
+    ∷ (0x3ff0_0000_0000_0000 ∷ 0x4000_0000_0000_0000 ∷ 0x3fe0_0000_0000_0000 ∷ 0 ∷ 0 ∷ 0x3fb0_0000_0000_0000 ∷ 0 ∷ 0x3ff0_0000_0000_0000 ∷ [])
+    ∷ (0 ∷ 0 ∷ 0 ∷ 0 ∷ [])
+    ∷ []
+
+pub printed-is : shown (lagging 0) printedRun ≡ printedShows
+unfolding shown printedRun
+printed-is = refl
+
+-- its numbers in their places: position and velocity, the covariance by rows, the cost
+abbrev pub printedNumbers : List ℕ
+printedNumbers =
+    0x3ff0_0000_0000_0000 ∷ 0x4000_0000_0000_0000 ∷ 0x3fe0_0000_0000_0000 ∷ 0 ∷ 0 ∷ 0
+    ∷ 0x3fb0_0000_0000_0000 ∷ 0 ∷ 0 ∷ 0 ∷ 0 ∷ 0
+    ∷ 0 ∷ 0x3fb0_0000_0000_0000 ∷ 0 ∷ 0 ∷ 0 ∷ 0
+    ∷ 0 ∷ 0 ∷ 0x3fb0_0000_0000_0000 ∷ 0 ∷ 0 ∷ 0
+    ∷ 0 ∷ 0 ∷ 0 ∷ 0x3ff0_0000_0000_0000 ∷ 0 ∷ 0
+    ∷ 0 ∷ 0 ∷ 0 ∷ 0 ∷ 0x3ff0_0000_0000_0000 ∷ 0
+    ∷ 0 ∷ 0 ∷ 0 ∷ 0 ∷ 0 ∷ 0x3fb0_0000_0000_0000
+    ∷ 0 ∷ []
+
+pub printed-numbers : map (λ e. map bitsOf (numbersOf e)) (run (lagging 0) printedRun .emitted) ≡ printedNumbers ∷ []
+unfolding shown printedRun
+printed-numbers = refl
+
+-- ---- one run each in which a swap, a merge, a split and a drop is chosen
+
+-- two people side by side; the engine exchanges their ids in the fourth frame, when each has a frozen part, and a swap undoes it
+pub swapRun : List Op
+swapRun =
+    pushed (body 0 (sight 0 0 0x3fe0_0000_0000_0000 7 ∷ sight 0 0x3ff0_0000_0000_0000 0x3ff0_0000_0000_0000 8 ∷ []))
+    ∷ pushed (body 100000000 (sight 0x3fd0_0000_0000_0000 0 0x3fe0_0000_0000_0000 7 ∷ sight 0x3fd0_0000_0000_0000 0x3ff0_0000_0000_0000 0x3ff0_0000_0000_0000 8 ∷ []))
+    ∷ pushed (body 200000000 (sight 0x3fe0_0000_0000_0000 0 0x3fe0_0000_0000_0000 7 ∷ sight 0x3fe0_0000_0000_0000 0x3ff0_0000_0000_0000 0x3ff0_0000_0000_0000 8 ∷ []))
+    ∷ pushed (body 300000000 (sight 0x3fe8_0000_0000_0000 0 0x3fe0_0000_0000_0000 8 ∷ sight 0x3fe8_0000_0000_0000 0x3ff0_0000_0000_0000 0x3ff0_0000_0000_0000 7 ∷ []))
+    ∷ taken ∷ taken ∷ []
+
+abbrev pub swapShows : List (List ℕ)
+swapShows =
+    (0 ∷ 0 ∷ 2 ∷ 2 ∷ 0 ∷ 0 ∷ 1 ∷ 0 ∷ 0 ∷ 0 ∷ 4294967296 ∷ 1 ∷ 2 ∷ 0 ∷ 0 ∷ 0 ∷ 4294967296 ∷ 1 ∷ 0 ∷ 1 ∷ 1 ∷ 0 ∷ 1 ∷ 2 ∷ 1 ∷ 0 ∷ [])
+    ∷ (0 ∷ 0 ∷ 0x3fe0_0000_0000_0000 ∷ 0 ∷ 0 ∷ 0x3fb0_0000_0000_0000 ∷ 0 ∷ 0x3ff0_0000_0000_0000 ∷ [])
+    ∷ (0 ∷ 0x3ff0_0000_0000_0000 ∷ 0x3ff0_0000_0000_0000 ∷ 0 ∷ 0 ∷ 0x3fb0_0000_0000_0000 ∷ 0 ∷ 0x3ff0_0000_0000_0000 ∷ [])
+    ∷ (100000000 ∷ 0 ∷ 2 ∷ 2 ∷ 0 ∷ 0 ∷ 1 ∷ 1 ∷ 100000000 ∷ 0 ∷ 4294967296 ∷ 2 ∷ 2 ∷ 1 ∷ 100000000 ∷ 0 ∷ 4294967296 ∷ 2 ∷ 0 ∷ 1 ∷ 1 ∷ 0 ∷ 1 ∷ 2 ∷ 1 ∷ 0 ∷ [])
+    ∷ (0x3fc1_3415_7700_f26e ∷ 0 ∷ 0x3fe0_0000_0000_0000 ∷ 0x3fc8_442e_b7b6_c458 ∷ 0 ∷ 0x3fa1_3415_7700_f26d ∷ 0x3fa8_442e_b7b6_c456 ∷ 0x3fef_1cd9_ee73_06c2 ∷ [])
+    ∷ (0x3fc1_3415_7700_f26e ∷ 0x3ff0_0000_0000_0000 ∷ 0x3ff0_0000_0000_0000 ∷ 0x3fc8_442e_b7b6_c458 ∷ 0 ∷ 0x3fa1_3415_7700_f26d ∷ 0x3fa8_442e_b7b6_c456 ∷ 0x3fef_1cd9_ee73_06c2 ∷ [])
+    ∷ (200000000 ∷ 0 ∷ 2 ∷ 2 ∷ 0 ∷ 0 ∷ 1 ∷ 1 ∷ 200000000 ∷ 0 ∷ 4294967296 ∷ 3 ∷ 2 ∷ 1 ∷ 200000000 ∷ 0 ∷ 4294967296 ∷ 3 ∷ 0 ∷ 1 ∷ 1 ∷ 0 ∷ 1 ∷ 2 ∷ 1 ∷ 0 ∷ [])
+    ∷ (0x3fd3_fdee_93ad_5964 ∷ 0 ∷ 0x3fe0_0000_0000_0000 ∷ 0x3fe4_3328_c740_ad4e ∷ 0 ∷ 0x3f9d_5bd0_037e_62bc ∷ 0x3fb4_62d5_da8a_23c1 ∷ 0x3fea_b6d6_1a33_7608 ∷ [])
+    ∷ (0x3fd3_fdee_93ad_5964 ∷ 0x3ff0_0000_0000_0000 ∷ 0x3ff0_0000_0000_0000 ∷ 0x3fe4_3328_c740_ad4e ∷ 0 ∷ 0x3f9d_5bd0_037e_62bc ∷ 0x3fb4_62d5_da8a_23c1 ∷ 0x3fea_b6d6_1a33_7608 ∷ [])
+    ∷ (300000000 ∷ 0 ∷ 2 ∷ 2 ∷ 0 ∷ 0 ∷ 1 ∷ 1 ∷ 300000000 ∷ 0 ∷ 4294967296 ∷ 4 ∷ 2 ∷ 1 ∷ 300000000 ∷ 0 ∷ 4294967296 ∷ 4 ∷ 0 ∷ 1 ∷ 1 ∷ 0 ∷ 1 ∷ 2 ∷ 1 ∷ 0 ∷ [])
+    ∷ (0x3fe1_857a_d46d_0c5d ∷ 0 ∷ 0x3fe0_0000_0000_0000 ∷ 0x3ff2_aefc_766d_e984 ∷ 0 ∷ 0x3f9d_66ca_3d22_3ee9 ∷ 0x3fb6_eb8c_1737_ab7c ∷ 0x3fe4_b8ed_bf9e_692e ∷ [])
+    ∷ (0x3fe1_857a_d46d_0c5d ∷ 0x3ff0_0000_0000_0000 ∷ 0x3ff0_0000_0000_0000 ∷ 0x3ff2_aefc_766d_e984 ∷ 0 ∷ 0x3f9d_66ca_3d22_3ee9 ∷ 0x3fb6_eb8c_1737_ab7c ∷ 0x3fe4_b8ed_bf9e_692e ∷ [])
+    ∷ (1 ∷ 0 ∷ 0 ∷ 0 ∷ [])
+    ∷ []
+
+pub swap-is : shown (lagging 2) swapRun ≡ swapShows
+unfolding shown swapRun
+swap-is = refl
+
+-- the engine follows one person under two ids: the window of one goes into the other, and its two losers become clutter
+pub mergeRun : List Op
+mergeRun =
+    pushed (body 0 (sight 0x3ff8_0000_0000_0000 0xbfd0_0000_0000_0000 0 8 ∷ sight 0xbfe8_0000_0000_0000 0xbfe0_0000_0000_0000 0x3ff8_0000_0000_0000 7 ∷ []))
+    ∷ pushed (body 100000000 (sight 0xbff4_0000_0000_0000 0x3ff8_0000_0000_0000 0x3ff8_0000_0000_0000 8 ∷ sight 0xbff4_0000_0000_0000 0x3ff0_0000_0000_0000 0x3ff0_0000_0000_0000 7 ∷ []))
+    ∷ taken ∷ taken ∷ []
+
+abbrev pub mergeShows : List (List ℕ)
+mergeShows =
+    (0 ∷ 0 ∷ 1 ∷ 2 ∷ 0 ∷ 0 ∷ 1 ∷ 0 ∷ 0 ∷ 0 ∷ 4294967296 ∷ 1 ∷ 0 ∷ 0 ∷ 2 ∷ 0 ∷ 1 ∷ 1 ∷ 1 ∷ 0 ∷ [])
+    ∷ (0xbfe8_0000_0000_0000 ∷ 0xbfe0_0000_0000_0000 ∷ 0x3ff8_0000_0000_0000 ∷ 0 ∷ 0 ∷ 0x3fb0_0000_0000_0000 ∷ 0 ∷ 0x3ff0_0000_0000_0000 ∷ [])
+    ∷ (100000000 ∷ 0 ∷ 1 ∷ 2 ∷ 0 ∷ 0 ∷ 1 ∷ 1 ∷ 100000000 ∷ 0 ∷ 4294967296 ∷ 2 ∷ 0 ∷ 0 ∷ 2 ∷ 0 ∷ 1 ∷ 1 ∷ 1 ∷ 0 ∷ [])
+    ∷ (0xbff0_4d05_5dc0_3c9c ∷ 0x3fd3_9c40_6502_d74a ∷ 0x3ff4_0000_0000_0000 ∷ 0xbfd8_442e_b7b6_c458 ∷ 0x3ff2_3323_09c9_1342 ∷ 0x3fa1_3415_7700_f26d ∷ 0x3fa8_442e_b7b6_c456 ∷ 0x3fef_1cd9_ee73_06c2 ∷ [])
+    ∷ (0 ∷ 1 ∷ 0 ∷ 0 ∷ [])
+    ∷ []
+
+pub merge-is : shown (lagging 2) mergeRun ≡ mergeShows
+unfolding shown mergeRun
+merge-is = refl
+
+-- the engine goes on from one person with another: the third detection starts a track of its own, and what comes after it gets the id after that
+pub splitRun : List Op
+splitRun =
+    pushed (body 0 (sight 0xbff8_0000_0000_0000 0x3fe0_0000_0000_0000 0x3ff0_0000_0000_0000 7 ∷ []))
+    ∷ pushed (body 100000000 (sight 0xbfd0_0000_0000_0000 0x3fe0_0000_0000_0000 0x3ff0_0000_0000_0000 7 ∷ []))
+    ∷ pushed (body 200000000 (sight 0x3ff4_0000_0000_0000 0xbff0_0000_0000_0000 0x3ff0_0000_0000_0000 7 ∷ []))
+    ∷ pushed (body 300000000 (sight 0x4010_0000_0000_0000 0x4010_0000_0000_0000 0x3ff0_0000_0000_0000 9 ∷ []))
+    ∷ taken ∷ taken ∷ []
+
+abbrev pub splitShows : List (List ℕ)
+splitShows =
+    (0 ∷ 0 ∷ 1 ∷ 1 ∷ 0 ∷ 0 ∷ 1 ∷ 0 ∷ 0 ∷ 0 ∷ 4294967296 ∷ 1 ∷ 0 ∷ 1 ∷ 1 ∷ 0 ∷ [])
+    ∷ (0xbff8_0000_0000_0000 ∷ 0x3fe0_0000_0000_0000 ∷ 0x3ff0_0000_0000_0000 ∷ 0 ∷ 0 ∷ 0x3fb0_0000_0000_0000 ∷ 0 ∷ 0x3ff0_0000_0000_0000 ∷ [])
+    ∷ (100000000 ∷ 0 ∷ 1 ∷ 1 ∷ 0 ∷ 0 ∷ 1 ∷ 1 ∷ 100000000 ∷ 0 ∷ 4294967296 ∷ 2 ∷ 0 ∷ 1 ∷ 1 ∷ 0 ∷ [])
+    ∷ (0xbfea_7ee5_2b3e_d0f6 ∷ 0x3fe0_0000_0000_0000 ∷ 0x3ff0_0000_0000_0000 ∷ 0x3fee_553a_65a4_756e ∷ 0 ∷ 0x3fa1_3415_7700_f26d ∷ 0x3fa8_442e_b7b6_c456 ∷ 0x3fef_1cd9_ee73_06c2 ∷ [])
+    ∷ (200000000 ∷ 0 ∷ 2 ∷ 1 ∷ 0 ∷ 0 ∷ 1 ∷ 1 ∷ 100000000 ∷ 100000000 ∷ 4294967296 ∷ 2 ∷ 2 ∷ 0 ∷ 200000000 ∷ 0 ∷ 4294967296 ∷ 1 ∷ 0 ∷ 2 ∷ 1 ∷ 0 ∷ [])
+    ∷ (0xbfe7_765f_5447_f86b ∷ 0x3fe0_0000_0000_0000 ∷ 0x3ff0_0000_0000_0000 ∷ 0x3fee_553a_65a4_756e ∷ 0 ∷ 0x3fab_1ebd_ec39_451a ∷ 0x3fc2_d4e7_f8d4_05b6 ∷ 0x3ff0_5b39_c406_502e ∷ [])
+    ∷ (0x3ff4_0000_0000_0000 ∷ 0xbff0_0000_0000_0000 ∷ 0x3ff0_0000_0000_0000 ∷ 0 ∷ 0 ∷ 0x3fb0_0000_0000_0000 ∷ 0 ∷ 0x3ff0_0000_0000_0000 ∷ [])
+    ∷ (300000000 ∷ 0 ∷ 3 ∷ 1 ∷ 0 ∷ 0 ∷ 1 ∷ 1 ∷ 100000000 ∷ 200000000 ∷ 4294967296 ∷ 2 ∷ 2 ∷ 0 ∷ 200000000 ∷ 100000000 ∷ 4294967296 ∷ 1 ∷ 3 ∷ 0 ∷ 300000000 ∷ 0 ∷ 4294967296 ∷ 1 ∷ 0 ∷ 3 ∷ 1 ∷ 0 ∷ [])
+    ∷ (0xbfe4_6dd9_7d51_1fe0 ∷ 0x3fe0_0000_0000_0000 ∷ 0x3ff0_0000_0000_0000 ∷ 0x3fee_553a_65a4_756e ∷ 0 ∷ 0x3fb7_c09c_b721_3779 ∷ 0x3fd0_1e4d_a6fb_e57d ∷ 0x3ff1_2806_90d3_1cfb ∷ [])
+    ∷ (0x3ff4_0000_0000_0000 ∷ 0xbff0_0000_0000_0000 ∷ 0x3ff0_0000_0000_0000 ∷ 0 ∷ 0 ∷ 0x3fb2_9a48_5cd7_b901 ∷ 0x3fba_3d70_a3d7_0a40 ∷ 0x3ff0_cccc_cccc_cccd ∷ [])
+    ∷ (0x4010_0000_0000_0000 ∷ 0x4010_0000_0000_0000 ∷ 0x3ff0_0000_0000_0000 ∷ 0 ∷ 0 ∷ 0x3fb0_0000_0000_0000 ∷ 0 ∷ 0x3ff0_0000_0000_0000 ∷ [])
+    ∷ (0 ∷ 0 ∷ 1 ∷ 0 ∷ [])
+    ∷ []
+
+pub split-is : shown (lagging 2) splitRun ≡ splitShows
+unfolding shown splitRun
+split-is = refl
+
+-- the engine strays for one frame: the detection of that frame becomes clutter
+pub dropRun : List Op
+dropRun =
+    pushed (body 0 (sight 0xbfe0_0000_0000_0000 0xbff4_0000_0000_0000 0x3ff0_0000_0000_0000 8 ∷ []))
+    ∷ pushed (body 100000000 (sight 0x3fe0_0000_0000_0000 0x3ff0_0000_0000_0000 0 8 ∷ []))
+    ∷ pushed (body 200000000 (sight 0xbff4_0000_0000_0000 0xbff8_0000_0000_0000 0x3ff8_0000_0000_0000 8 ∷ []))
+    ∷ taken ∷ taken ∷ []
+
+abbrev pub dropShows : List (List ℕ)
+dropShows =
+    (0 ∷ 0 ∷ 1 ∷ 1 ∷ 0 ∷ 0 ∷ 1 ∷ 0 ∷ 0 ∷ 0 ∷ 4294967296 ∷ 1 ∷ 0 ∷ 1 ∷ 1 ∷ 0 ∷ [])
+    ∷ (0xbfe0_0000_0000_0000 ∷ 0xbff4_0000_0000_0000 ∷ 0x3ff0_0000_0000_0000 ∷ 0 ∷ 0 ∷ 0x3fb0_0000_0000_0000 ∷ 0 ∷ 0x3ff0_0000_0000_0000 ∷ [])
+    ∷ (100000000 ∷ 0 ∷ 1 ∷ 1 ∷ 0 ∷ 0 ∷ 1 ∷ 0 ∷ 0 ∷ 100000000 ∷ 4294967296 ∷ 1 ∷ 0 ∷ 0 ∷ 2 ∷ 0 ∷ [])
+    ∷ (0xbfe0_0000_0000_0000 ∷ 0xbff4_0000_0000_0000 ∷ 0x3ff0_0000_0000_0000 ∷ 0 ∷ 0 ∷ 0x3fb2_9a48_5cd7_b901 ∷ 0x3fba_3d70_a3d7_0a3e ∷ 0x3ff0_cccc_cccc_cccd ∷ [])
+    ∷ (200000000 ∷ 0 ∷ 1 ∷ 1 ∷ 0 ∷ 0 ∷ 1 ∷ 1 ∷ 200000000 ∷ 0 ∷ 4294967296 ∷ 2 ∷ 0 ∷ 1 ∷ 1 ∷ 0 ∷ [])
+    ∷ (0xbfee_fb61_fceb_fdf4 ∷ 0xbff6_7f3a_ff7c_aa53 ∷ 0x3ff4_0000_0000_0000 ∷ 0xbfee_4cf4_334d_778a ∷ 0xbfd4_334d_7788_fa5c ∷ 0x3fa3_f9d7_fbe5_5298 ∷ 0x3fb4_334d_7788_fa5a ∷ 0x3fea_b740_be6f_6de4 ∷ [])
+    ∷ (0 ∷ 0 ∷ 0 ∷ 1 ∷ [])
+    ∷ []
+
+pub drop-is : shown (lagging 2) dropRun ≡ dropShows
+unfolding shown dropRun
+drop-is = refl
+
+-- ---- forgetting
+
+-- a track without a window that is older than forget_after_ns is forgotten: its engine id starts another
+pub forgetRun : List Op
+forgetRun =
+    pushed (body 0 (sight 0x3ff0_0000_0000_0000 0x4000_0000_0000_0000 0x3fe0_0000_0000_0000 7 ∷ []))
+    ∷ pushed (body 3000000000 (sight 0x3ff0_0000_0000_0000 0x4000_0000_0000_0000 0x3fe0_0000_0000_0000 8 ∷ []))
+    ∷ pushed (body 3100000000 (sight 0x3ff0_0000_0000_0000 0x4000_0000_0000_0000 0x3fe0_0000_0000_0000 7 ∷ []))
+    ∷ []
+
+abbrev pub forgetShows : List (List ℕ)
+forgetShows =
+    (0 ∷ 0 ∷ 1 ∷ 1 ∷ 0 ∷ 0 ∷ 1 ∷ 0 ∷ 0 ∷ 0 ∷ 4294967296 ∷ 1 ∷ 0 ∷ 1 ∷ 1 ∷ 0 ∷ [])
+    ∷ (0x3ff0_0000_0000_0000 ∷ 0x4000_0000_0000_0000 ∷ 0x3fe0_0000_0000_0000 ∷ 0 ∷ 0 ∷ 0x3fb0_0000_0000_0000 ∷ 0 ∷ 0x3ff0_0000_0000_0000 ∷ [])
+    ∷ (3000000000 ∷ 0 ∷ 1 ∷ 1 ∷ 0 ∷ 0 ∷ 2 ∷ 0 ∷ 3000000000 ∷ 0 ∷ 4294967296 ∷ 1 ∷ 0 ∷ 2 ∷ 1 ∷ 0 ∷ [])
+    ∷ (0x3ff0_0000_0000_0000 ∷ 0x4000_0000_0000_0000 ∷ 0x3fe0_0000_0000_0000 ∷ 0 ∷ 0 ∷ 0x3fb0_0000_0000_0000 ∷ 0 ∷ 0x3ff0_0000_0000_0000 ∷ [])
+    ∷ (3100000000 ∷ 0 ∷ 2 ∷ 1 ∷ 0 ∷ 0 ∷ 2 ∷ 0 ∷ 3000000000 ∷ 100000000 ∷ 4294967296 ∷ 1 ∷ 3 ∷ 0 ∷ 3100000000 ∷ 0 ∷ 4294967296 ∷ 1 ∷ 0 ∷ 3 ∷ 1 ∷ 0 ∷ [])
+    ∷ (0x3ff0_0000_0000_0000 ∷ 0x4000_0000_0000_0000 ∷ 0x3fe0_0000_0000_0000 ∷ 0 ∷ 0 ∷ 0x3fb2_9a48_5cd7_b902 ∷ 0x3fba_3d70_a3d7_0a44 ∷ 0x3ff0_cccc_cccc_cccd ∷ [])
+    ∷ (0x3ff0_0000_0000_0000 ∷ 0x4000_0000_0000_0000 ∷ 0x3fe0_0000_0000_0000 ∷ 0 ∷ 0 ∷ 0x3fb0_0000_0000_0000 ∷ 0 ∷ 0x3ff0_0000_0000_0000 ∷ [])
+    ∷ (0 ∷ 0 ∷ 0 ∷ 0 ∷ [])
+    ∷ []
+
+pub forget-is : shown (lagging 0) forgetRun ≡ forgetShows
+unfolding shown forgetRun
+forget-is = refl
+
+-- one that has a window is kept
+pub keepRun : List Op
+keepRun =
+    pushed (body 0 (sight 0x3ff0_0000_0000_0000 0x4000_0000_0000_0000 0x3fe0_0000_0000_0000 7 ∷ []))
+    ∷ pushed (body 3000000000 [])
+    ∷ pushed (body 3100000000 (sight 0x3ff0_0000_0000_0000 0x4000_0000_0000_0000 0x3ff8_0000_0000_0000 7 ∷ []))
+    ∷ taken ∷ []
+
+abbrev pub keepShows : List (List ℕ)
+keepShows =
+    (0 ∷ 0 ∷ 1 ∷ 1 ∷ 0 ∷ 0 ∷ 1 ∷ 0 ∷ 0 ∷ 0 ∷ 4294967296 ∷ 1 ∷ 0 ∷ 1 ∷ 1 ∷ 0 ∷ [])
+    ∷ (0x3ff0_0000_0000_0000 ∷ 0x4000_0000_0000_0000 ∷ 0x3fe0_0000_0000_0000 ∷ 0 ∷ 0 ∷ 0x3fb0_0000_0000_0000 ∷ 0 ∷ 0x3ff0_0000_0000_0000 ∷ [])
+    ∷ (3000000000 ∷ 0 ∷ 0 ∷ 0 ∷ 0 ∷ 0 ∷ [])
+    ∷ (3100000000 ∷ 0 ∷ 1 ∷ 1 ∷ 0 ∷ 0 ∷ 1 ∷ 1 ∷ 3100000000 ∷ 0 ∷ 4294967296 ∷ 2 ∷ 0 ∷ 1 ∷ 1 ∷ 0 ∷ [])
+    ∷ (0x3ff0_0000_0000_0000 ∷ 0x4000_0000_0000_0000 ∷ 0x3ff0_0000_0000_0000 ∷ 0 ∷ 0 ∷ 0x3faf_dd2b_a375_3a99 ∷ 0x3f97_f4c8_ee7d_4ce1 ∷ 0x3fdf_618d_1808_2408 ∷ [])
+    ∷ (0 ∷ 0 ∷ 0 ∷ 0 ∷ [])
+    ∷ []
+
+pub keep-is : shown (lagging 1) keepRun ≡ keepShows
+unfolding shown keepRun
+keep-is = refl

@@ -1,0 +1,161 @@
+-- The refiner: its state, push and take, and the refusals 5 to 10 and 13. Definitions only.
+use Prim.Native.Nat.{ℕ, suc, _+_, _^_}
+use mathlib.Core.Bool.{Bool, true, false, cond, _||_}
+use mathlib.Core.List.{List, [], _∷_, _++_, map, foldr}
+use mathlib.Core.Option.{Option, none, some}
+use lib.ListN.{length}
+use lib.Dec.{leb, ltb}
+use Rattle.engine.specs.declared.config.FgoConfig.{FgoConfig}
+use Rattle.engine.specs.declared.types.Associated.{Associated}
+use Rattle.engine.specs.declared.types.Associated.the-variants.{Nobody, Track}
+use Rattle.engine.specs.declared.types.Association.{Association}
+use Rattle.engine.specs.Config.{lag}
+use Rattle.engine.specs.Frame.{Frame}
+use Rattle.engine.specs.Body.{narrow, Decoded, decode, refused as unread, read}
+use Rattle.model.specs.declared.moves.FgoCounters.{FgoCounters}
+use Rattle.model.specs.Lists.{keep, has}
+use Rattle.model.specs.Windows.{Scan, Prefix, detections}
+use Rattle.model.specs.Placing.{Placing, place}
+use Rattle.model.specs.Searching.{Searched, improve}
+use Rattle.model.specs.Owning.{liveOwners, reown}
+use Rattle.model.specs.Freezing.{freezeScan, remember}
+use Rattle.model.specs.Emitting.{Emitted, listing}
+
+-- what a refiner keeps: the number of its oldest scan, the held scans, the frozen parts by ascending id, the owner of each engine id, the next id and
+-- the counters
+pub record State : Type 0 where
+  pub first : ℕ
+  pub scans : List Scan
+  pub prefixes : List (ℕ × Prefix)
+  pub owners : List (ℕ × ℕ)
+  pub next : ℕ
+  pub counters : FgoCounters
+
+-- "a new refiner": "ids begin at 1"
+abbrev pub new : State
+new =
+    record {
+      first = 0;
+      scans = [];
+      prefixes = [];
+      owners = [];
+      next = 1;
+      counters = record { swaps = 0; merges = 0; splits = 0; drops = 0 };
+    }
+
+pub data Answer : Type 0 where
+  refused : ℕ → Answer
+  waits : Answer
+  gives : Emitted → Answer
+
+-- ---- a frame arrives: placing, searching, owning
+
+abbrev pub placed : State → Frame → Placing
+placed t f = place (t .prefixes) (t .scans) (f .associations) (record { ids = []; owners = t .owners; next = t .next })
+
+abbrev pub withScan : State → Frame → List Scan
+withScan t f = t .scans ++ (record { frame = f; ids = placed t f .ids } ∷ [])
+
+abbrev pub searched : FgoConfig → State → Frame → Searched
+searched c t f = improve c (t .first) (t .prefixes) (withScan t f) (placed t f .next) (t .counters)
+
+unfoldable pub arrive : FgoConfig → State → Frame → State
+arrive c t f =
+    let r = searched c t f .search in
+    record {
+      first = t .first;
+      scans = r .scans;
+      prefixes = t .prefixes;
+      owners = reown (t .prefixes) (r .scans) (placed t f .owners);
+      next = r .next;
+      counters = r .counters;
+    }
+
+-- ---- the oldest scan leaves: freezing, listing, forgetting
+
+unfoldable pub emit : FgoConfig → ℕ → List (ℕ × Prefix) → Scan → Emitted
+emit c n ps s = record { scan = s; tracks = listing c (s .frame .time) (freezeScan c n s ps) }
+
+unfoldable pub leave : FgoConfig → State → Scan → List Scan → State
+leave c t s ss =
+    let ps = remember c (s .frame .time) ss (freezeScan c (t .first) s (t .prefixes)) in
+    record {
+      first = suc (t .first);
+      scans = ss;
+      prefixes = ps;
+      owners = liveOwners ps ss (t .owners);
+      next = t .next;
+      counters = t .counters;
+    }
+
+-- 13: "no frame held"
+unfoldable pub release : FgoConfig → State → List Scan → Answer × State
+release c t [] = (refused 13, t)
+release c t (s ∷ ss) = (gives (emit c (t .first) (t .prefixes) s), leave c t s ss)
+
+-- ---- push
+
+-- "When more than lag scans are held, the oldest one leaves"
+unfoldable pub settle : FgoConfig → State → Bool → Answer × State
+settle c t true = release c t (t .scans)
+settle c t false = (waits, t)
+
+-- 8: "4,294,967,295 scans accepted, or next id or a counter above 2^60"
+unfoldable pub full8 : State → Bool
+full8 t =
+    leb 4294967295 (t .first + length (t .scans))
+    || (ltb (2 ^ 60) (t .next)
+    || (ltb (2 ^ 60) (t .counters .swaps)
+    || (ltb (2 ^ 60) (t .counters .merges) || (ltb (2 ^ 60) (t .counters .splits) || ltb (2 ^ 60) (t .counters .drops)))))
+
+abbrev pub hasId : Associated → Bool
+hasId Nobody = false
+hasId (Track e) = true
+
+-- "new associations with an id"
+abbrev pub idCount : List Association → ℕ
+idCount l = length (keep (λ a. hasId (a .track)) l)
+
+-- 9: "frozen tracks + detections in track windows + new associations with an id exceed 128"
+unfoldable pub full9 : State → Frame → Bool
+full9 t f = ltb 128 (length (t .prefixes) + detections (t .scans) + idCount (f .associations))
+
+abbrev pub join : Associated → List ℕ → List ℕ
+join Nobody l = l
+join (Track e) l = cond (has (e .0) l) l ((e .0) ∷ l)
+
+-- 10: "engine ids with a live owner, joined with the frame's, exceed 256"; by the state rule every entry has a live owner
+unfoldable pub full10 : State → Frame → Bool
+full10 t f = ltb 256 (length (foldr (λ a. join (a .track)) (map (λ o. o .0) (t .owners)) (f .associations)))
+
+-- "The checks run in the order of the table, and the first condition that holds decides the answer"
+abbrev pub firstOf : Bool → Bool → Bool → Option ℕ
+firstOf true b d = some 8
+firstOf false true d = some 9
+firstOf false false true = some 10
+firstOf false false false = none
+
+abbrev pub pushBy : Option ℕ → FgoConfig → State → Frame → Answer × State
+pushBy (some n) c t f = (refused n, t)
+pushBy none c t f = let u = arrive c t f in settle c u (ltb (lag c) (length (u .scans)))
+
+-- a frame that neither 5, 6 nor 7 refuses
+unfoldable pub pushFrame : FgoConfig → State → Frame → Answer × State
+pushFrame c t f = pushBy (firstOf (full8 t) (full9 t f) (full10 t f)) c t f
+
+abbrev pub pushRead : FgoConfig → State → Decoded → Answer × State
+pushRead c t (unread n) = (refused n, t)
+pushRead c t (read f) = pushFrame c t f
+
+-- push, of a frame's bytes: 5, 6, 7, then 8, 9, 10
+unfoldable pub push : FgoConfig → State → List ℕ → Answer × State
+push c t s = pushRead c t (decode narrow s)
+
+-- take
+unfoldable pub takes : FgoConfig → State → Answer × State
+takes c t = release c t (t .scans)
+
+-- "`finish` is take, repeated until 13"
+unfoldable pub finish : FgoConfig → State → List Scan → List Emitted
+finish c t [] = []
+finish c t (s ∷ ss) = emit c (t .first) (t .prefixes) s ∷ finish c (leave c t s ss) ss
