@@ -36,6 +36,10 @@ updated k x y r =
       nll = nll f64 (g .s) (innovation f64 x (axisX k) ∷ innovation f64 y (axisY k) ∷ []);
     }
 
+-- "Track work is: predict to a time, then update with a position"
+abbrev pub moved : Kf → Float → Float → Float → Float → Float → Kf
+moved k t q x y r = updated (predicted k t q) x y r .kf
+
 -- the logarithm of an update
 abbrev pub logOf : Kf → Float → Float
 logOf k r = logTerm f64 (gain f64 r (covOf k) .s)

@@ -1,0 +1,16 @@
+-- `kf::lent::moved_on` meets its contract. Assumes nothing.
+use borrow.Author.Needs.{needs}
+use Rattle.kf.proofs.lent.moved_on.Statement.{statement}
+use Rattle.kf.proofs.lent.moved_on.Tie as tie
+
+predict-requires : tie.Need-predict-requires
+predict-requires c κs = search needs
+
+update-requires : tie.Need-update-requires
+update-requires c κs = search needs
+
+returns : tie.Need-returns
+returns c = rw (c .before .update .ensures, c .before .before .predict .ensures)
+
+pub moved-on-spec : {M : Type 1} → statement M
+moved-on-spec = tie.close (tie.spec predict-requires update-requires returns)
