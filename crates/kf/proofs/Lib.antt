@@ -1,3 +1,4 @@
 pub mod Textbook
 pub mod Logs
 pub mod Steps
+pub mod Handed

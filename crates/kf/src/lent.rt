@@ -7,7 +7,8 @@ ghost use Rattle.kf.specs.Filter.{moved};
 fn moved_on(kf: Kf, t: f64, q: f64, x: f64, y: f64, r: f64) -> Kf
     ensures { λ k. ⌜ k ≡ moved kf t q x y r ⌝ }
 {
-    let u = kf.predict(t, q).update(x, y, r);
+    let p = kf.predict(t, q);
+    let u = p.update(x, y, r);
     let k = u.kf;
     k
 }
