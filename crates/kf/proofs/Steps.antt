@@ -8,9 +8,12 @@ use native.Mathlib.Numerals.{add-one}
 use lib.ListN.{length, getD, drop}
 use lib.Seq.{drop-cons}
 use Rattle.engine.specs.declared.config.FgoConfig.{FgoConfig}
+use Rattle.engine.specs.declared.types.ScanIndex.{ScanIndex}
+use Rattle.kf.specs.declared.filter.Kf.{Kf}
+use Rattle.kf.specs.declared.cost.Run.{Run}
 use Rattle.kf.specs.declared.cost.Fold.{Fold}
 use Rattle.kf.specs.declared.cost.Fold.the-variants.{Fresh, Frozen, Going}
-use Rattle.kf.specs.Cost.{Det, View, added, step, run, detAt, dets, missesOf}
+use Rattle.kf.specs.Cost.{Det, View, added, born, resumed, step, run, detAt, dets, missesOf, Leading}
 
 -- a fold over head and tail is the fold over the tail from where the head ended
 pub run-append : (c : FgoConfig) (s : Fold) (ds es : List Det) → run c s (ds ++ es) ≡ run c (run c s ds) es
@@ -34,7 +37,7 @@ misses-step c Fresh d = omega arith
 misses-step c (Frozen k l) d = omega arith
 misses-step c (Going s) d = omega arith
 
--- the rest of a row from i on: what the loop has left
+-- the rest of a row from i on: what a loop has left
 pub rest-none : (v : View) (k i : ℕ) (r : List ℕ) → length r ≤ i → dets v (k + i) (drop i r) ≡ []
 unfolding dets
 rest-none v k i [] h = drop-nil i
@@ -45,48 +48,69 @@ rest-none v k i [] h = drop-nil i
 rest-none v k zero (x ∷ r) h = absurd (omega arith)
 rest-none v k (suc i) (x ∷ r) h = rw (add-suc k i, ← suc-add k i) (rest-none v (suc k) i r (omega arith))
 
-pub rest-at : (v : View) (k i : ℕ) (r : List ℕ) → i < length r → dets v (k + i) (drop i r) ≡ dets v (k + i) (getD r i 0 ∷ drop (suc i) r)
-rest-at v k i r h = ap (dets v (k + i)) (drop-cons r i 0 h)
+module _ (v : View) (k i : ℕ) (r : List ℕ) (h : i < length r) where
+  rest-at : (x : ℕ) → getD r i 0 ≡ x → dets v (k + i) (drop i r) ≡ dets v (k + i) (x ∷ drop (suc i) r)
+  rest-at x e = ap (dets v (k + i)) (drop-cons r i 0 h) ∙ ap (λ (x : ℕ). dets v (k + i) (x ∷ drop (suc i) r)) e
 
--- the loop's invariant: what is left, taken on from f, gives the whole; and misses stay few
-pub record Inv (c : FgoConfig) (v : View) (from : Fold) (r : List ℕ) (k : ℕ) (f : Fold) (i : ℕ) : Type 0 where
-  pub within : i ≤ length r
-  pub few : missesOf f ≤ missesOf from + i * 17179869184
-  pub rest : run c f (dets v (k + i) (drop i r)) ≡ run c from (dets v k r)
-
-module _ {c : FgoConfig} {v : View} {from : Fold} {r : List ℕ} {k : ℕ} {f : Fold} {i : ℕ} (inv : Inv c v from r k f i) where
   move : k + (i + 1) ≡ suc (k + i)
   move = omega arith
 
-  -- no detection in this scan
-  pub skips : i < length r → getD r i 0 ≤ 0 → Inv c v from r k f (i + 1)
+  -- no detection at i
+  pub rest-skips : getD r i 0 ≤ 0 → dets v (k + i) (drop i r) ≡ dets v (k + (i + 1)) (drop (i + 1) r)
   unfolding dets
-  skips h z =
-      let e : getD r i 0 ≡ 0 = omega arith in
-      record {
-        within = omega arith;
-        few = omega (arith, inv .few);
-        rest =
-            rw (move, add-one i)
-            (sym (ap (run c f) (rest-at v k i r h ∙ ap (λ (x : ℕ). dets v (k + i) (x ∷ drop (suc i) r)) e)) ∙ inv .rest);
-      }
+  rest-skips z = rw (move, add-one i) (rest-at 0 (omega arith))
+
+  -- one
+  pub rest-takes : 0 < getD r i 0 → dets v (k + i) (drop i r) ≡ detAt v (k + i) (getD r i 0 - 1) ∷ dets v (k + (i + 1)) (drop (i + 1) r)
+  unfolding dets
+  rest-takes z = rw (move, add-one i) (rest-at (suc (getD r i 0 - 1)) (omega arith))
+
+-- the invariant of a loop: what is left, taken on from s, gives the whole; and misses stay few
+pub record Inv (c : FgoConfig) (v : View) (whole : Fold) (most : ℕ) (r : List ℕ) (k : ℕ) (s : Run) (i : ℕ) : Type 0 where
+  pub few : s .misses ≤ most + i * 17179869184
+  pub rest : run c (Going s) (dets v (k + i) (drop i r)) ≡ whole
+
+module _ {c : FgoConfig} {v : View} {whole : Fold} {most : ℕ} {r : List ℕ} {k : ℕ} {s : Run} {i : ℕ} (inv : Inv c v whole most r k s i) where
+  -- no detection in this scan
+  pub skips : i < length r → getD r i 0 ≤ 0 → Inv c v whole most r k s (i + 1)
+  skips h z = record { few = omega (arith, inv .few); rest = sym (ap (run c (Going s)) (rest-skips v k i r h z)) ∙ inv .rest }
 
   -- one in this scan
-  pub takes : i < length r → 0 < getD r i 0 → v .first + (k + i) < 17179869184 → Inv c v from r k (step c f (detAt v (k + i) (getD r i 0 - 1))) (i + 1)
-  unfolding dets run
+  pub takes : i < length r → 0 < getD r i 0 → v .first + (k + i) < 17179869184 → Inv c v whole most r k (added c s (detAt v (k + i) (getD r i 0 - 1))) (i + 1)
+  unfolding run step
   takes h z early =
-      let e : getD r i 0 ≡ suc (getD r i 0 - 1) = omega arith in
       record {
-        within = omega arith;
-        few = omega (arith, inv .few, misses-step c f (detAt v (k + i) (getD r i 0 - 1)));
-        rest =
-            rw (move, add-one i)
-            (sym (ap (run c f) (rest-at v k i r h ∙ ap (λ (x : ℕ). dets v (k + i) (x ∷ drop (suc i) r)) e)) ∙ inv .rest);
+        few = omega (arith, inv .few, misses-step c (Going s) (detAt v (k + i) (getD r i 0 - 1)));
+        rest = sym (ap (run c (Going s)) (rest-takes v k i r h z)) ∙ inv .rest;
       }
 
-  pub ends : length r ≤ i → f ≡ run c from (dets v k r)
+  pub ends : length r ≤ i → Going s ≡ whole
   unfolding run
-  ends h = sym (ap (run c f) (rest-none v k i r h)) ∙ inv .rest
+  ends h = sym (ap (run c (Going s)) (rest-none v k i r h)) ∙ inv .rest
+
+-- a loop over leading slots: none so far has a detection
+pub record Passed (r : List ℕ) (i : ℕ) : Type 0 where
+  pub rest : (v : View) (k : ℕ) → dets v k r ≡ dets v (k + i) (drop i r)
+
+pub passes : (r : List ℕ) (i : ℕ) → Passed r i → i < length r → getD r i 0 ≤ 0 → Passed r (i + 1)
+passes r i p h z = record { rest = λ v k. p .rest v k ∙ rest-skips v k i r h z }
+
+-- the fold over a row after its leading slots: where nothing is left, where the first detection starts it, and where it goes on from a frozen part
+module _ (c : FgoConfig) (v : View) (k n : ℕ) (r : List ℕ) (l : Leading r n) where
+  pub leads-none : (f : Fold) → length r ≤ n → f ≡ run c f (dets v k r)
+  unfolding run
+  leads-none f h = sym (ap (run c f) (l .rest v k ∙ rest-none v k n r h))
+
+  leads : n < length r → dets v k r ≡ detAt v (k + n) (getD r n 0 - 1) ∷ dets v (k + (n + 1)) (drop (n + 1) r)
+  leads h = l .rest v k ∙ rest-takes v k n r h (l .found h)
+
+  pub leads-born : n < length r → run c (Going (born c (detAt v (k + n) (getD r n 0 - 1)))) (dets v (k + (n + 1)) (drop (n + 1) r)) ≡ run c Fresh (dets v k r)
+  unfolding run step
+  leads-born h = sym (ap (run c Fresh) (leads h))
+
+  pub leads-frozen : (f : Kf) (s : ScanIndex) → n < length r → run c (Going (resumed f s)) (dets v (k + n) (drop n r)) ≡ run c (Frozen f s) (dets v k r)
+  unfolding run step
+  leads-frozen f s h = ap (run c (Going (resumed f s))) (sym (l .rest v k) ∙ leads h) ∙ sym (ap (run c (Frozen f s)) (leads h))
 
 -- the misses of a whole fold
 pub misses-run : (c : FgoConfig) (v : View) (s : Fold) (k : ℕ) (r : List ℕ) → v .first + (k + length r) ≤ 17179869184 → missesOf (run c s (dets v k r)) ≤ missesOf s + length r * 17179869184

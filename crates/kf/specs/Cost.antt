@@ -3,7 +3,7 @@ use Prim.Native.Nat.{ℕ, zero, suc, _+_, _-_, _*_, _<_, _≤_}
 use mathlib.Core.Path.{_≡_}
 use mathlib.Core.Bool.{true, cond, not}
 use mathlib.Core.List.{List, [], _∷_, foldl}
-use lib.ListN.{length, getD}
+use lib.ListN.{length, getD, drop}
 use lib.Dec.{T, ltb}
 use lib.IntN.{pos}
 use lib.Ieee.{Float, nan, binary64, fits, isNan, ofBits, ofInt, add, mul, lt}
@@ -119,3 +119,8 @@ pub record Asks (slots : List ℕ) (k : ℕ) (first : ScanIndex) (from : Fold) (
   pub early : first .0 < 8589934592
   pub few : missesOf from < 1152921504606846976
   pub kept : Kept logs
+
+-- the slots before the first detection of a row: they are left out, and if any slot follows, it has a detection
+pub record Leading (slots : List ℕ) (n : ℕ) : Type 0 where
+  pub rest : (v : View) (k : ℕ) → dets v k slots ≡ dets v (k + n) (drop n slots)
+  pub found : n < length slots → 0 < getD slots n 0

@@ -7,9 +7,10 @@ use engine::config::FgoConfig;
 use engine::types::ScanIndex;
 use scalar::log;
 ghost use mathlib.Core.Path.{_≡_};
-ghost use Prim.Native.Nat.{_+_, _*_, _-_, _<_, _≤_};
-ghost use lib.ListN.{take, drop};
-ghost use Rattle.kf.specs.Cost.{dotAt, gap, added, born, step, run, closed, cost, dets, detOf, viewOf, missesOf, Kept, Recalled, Asks};
+ghost use Prim.Native.Nat.{_+_, _<_};
+ghost use lib.ListN.{drop};
+ghost use Rattle.kf.specs.declared.cost.Fold.the-variants.{Going};
+ghost use Rattle.kf.specs.Cost.{dotAt, gap, added, born, run, closed, cost, dets, detOf, viewOf, Kept, Recalled, Asks, Leading};
 
 // Scans held at most: those of the lag, and the one that is pushed.
 pub const SCANS: usize = 17;
@@ -134,26 +135,6 @@ fn born_at(c: FgoConfig, scan: ScanIndex, d: Dot) -> Run
 }
 
 impl Fold {
-    // One detection more.
-    pub fn add(self, c: FgoConfig, scan: ScanIndex, d: Dot, logs: &mut [f64; LOGS]) -> Fold
-        requires { ⌜ (missesOf self + scan .0 < 18446744073709551616) × Kept (now logs) ⌝ }
-        ensures { λ f. ⌜ (f ≡ step c self (detOf scan d)) × Kept (now (logs .exit)) ⌝ }
-    {
-        match self {
-            Fold::Fresh => Fold::Going(born_at(c, scan, d)),
-            Fold::Frozen { kf, last } => {
-                let r = Run {
-                    kf,
-                    total: 0.0,
-                    last,
-                    misses: 0,
-                };
-                Fold::Going(r.add(c, scan, d, logs))
-            }
-            Fold::Going(r) => Fold::Going(r.add(c, scan, d, logs)),
-        }
-    }
-
     // The cost of the window that was folded.
     pub fn close(self, c: FgoConfig) -> f64
         ensures { λ r. ⌜ r ≡ closed c self ⌝ }
@@ -164,6 +145,47 @@ impl Fold {
             Fold::Going(r) => r.total + std::num::nearest_u64_to_f64(r.misses) * c.miss_cost,
         }
     }
+}
+
+// The slots before the first detection.
+fn leading(slots: &[usize]) -> usize
+    ensures { λ n. ⌜ Leading (now (slots .entry)) n ⌝ }
+{
+    let mut i: usize = 0;
+    while i < slots.len() {
+        if 0 < slots[i] {
+            return i;
+        }
+        i += 1;
+    }
+    i
+}
+
+// The fold over the slots of a row from one on, after a detection or a frozen part: the row begins at the held scan k.
+fn run_on<'a>(
+    c: FgoConfig,
+    from: Run,
+    slots: &'a [usize],
+    begin: usize,
+    k: usize,
+    first: ScanIndex,
+    dots: &'a [f64; DOTS],
+    logs: &mut [f64; LOGS],
+) -> Run
+    requires { ⌜ Asks (now slots) k first (Going from) (now logs) ⌝ }
+    ensures { λ r. ⌜ (Going r ≡ run c (Going from) (dets (viewOf first (now (dots .entry))) (k + begin) (drop begin (now (slots .entry))))) × Kept (now (logs .exit)) ⌝ }
+{
+    let mut r = from;
+    let mut i = begin;
+    while i < slots.len() {
+        let code = slots[i];
+        if 0 < code {
+            let scan = ScanIndex(first.0 + (k + i) as u64);
+            r = r.add(c, scan, dot_at(dots, code - 1), logs);
+        }
+        i += 1;
+    }
+    r
 }
 
 // The fold over a part of a row that begins at the held scan k.
@@ -179,17 +201,27 @@ pub fn run_window<'a>(
     requires { ⌜ Asks (now slots) k first from (now logs) ⌝ }
     ensures { λ f. ⌜ (f ≡ run c from (dets (viewOf first (now (dots .entry))) k (now (slots .entry)))) × Kept (now (logs .exit)) ⌝ }
 {
-    let mut f = from;
-    let mut i: usize = 0;
-    while i < slots.len() {
-        let code = slots[i];
-        if 0 < code {
-            let scan = ScanIndex(first.0 + (k + i) as u64);
-            f = f.add(c, scan, dot_at(dots, code - 1), logs);
-        }
-        i += 1;
+    let i = leading(slots);
+    if slots.len() <= i {
+        return from;
     }
-    f
+    match from {
+        Fold::Fresh => {
+            let scan = ScanIndex(first.0 + (k + i) as u64);
+            let r = born_at(c, scan, dot_at(dots, slots[i] - 1));
+            Fold::Going(run_on(c, r, slots, i + 1, k, first, dots, logs))
+        }
+        Fold::Frozen { kf, last } => {
+            let r = Run {
+                kf,
+                total: 0.0,
+                last,
+                misses: 0,
+            };
+            Fold::Going(run_on(c, r, slots, i, k, first, dots, logs))
+        }
+        Fold::Going(r) => Fold::Going(run_on(c, r, slots, i, k, first, dots, logs)),
+    }
 }
 
 // The cost of a window, from a frozen part or from none.

@@ -1,76 +1,103 @@
 -- `kf::cost::run_window` meets its contract. Assumes nothing.
-use mathlib.Core.Path.{refl}
-use mathlib.Core.Logic.{⊎-elim}
-use Prim.Native.Nat.{_-_}
-use native.Mathlib.Nat.{add-zero}
+use borrow.Author.Needs.{needs}
+use mathlib.Core.Path.{sym, ap, subst}
+use Prim.Native.Nat.{_<_}
 use native.Mathlib.Omega.{arith}
-use lib.ListN.{length}
-use Rattle.kf.specs.Cost.{viewOf, Kept}
-use Rattle.kf.proofs.Steps.{Inv, skips, takes, ends}
+use Rattle.kf.specs.Cost.{run, missesOf}
+use Rattle.kf.proofs.Steps.{leads-none, leads-born, leads-frozen}
 use Rattle.kf.proofs.cost.run_window.Statement.{statement}
 use Rattle.kf.proofs.cost.run_window.Tie as tie
 
-abbrev Inv-loop : tie.InvT-loop
-Inv-loop c slots k first dots logs₀ f₀ i₀ logs f i = Inv c (viewOf first dots) f₀ slots k f i × Kept logs
+leading-requires : tie.Need-leading-requires
+leading-requires c κs = tt
 
-abbrev μ-loop : tie.MeasureT-loop
-μ-loop c slots k first dots logs₀ f₀ i₀ logs f i = length slots - i
+returns : tie.Need-returns
+returns c = let s = c .before .before .before in (leads-none (s .args .c) _ (s .args .k) _ _ (c .before .leading .ensures) (s .args .from) (c .if1 .taken), s .pre .kept)
 
-loop-holds : tie.Need-loop-holds Inv-loop μ-loop
-loop-holds c = (record { within = omega arith; few = omega arith; rest = rw (add-zero (c .before .args .k)) refl }, c .before .pre .kept)
+enum-told : tie.Need-enum-told
+enum-told c = search needs
 
-mul-code : tie.Need-mul-code Inv-loop μ-loop
-mul-code c = omega (arith, c .before .before .before .good)
+add-t18 : tie.Need-add-t18
+add-t18 c = omega (arith, c .before .before .before .before .before .pre .short, c .before .before .if1 .left)
 
-shared-slice-read-code : tie.Need-shared-slice-read-code Inv-loop μ-loop
-shared-slice-read-code c = c .before .loop-test .taken
+add-t20 : tie.Need-add-t20
+add-t20 c = omega (arith, c .before .before .before .before .before .before .pre .short, c .before .before .before .before .before .before .pre .early, c .before .before .before .if1 .left)
 
-add-t16 : tie.Need-add-t16 Inv-loop μ-loop
-add-t16 c = let p = c .before .before .before .before .before .pre in omega (arith, p .short, c .before .before .loop-test .taken)
+mul-dot-at : tie.Need-mul-dot-at
+mul-dot-at c = search needs
 
-add-t18 : tie.Need-add-t18 Inv-loop μ-loop
-add-t18 c = let p = c .before .before .before .before .before .before .pre in omega (arith, p .short, p .early, c .before .before .before .loop-test .taken)
+shared-slice-read-dot-at : tie.Need-shared-slice-read-dot-at
+shared-slice-read-dot-at c = c .before .before .before .before .if1 .left
 
-sub-dot-at : tie.Need-sub-dot-at Inv-loop μ-loop
-sub-dot-at c = omega arith
+sub-dot-at : tie.Need-sub-dot-at
+sub-dot-at c = c .before .before .before .before .before .leading .ensures .found (c .before .before .before .before .if1 .left)
 
-dot-at-requires : tie.Need-dot-at-requires Inv-loop μ-loop
+dot-at-requires : tie.Need-dot-at-requires
 dot-at-requires c κs = tt
 
-add-requires : tie.Need-add-requires Inv-loop μ-loop
-add-requires c κs = let p = c .before .before .before .before .before .before .before .before .pre in let v = c .before .before .before .before .before .before .loop .inv in (omega (arith, p .short, p .early, p .few, v .0 .few, c .before .before .before .before .before .loop-test .taken, v .0 .within), v .1)
+born-at-requires : tie.Need-born-at-requires
+born-at-requires c κs = tt
 
-add-i : tie.Need-add-i Inv-loop μ-loop
-add-i c = omega arith
+add-run-on : tie.Need-add-run-on
+add-run-on c = search needs
 
-loop-less : tie.Need-loop-less Inv-loop μ-loop
-loop-less c = omega arith
+run-on-requires : tie.Need-run-on-requires
+run-on-requires c κs =
+    let p = c .before .before .before .before .before .before .before .before .before .before .pre in
+    record { short = p .short; early = p .early; few = rw (c .before .born-at .ensures) (omega arith); kept = p .kept }
 
-loop-again : tie.Need-loop-again Inv-loop μ-loop
-loop-again c = let s = c .before .before .before .before .before in let v = c .before .before .before .loop .inv in let t = c .before .before .loop-test .taken in
-    ⊎-elim
-    (λ w. rw (w .5, w .6, w .4 .ensures .0, w .2 .ensures) (takes (v .0) t (w .0 .taken) (omega (arith, s .pre .short, s .pre .early)), w .4 .ensures .1))
-    (λ w. rw (w .1, w .2) (skips (v .0) t (w .0 .left), v .1))
-    (c .if1 .came)
+enum-known-from : tie.Need-enum-known-from
+enum-known-from c = search needs
 
-returns : tie.Need-returns Inv-loop μ-loop
-returns c = let v = c .before .loop .inv in (ends (v .0) (c .loop-test .left), v .1)
+run-on-requires-2 : tie.Need-run-on-requires-2
+run-on-requires-2 c κs = let p = c .before .before .before .before .before .before .before .pre in record { short = p .short; early = p .early; few = omega arith; kept = p .kept }
+
+enum-known-from-2 : tie.Need-enum-known-from-2
+enum-known-from-2 c = search needs
+
+run-on-requires-3 : tie.Need-run-on-requires-3
+run-on-requires-3 c κs =
+    let p = c .before .before .before .before .before .before .before .pre in
+    record { short = p .short; early = p .early; few = subst (λ f. missesOf f < 1152921504606846976) (c .before .before .from2 .given .1) (p .few); kept = p .kept }
+
+returns-2 : tie.Need-returns-2
+returns-2 c =
+    let s = c .before .before .before .before .before .before .before .before .before .before .before in (
+      rw (c .run-on .ensures .0, c .before .before .born-at .ensures, c .before .before .before .dot-at .ensures, c .before .before .before .before .before .before .enum-told .given .1)
+          (leads-born (s .args .c) _ (s .args .k) _ _ (c .before .before .before .before .before .before .before .before .before .leading .ensures) (c .before .before .before .before .before .before .before .before .if1 .left)),
+      c .run-on .ensures .1,
+    )
+
+returns-3 : tie.Need-returns-3
+returns-3 c =
+    let s = c .before .before .before .before .before .before .before .before in
+    (rw (c .run-on2 .ensures .0, c .before .before .before .from .given .1) (leads-frozen (s .args .c) _ (s .args .k) _ _ (c .before .before .before .before .before .before .leading .ensures) _ _ (c .before .before .before .before .before .if1 .left)), c .run-on2 .ensures .1)
+
+returns-4 : tie.Need-returns-4
+returns-4 c =
+    let s = c .before .before .before .before .before .before .before .before in
+    (rw (c .run-on3 .ensures .0, c .before .before .before .from2 .given .1) (ap (run (s .args .c) _) (sym (c .before .before .before .before .before .before .leading .ensures .rest _ (s .args .k)))), c .run-on3 .ensures .1)
 
 pub run-window-spec : {M : Type 1} → statement M
 run-window-spec =
     tie.close
     (tie.spec
-    Inv-loop
-    μ-loop
-    loop-holds
-    mul-code
-    shared-slice-read-code
-    add-t16
+    leading-requires
+    returns
+    enum-told
     add-t18
+    add-t20
+    mul-dot-at
+    shared-slice-read-dot-at
     sub-dot-at
     dot-at-requires
-    add-requires
-    add-i
-    loop-less
-    loop-again
-    returns)
+    born-at-requires
+    add-run-on
+    run-on-requires
+    enum-known-from
+    run-on-requires-2
+    enum-known-from-2
+    run-on-requires-3
+    returns-2
+    returns-3
+    returns-4)
