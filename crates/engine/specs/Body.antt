@@ -15,6 +15,7 @@ use Rattle.engine.specs.Frame.{Frame, modeOf, outcomeOf, associatedOf, c
 
 -- ---- where things stand: what a kind of body is, apart from the meaning of its rows
 
+-- where counts and rows stand in a kind of body
 pub record Layout : Type 0 where
   -- bytes of a count of observations or associations, and of an index
   pub width : ℕ
@@ -87,12 +88,15 @@ module _ (k : Layout) (s : List ℕ) where
   abbrev pub trackCount : ℕ
   trackCount = getD s 1 0
 
+  -- "sensors"
   abbrev pub sensorCount : ℕ
   sensorCount = getD s (k .sensorsAt) 0
 
+  -- "observations"
   abbrev pub observationCount : ℕ
   observationCount = little (k .width) s (k .observationsAt)
 
+  -- "associations"
   abbrev pub associationCount : ℕ
   associationCount = little (k .width) s (k .associationsAt)
 
@@ -100,15 +104,19 @@ module _ (k : Layout) (s : List ℕ) where
   abbrev pub sensorsFrom : ℕ
   sensorsFrom = k .head + 16 * trackCount
 
+  -- where the observations begin
   abbrev pub observationsFrom : ℕ
   observationsFrom = sensorsFrom + 4 * sensorCount
 
+  -- where the associations begin
   abbrev pub associationsFrom : ℕ
   associationsFrom = observationsFrom + 24 * observationCount
 
+  -- how long the body is: "The length is exact"
   abbrev pub size : ℕ
   size = associationsFrom + 24 * associationCount
 
+  -- "i64 time"
   abbrev pub time : ℤ
   time = signed (little 8 s 8)
 
@@ -123,15 +131,19 @@ module _ (k : Layout) (s : List ℕ) where
       && (leb sensorCount (cond (eqb trackCount 0) 0 8)
       && (zeroBytes (k .zeros) s (k .zerosAt) && (timeOk time && eqb (length s) size)))))))
 
+  -- each engine track is well formed
   unfoldable pub tracksOk : Bool
   tracksOk = all (λ i. trackOk s (k .head + 16 * i)) trackCount
 
+  -- each association is well formed
   unfoldable pub associationsOk : Bool
   associationsOk = all (λ j. associationOk (k .width) s (associationsFrom + 24 * j)) associationCount
 
+  -- each observation passes 6
   unfoldable pub observationsOk : Bool
   observationsOk = all (λ i. observationOk s (observationsFrom + 24 * i)) observationCount
 
+  -- each index passes 7
   unfoldable pub indicesOk : Bool
   indicesOk = all (indexOk (k .width) s associationsFrom observationCount) associationCount
 
@@ -146,9 +158,11 @@ unfoldable pub rows : {A : Type 0} → (ℕ → A) → ℕ → ℕ → List A
 rows g i zero = []
 rows g i (suc n) = g i ∷ rows g (suc i) n
 
+-- "Tracks: u64 id, u32 class, byte class present, three zeros": the engine track at place o
 unfoldable pub trackAt : List ℕ → ℕ → EngineTrack
 trackAt s o = record { id = record { 0 = little 8 s o }; class = classOf (getD s (o + 12) 0) (little 4 s (o + 8)) }
 
+-- "Observations: three f64": the one at place o
 unfoldable pub observationAt : List ℕ → ℕ → Observation
 observationAt s o =
     record {
@@ -157,6 +171,7 @@ observationAt s o =
       z = ofBits binary64 (little 8 s (o + 16));
     }
 
+-- "Associations: bytes index, id present, outcome, cost present, four zeros, u64 id, f64 cost": the one at place o, with an index of w bytes
 unfoldable pub associationAt : ℕ → List ℕ → ℕ → Association
 associationAt w s o =
     record {
@@ -183,9 +198,11 @@ pub data Decoded : Type 0 where
   refused : ℕ → Decoded
   read : Frame → Decoded
 
+-- by the refusal that the body gets
 abbrev pub decodedBy : ℕ → Frame → Decoded
 decodedBy zero f = read f
 decodedBy (suc n) f = refused (suc n)
 
+-- a frame, or the first of 5, 6 and 7 that holds
 unfoldable pub decode : Layout → List ℕ → Decoded
 decode k s = decodedBy (refusal k s) (frameOf k s)

@@ -7,36 +7,47 @@ use lib.Ieee.{Float, binary64, ofBits}
 use Rattle.scalar.specs.Scalar.{finite}
 use Rattle.engine.specs.declared.config.FgoConfig.{FgoConfig}
 
+-- "lag_frames"; the fields stand in the order of `FgoConfig`
 abbrev pub lag : FgoConfig → ℕ
 lag c = c .«lag_frames»
 
+-- "radius": how near two detections of a pair have to come
 abbrev pub radius : FgoConfig → Float
 radius c = c .«radius_m»
 
+-- "birth_cost"
 abbrev pub birth : FgoConfig → Float
 birth c = c .«birth_cost»
 
+-- "miss_cost"
 abbrev pub miss : FgoConfig → Float
 miss c = c .«miss_cost»
 
+-- "clutter_cost"
 abbrev pub clutter : FgoConfig → Float
 clutter c = c .«clutter_cost»
 
+-- the acceleration spectral density, "q"
 abbrev pub density : FgoConfig → Float
 density c = c .«accel_spectral_density»
 
+-- the standard deviation of a position, "sigma"
 abbrev pub sigma : FgoConfig → Float
 sigma c = c .«position_sigma_m»
 
+-- the variance of a new track's speed, "initial variance"
 abbrev pub variance : FgoConfig → Float
 variance c = c .«initial_velocity_variance»
 
+-- "coast_ns"
 abbrev pub coast : FgoConfig → ℤ
 coast c = c .«coast_ns»
 
+-- "forget_after_ns"
 abbrev pub forgetAfter : FgoConfig → ℤ
 forgetAfter c = c .«forget_after_ns»
 
+-- "max_passes"
 abbrev pub maxPasses : FgoConfig → ℕ
 maxPasses c = c .«max_passes»
 

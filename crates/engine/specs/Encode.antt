@@ -34,26 +34,32 @@ laid (x ∷ l) = bytesOf (x .0) (x .1) ++ laid l
 
 -- ---- the fields of each row. A present byte, and the value that it speaks of: "an absent value is zero"
 
+-- "byte class present"
 abbrev pub classPresent : ClassLabel → ℕ
 classPresent Unknown = 0
 classPresent (Known v) = 1
 
+-- "u32 class"
 abbrev pub classValue : ClassLabel → ℕ
 classValue Unknown = 0
 classValue (Known v) = v
 
+-- "id present"
 abbrev pub idPresent : Associated → ℕ
 idPresent Nobody = 0
 idPresent (Track x) = 1
 
+-- "u64 id"
 abbrev pub idValue : Associated → ℕ
 idValue Nobody = 0
 idValue (Track x) = x .0
 
+-- "cost present"
 abbrev pub costPresent : Cost → ℕ
 costPresent Absent = 0
 costPresent (Paid x) = 1
 
+-- "f64 cost", as its pattern
 abbrev pub costValue : Cost → ℕ
 costValue Absent = 0
 costValue (Paid x) = bitsOf x
@@ -86,15 +92,19 @@ associationFields w a =
 abbrev pub trackBytes : Frame → List ℕ
 trackBytes f = flatMap (λ t. laid (trackFields t)) (f .tracks)
 
+-- the sensors, one after the other
 abbrev pub sensorBytes : Frame → List ℕ
 sensorBytes f = flatMap (λ v. laid (sensorFields v)) (f .sensors)
 
+-- the observations
 abbrev pub observationBytes : Frame → List ℕ
 observationBytes f = flatMap (λ p. laid (observationFields p)) (f .observations)
 
+-- the associations, with indices of w bytes
 abbrev pub associationBytes : ℕ → Frame → List ℕ
 associationBytes w f = flatMap (λ a. laid (associationFields w a)) (f .associations)
 
+-- all rows, in the order of the body
 abbrev pub rowBytes : ℕ → Frame → List ℕ
 rowBytes w f = trackBytes f ++ (sensorBytes f ++ (observationBytes f ++ associationBytes w f))
 
@@ -110,6 +120,7 @@ headFields f =
     ∷ (8, word (f .time))
     ∷ []
 
+-- the body that says a frame
 unfoldable pub encode : Frame → List ℕ
 encode f = laid (headFields f) ++ rowBytes 1 f
 
@@ -119,14 +130,17 @@ encode f = laid (headFields f) ++ rowBytes 1 f
 abbrev pub Held : Float → Type 0
 Held x = fits binary64 x ≡ true
 
+-- a cost that is there is a float of the format
 abbrev pub HeldCost : Cost → Type 0
 HeldCost Absent = Unit
 HeldCost (Paid x) = Held x
 
+-- an engine track whose numbers have room
 pub record TrackOk (t : EngineTrack) : Type 0 where
   pub id : t .id .0 < 2 ^ 64
   pub class : classValue (t .class) < 2 ^ 32
 
+-- an observation that 6 does not refuse
 pub record ObservationOk (p : Observation) : Type 0 where
   pub x : Held (p .x) × (finite (p .x) ≡ true)
   pub y : Held (p .y) × (finite (p .y) ≡ true)
@@ -138,6 +152,7 @@ pub record AssociationOk (n : ℕ) (a : Association) : Type 0 where
   pub id : idValue (a .track) < 2 ^ 64
   pub cost : HeldCost (a .cost)
 
+-- a frame that a body of the layout can say
 pub record FrameOk (k : Layout) (f : Frame) : Type 0 where
   pub few-tracks : length (f .tracks) ≤ 32
   pub few-sensors : length (f .sensors) ≤ cond (eqb (length (f .tracks)) 0) 0 8

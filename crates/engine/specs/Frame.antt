@@ -17,6 +17,7 @@ use Rattle.engine.specs.declared.types.EngineTrack.{EngineTrack}
 use Rattle.engine.specs.declared.types.Observation.{Observation}
 use Rattle.engine.specs.declared.types.Association.{Association}
 
+-- a frame: its mode, its time in nanoseconds, engine tracks, sensors, observations and associations
 pub record Frame : Type 0 where
   pub mode : TrackingMode
   pub time : ℤ
@@ -32,6 +33,7 @@ modeNumber LidarOnly = 0
 modeNumber CameraAssociated = 1
 modeNumber CameraAssisted = 2
 
+-- the mode of a byte; every byte above 1 is read as the last
 abbrev pub modeOf : ℕ → TrackingMode
 modeOf zero = LidarOnly
 modeOf (suc zero) = CameraAssociated
@@ -43,6 +45,7 @@ outcomeNumber Updated = 0
 outcomeNumber Spawned = 1
 outcomeNumber Unmatched = 2
 
+-- the outcome of a byte, likewise
 abbrev pub outcomeOf : ℕ → Outcome
 outcomeOf zero = Updated
 outcomeOf (suc zero) = Spawned
@@ -53,10 +56,12 @@ abbrev pub associatedOf : ℕ → ℕ → Associated
 associatedOf zero v = Nobody
 associatedOf (suc n) v = Track (record { 0 = v })
 
+-- likewise the class of an engine track
 abbrev pub classOf : ℕ → ℕ → ClassLabel
 classOf zero v = Unknown
 classOf (suc n) v = Known v
 
+-- and the cost of an association
 abbrev pub costOf : ℕ → Float → Cost
 costOf zero v = Absent
 costOf (suc n) v = Paid v
@@ -65,8 +70,10 @@ costOf (suc n) v = Paid v
 abbrev pub noTrack : EngineTrack
 noTrack = record { id = record { 0 = 0 }; class = Unknown }
 
+-- a dot that is nowhere
 abbrev pub noObservation : Observation
 noObservation = record { x = nan; y = nan; z = nan }
 
+-- an association of nothing
 abbrev pub noAssociation : Association
 noAssociation = record { index = record { 0 = 0 }; track = Nobody; outcome = Unmatched; cost = Absent }

@@ -51,6 +51,7 @@ step c Fresh d = Going (born c d)
 step c (Frozen k l) d = Going (added c (resumed k l) d)
 step c (Going s) d = Going (added c s d)
 
+-- the fold over detections: one after the other
 unfoldable pub run : FgoConfig → Fold → List Det → Fold
 run c s ds = foldl (step c) s ds
 
@@ -66,13 +67,16 @@ cost c from ds = closed c (run c from ds)
 
 -- ---- what the code lends: the number of the first scan, and x, y, r and t of each dot
 
+-- the number of the oldest scan held, and the dots
 pub record View : Type 0 where
   pub first : ℕ
   pub dots : List Float
 
+-- the view of what is lent
 abbrev pub viewOf : ScanIndex → List Float → View
 viewOf first dots = record { first = first .0; dots = dots }
 
+-- what stands past the last dot
 abbrev pub noDot : Dot
 noDot = record { x = nan; y = nan; r = nan; t = nan }
 
@@ -83,6 +87,7 @@ dotAt ds i =
     (record { x = getD ds (4 * i) nan; y = getD ds (4 * i + 1) nan; r = getD ds (4 * i + 2) nan; t = getD ds (4 * i + 3) nan })
     noDot
 
+-- a dot, as the detection of a scan
 abbrev pub detOf : ScanIndex → Dot → Det
 detOf scan d = record { scan = scan .0; t = d .t; x = d .x; y = d .y; r = d .r }
 
@@ -98,6 +103,7 @@ dets v k (suc j ∷ r) = detAt v k j ∷ dets v (suc k) r
 
 -- ---- what the inner functions ask, beside the meaning
 
+-- the scans without a detection that a fold has counted
 abbrev pub missesOf : Fold → ℕ
 missesOf Fresh = 0
 missesOf (Frozen k l) = 0
@@ -109,6 +115,7 @@ pub record Kept (logs : List Float) : Type 0 where
   pub variance : (i : ℕ) → i < 128 → T (fits binary64 (getD logs (2 * i) nan)) × T (not (isNan (getD logs (2 * i) nan)))
   pub right : (i : ℕ) → i < 128 → lt (ofBits binary64 0) (getD logs (2 * i) nan) ≡ true → getD logs (2 * i + 1) nan ≡ logTerm f64 (getD logs (2 * i) nan)
 
+-- l is the logarithm that an update of variance s adds, and the table is right
 pub record Recalled (s l : Float) (logs : List Float) : Type 0 where
   pub is : l ≡ logTerm f64 s
   pub kept : Kept logs

@@ -6,12 +6,15 @@ use Rattle.kf.specs.declared.filter.Kf.{Kf}
 use Rattle.kf.specs.declared.filter.Updated.{Updated}
 use Rattle.kf.specs.Plain.{Axis, Cov, startAxis, startCov, predictAxis, predictCov, gain, innovation, updateAxis, updateCov, logTerm, nll}
 
+-- "x" and its speed
 abbrev pub axisX : Kf → Axis Float
 axisX k = record { at = k .x; speed = k .vx }
 
+-- "y" and its speed
 abbrev pub axisY : Kf → Axis Float
 axisY k = record { at = k .y; speed = k .vy }
 
+-- "p00, p01, p11"
 abbrev pub covOf : Kf → Cov Float
 covOf k = record { p00 = k .p00; p01 = k .p01; p11 = k .p11 }
 
@@ -20,14 +23,17 @@ abbrev pub kfOf : Axis Float → Axis Float → Cov Float → Float → Kf
 kfOf x y p t =
     record { x = x .at; y = y .at; vx = x .speed; vy = y .speed; p00 = p .p00; p01 = p .p01; p11 = p .p11; t = t }
 
+-- "Start": at a position and a time, r the variance of the position and v that of the speed
 abbrev pub started : Float → Float → Float → Float → Float → Kf
 started x y t r v = kfOf (startAxis f64 x) (startAxis f64 y) (startCov f64 r v) t
 
+-- "Predict": to the time t, q the acceleration spectral density
 abbrev pub predicted : Kf → Float → Float → Kf
 predicted k t q =
     let dt = sub binary64 t (k .t) in
     kfOf (predictAxis f64 dt (axisX k)) (predictAxis f64 dt (axisY k)) (predictCov f64 q dt (covOf k)) t
 
+-- "Update" with a position, r its variance; and the NLL
 abbrev pub updated : Kf → Float → Float → Float → Updated
 updated k x y r =
     let g = gain f64 r (covOf k) in

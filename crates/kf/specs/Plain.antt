@@ -29,6 +29,7 @@ module _ (N : Num) where
   abbrev pub startAxis : F → Axis F
   startAxis z = record { at = z; speed = zero }
 
+  -- "sigma², 0, initial variance": r is sigma²
   abbrev pub startCov : F → F → Cov F
   startCov r v = record { p00 = r; p01 = zero; p11 = v }
 
@@ -45,6 +46,7 @@ module _ (N : Num) where
         p11 = p .p11 ⊕ q ⊗ dt;
       }
 
+  -- the gain of an update: r is the variance of the position
   abbrev pub gain : F → Cov F → Gain F
   gain r p = let s = p .p00 ⊕ r in record { s = s; k0 = p .p00 ⊘ s; k1 = p .p01 ⊘ s }
 

@@ -38,6 +38,7 @@ module _ (N : Num) where
   unfoldable pub columns : List F → List (List F)
   columns a = grown (λ j cs. column a cs j) 6
 
+  -- the factor L, by rows
   unfoldable pub cholesky : List F → List F
   cholesky a = matrix N (λ i j. low (columns a) i j)
 
@@ -45,6 +46,7 @@ module _ (N : Num) where
   abbrev pub above6 : F → F → F → F → F → F → Bool
   above6 d0 d1 d2 d3 d4 d5 = lt nought d0 && (lt nought d1 && (lt nought d2 && (lt nought d3 && (lt nought d4 && lt nought d5))))
 
+  -- the pivot of column j
   abbrev pub pivot : List F → ℕ → F
   pivot a j = reduced a (columns a) j j
 
@@ -60,5 +62,6 @@ module _ (N : Num) where
   unfoldable pub backward : List F → List F → List F
   backward l y = backed (λ n x. let i = 5 - n in less (λ k. entry N l (i + 1 + k) i) (λ k. at N x k) (at N y i) n ⊘ entry N l i i) 6
 
+  -- "Inverse": column c is what substitution makes of unit column c
   unfoldable pub inverse : List F → List F
   inverse l = matrix N (λ i c. at N (backward l (forward l c)) i)

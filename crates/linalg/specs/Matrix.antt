@@ -29,10 +29,11 @@ module _ (N : Num) where
   abbrev pub matrix : (ℕ → ℕ → F) → List F
   matrix f = tabulate (λ n. f (n / 6) (n % 6)) 36
 
-  -- the unit matrix
+  -- the unit matrix, entry by entry
   abbrev pub unit : ℕ → ℕ → F
   unit i j = cond (eqb i j) one nought
 
+  -- the unit matrix
   unfoldable pub identity : List F
   identity = matrix unit
 
@@ -52,13 +53,15 @@ module _ (N : Num) where
   unfoldable pub transpose : List F → List F
   transpose a = matrix (λ i j. entry a j i)
 
-  -- sum, difference and multiple of lists of n numbers, one by one
+  -- a + b, of n numbers each
   unfoldable pub add : ℕ → List F → List F → List F
   add n a b = tabulate (λ k. at a k ⊕ at b k) n
 
+  -- a − b
   unfoldable pub sub : ℕ → List F → List F → List F
   sub n a b = tabulate (λ k. at a k ⊖ at b k) n
 
+  -- c · a
   unfoldable pub scale : ℕ → F → List F → List F
   scale n c a = tabulate (λ k. c ⊗ at a k) n
 

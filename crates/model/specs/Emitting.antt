@@ -17,6 +17,7 @@ use Rattle.engine.specs.declared.types.Cost.the-variants.{Absent, Paid}
 use Rattle.engine.specs.declared.types.Association.{Association}
 use Rattle.engine.specs.Config.{density, sigma}
 use Rattle.engine.specs.Frame.{modeNumber, outcomeNumber}
+use Rattle.engine.specs.Encode.{costPresent}
 use Rattle.kf.specs.declared.filter.Kf.{Kf}
 use Rattle.kf.specs.Filter.{predicted}
 use Rattle.model.specs.Lists.{keep}
@@ -81,14 +82,11 @@ abbrev pub outcomeWord : ℕ → Outcome → ℕ
 outcomeWord zero o = 2
 outcomeWord (suc i) o = outcomeNumber o
 
-abbrev pub costPresent : Cost → ℕ
-costPresent Absent = 0
-costPresent (Paid v) = 1
-
 -- "per association index, id (0 none), outcome, cost present"
 abbrev pub associationWords : Association → ℕ → List ℕ
 associationWords a i = a .index .0 ∷ i ∷ outcomeWord i (a .outcome) ∷ costPresent (a .cost) ∷ []
 
+-- those of all associations
 unfoldable pub associationsWords : List Association → List ℕ → List ℕ
 associationsWords [] is = []
 associationsWords (a ∷ l) [] = []
@@ -100,6 +98,7 @@ headWords e =
     let f = e .scan .frame in
     word (f .time) ∷ modeNumber (f .mode) ∷ length (e .tracks) ∷ length (f .associations) ∷ length (f .sensors) ∷ 0 ∷ []
 
+-- the words of a frame: head, tracks, associations, "then the frame's sensors"
 unfoldable pub wordsOf : Emitted → List ℕ
 wordsOf e =
     headWords e
@@ -129,10 +128,12 @@ trackNumbers l =
     let k = l .kf in
     k .x ∷ k .y ∷ l .height ∷ k .vx ∷ k .vy ∷ ofBits binary64 0 ∷ covariance k (l .r)
 
+-- "one cost per association"; 0.0 where there is none
 abbrev pub costNumber : Cost → Float
 costNumber Absent = ofBits binary64 0
 costNumber (Paid v) = v
 
+-- the numbers of a frame
 unfoldable pub numbersOf : Emitted → List Float
 numbersOf e = flatMap trackNumbers (e .tracks) ++ map (λ a. costNumber (a .cost)) (e .scan .frame .associations)
 

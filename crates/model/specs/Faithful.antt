@@ -12,15 +12,17 @@ use Rattle.model.specs.Searching.{shared}
 
 -- ---- parts of a window
 
--- "the parts of their windows from the cut on", and the parts before it
+-- the part of a window before the cut
 abbrev pub before : ℕ → List Dot → List Dot
 before f w = keep (λ d. ltb (d .scan) f) w
 
+-- "the parts of their windows from the cut on"
 abbrev pub from : ℕ → List Dot → List Dot
 from f w = keep (λ d. leb f (d .scan)) w
 
 -- ---- two windows as one
 
+-- by which of two detections has the earlier scan; own says whose is kept in equal scans
 abbrev pub besideBy : Ordering → Bool → Dot → Dot → (List Dot → List Dot) → List Dot → List Dot → List Dot
 besideBy Ordering·lt own d e later w r = d ∷ later (e ∷ w)
 besideBy Ordering·eq own d e later w r = cond own d e ∷ later w
@@ -38,10 +40,11 @@ unfoldable pub joined : Bool → List Dot → List Dot → List Dot
 joined own [] w = w
 joined own (d ∷ v) w = beside own d (joined own v) w
 
--- "The detections not kept are the losers": those of one window whose scans the other has too
+-- a window has a detection in the scan of d
 abbrev pub shares : List Dot → Dot → Bool
 shares w d = any (λ e. eqb (d .scan) (e .scan)) w
 
+-- "The detections not kept are the losers": the other's, or the keeper's, in shared scans
 abbrev pub losers : Bool → List Dot → List Dot → List Dot
 losers own v w = keep (shares (cond own v w)) (cond own w v)
 

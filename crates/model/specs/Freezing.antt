@@ -15,7 +15,7 @@ use Rattle.engine.specs.declared.types.Association.{Association}
 use Rattle.engine.specs.Config.{density, variance, coast, forgetAfter}
 use Rattle.engine.specs.Frame.{Frame}
 use Rattle.kf.specs.declared.filter.Kf.{Kf}
-use Rattle.kf.specs.Filter.{started, predicted, updated}
+use Rattle.kf.specs.Filter.{started, moved}
 use Rattle.model.specs.Lists.{keep, has, find, put}
 use Rattle.model.specs.Windows.{Scan, Dot, Prefix, dotOf, noise, present}
 
@@ -25,7 +25,7 @@ startAt c d = started (d .x) (d .y) (secondsOf (d .time)) (noise c d) (variance 
 
 -- "Track work is: predict to a time, then update with a position"
 abbrev pub moveOn : FgoConfig → Kf → Dot → Kf
-moveOn c k d = updated (predicted k (secondsOf (d .time)) (density c)) (d .x) (d .y) (noise c d) .kf
+moveOn c k d = moved k (secondsOf (d .time)) (density c) (d .x) (d .y) (noise c d)
 
 -- "A track keeps its last five heights"
 abbrev pub five : List Float → List Float
@@ -55,16 +55,18 @@ freeze c (some p) d =
       class = newer (d .class) (p .class);
     }
 
--- "the oldest one leaves and its detections are frozen into their tracks"
+-- one detection of scan n is frozen into the track that has it; clutter into none
 abbrev pub freezeOne : FgoConfig → ℕ → Frame → List (ℕ × Prefix) → Association → ℕ → List (ℕ × Prefix)
 freezeOne c n f ps a zero = ps
 freezeOne c n f ps a (suc i) = put (suc i) (freeze c (find (suc i) ps) (dotOf n f a)) ps
 
+-- those of all associations, in order
 unfoldable pub freezeAll : FgoConfig → ℕ → Frame → List Association → List ℕ → List (ℕ × Prefix) → List (ℕ × Prefix)
 freezeAll c n f [] is ps = ps
 freezeAll c n f (a ∷ l) [] ps = ps
 freezeAll c n f (a ∷ l) (i ∷ is) ps = freezeAll c n f l is (freezeOne c n f ps a i)
 
+-- "the oldest one leaves and its detections are frozen into their tracks"
 abbrev pub freezeScan : FgoConfig → ℕ → Scan → List (ℕ × Prefix) → List (ℕ × Prefix)
 freezeScan c n s ps = freezeAll c n (s .frame) (s .frame .associations) (s .ids) ps
 
@@ -76,9 +78,10 @@ ageOf now p = now -ℤ p .lastNs
 abbrev pub listable : FgoConfig → ℤ → ℕ × Prefix → Bool
 listable c now e = leZ (ageOf now (e .1)) (coast c)
 
--- "After the listing, the tracks that have no window and an age above forget_after_ns are removed"
+-- the track has a window, or an age that is not above forget_after_ns
 abbrev pub kept : FgoConfig → ℤ → List Scan → ℕ × Prefix → Bool
 kept c now ss e = has (e .0) (present ss) || leZ (ageOf now (e .1)) (forgetAfter c)
 
+-- "After the listing, the tracks that have no window and an age above forget_after_ns are removed"
 unfoldable pub remember : FgoConfig → ℤ → List Scan → List (ℕ × Prefix) → List (ℕ × Prefix)
 remember c now ss ps = keep (kept c now ss) ps

@@ -37,11 +37,13 @@ pub record Run : Type 0 where
   pub accepted : List Frame
   pub emitted : List Emitted
 
+-- the frame that an answer gives
 abbrev pub emittedBy : Answer → List Emitted
 emittedBy (refused n) = []
 emittedBy waits = []
 emittedBy (gives e) = e ∷ []
 
+-- the frame f, where the answer is no refusal
 abbrev pub acceptedBy : Frame → Answer → List Frame
 acceptedBy f (refused n) = []
 acceptedBy f waits = f ∷ []
@@ -52,6 +54,7 @@ abbrev pub answer : FgoConfig → State → Op → Answer × State
 answer c t (pushed s) = push c t s
 answer c t taken = takes c t
 
+-- one operation more
 unfoldable pub step : FgoConfig → Run → Op → Run
 step c r (pushed s) =
     let a = answer c (r .state) (pushed s) in
@@ -60,17 +63,21 @@ step c r taken =
     let a = answer c (r .state) taken in
     record { state = a .1; accepted = r .accepted; emitted = r .emitted ++ emittedBy (a .0) }
 
+-- "a new refiner"
 abbrev pub begin : Run
 begin = record { state = new; accepted = []; emitted = [] }
 
+-- operations from a new refiner on, in order
 unfoldable pub run : FgoConfig → List Op → Run
 run c ops = foldl (step c) begin ops
 
 -- ---- "01's plain filter run afresh"
 
+-- it starts at the first observation and moves on by each further one
 unfoldable pub filterOver : FgoConfig → Dot → List Dot → Kf
 filterOver c d ds = foldl (moveOn c) (startAt c d) ds
 
+-- the last of d and ds
 abbrev pub lastOf : Dot → List Dot → Dot
 lastOf d [] = d
 lastOf d (e ∷ ds) = lastOf e ds
@@ -99,9 +106,11 @@ afresh c now x (d ∷ ds) =
 
 -- ---- the theorem
 
+-- the emitted frames as scans with their ids
 abbrev pub scansOf : List Emitted → List Scan
 scansOf es = map (λ e. e .scan) es
 
+-- the time of an emitted frame
 abbrev pub timeOf : Emitted → ℤ
 timeOf e = e .scan .frame .time
 
@@ -150,6 +159,7 @@ Sent taken = Unit {0}
 abbrev pub Stands : ℕ → List Scan → Type 0
 Stands x ss = (s : Scan) × List·Memᴰ s ss × (0 < times x (s .ids))
 
+-- demand 3, of a list of operations
 pub record History (c : FgoConfig) (ops : List Op) : Type 0 where
   -- "frames come out in the order accepted"
   pub inOrder : map (λ e. e .scan .frame) (run c ops .emitted) ++ map (λ s. s .frame) (run c ops .state .scans) ≡ run c ops .accepted

@@ -7,6 +7,7 @@ use lib.ListN.{length}
 use lib.Dec.{eqb}
 
 module _ {A : Type 0} where
+  -- a in front of l, if the test passes
   abbrev pub consIf : Bool → A → List A → List A
   consIf true a l = a ∷ l
   consIf false a l = l
@@ -16,6 +17,7 @@ module _ {A : Type 0} where
   keep f [] = []
   keep f (a ∷ l) = consIf (f a) a (keep f l)
 
+  -- one of them passes the test
   unfoldable pub any : (A → Bool) → List A → Bool
   any f [] = false
   any f (a ∷ l) = f a || any f l
@@ -25,6 +27,7 @@ unfoldable pub upFrom : ℕ → ℕ → List ℕ
 upFrom n zero = []
 upFrom n (suc k) = n ∷ upFrom (suc n) k
 
+-- x stands in a list
 abbrev pub has : ℕ → List ℕ → Bool
 has x l = any (eqb x) l
 
@@ -32,32 +35,36 @@ has x l = any (eqb x) l
 abbrev pub times : ℕ → List ℕ → ℕ
 times x l = length (keep (eqb x) l)
 
--- x added to an ascending list, once
+-- by how x compares with the first, y
 abbrev pub insertBy : Ordering → ℕ → ℕ → List ℕ → List ℕ → List ℕ
 insertBy Ordering·lt x y ys r = x ∷ y ∷ ys
 insertBy Ordering·eq x y ys r = y ∷ ys
 insertBy Ordering·gt x y ys r = y ∷ r
 
+-- x added to an ascending list, once
 unfoldable pub insert : ℕ → List ℕ → List ℕ
 insert x [] = x ∷ []
 insert x (y ∷ ys) = insertBy (compare x y) x y ys (insert x ys)
 
 -- "Maps become tables by id": pairs of a key and a value
 module _ {A : Type 0} where
+  -- a, if the key is the one asked for
   abbrev pub foundIf : Bool → A → Option A → Option A
   foundIf true a r = some a
   foundIf false a r = r
 
+  -- the value of a key
   unfoldable pub find : ℕ → List (ℕ × A) → Option A
   find x [] = none
   find x (e ∷ t) = foundIf (eqb x (e .0)) (e .1) (find x t)
 
-  -- a table by ascending key
+  -- by how the key compares with that of the first entry
   abbrev pub putBy : Ordering → ℕ × A → ℕ × A → List (ℕ × A) → List (ℕ × A) → List (ℕ × A)
   putBy Ordering·lt n e t r = n ∷ e ∷ t
   putBy Ordering·eq n e t r = n ∷ t
   putBy Ordering·gt n e t r = e ∷ r
 
+  -- a value put under its key into a table by ascending key
   unfoldable pub put : ℕ → A → List (ℕ × A) → List (ℕ × A)
   put x a [] = (x, a) ∷ []
   put x a (e ∷ t) = putBy (compare x (e .0)) (x, a) e t (put x a t)
@@ -67,6 +74,7 @@ module _ {A : Type 0} where
   assign x a [] = (x, a) ∷ []
   assign x a (e ∷ t) = cond (eqb x (e .0)) ((x, a) ∷ t) (e ∷ assign x a t)
 
+-- there is a value
 abbrev pub isSome : {A : Type 0} → Option A → Bool
 isSome none = false
 isSome (some a) = true

@@ -9,6 +9,7 @@ use Rattle.engine.specs.declared.types.Association.{Association}
 use Rattle.model.specs.Lists.{keep}
 use Rattle.model.specs.Windows.{Scan, Prefix, live}
 
+-- the association has the engine id e
 abbrev pub isEngine : ℕ → Associated → Bool
 isEngine e Nobody = false
 isEngine e (Track k) = eqb e (k .0)
@@ -19,6 +20,7 @@ holderIn e [] is = 0
 holderIn e (a ∷ l) [] = 0
 holderIn e (a ∷ l) (i ∷ is) = max (cond (isEngine e (a .track)) i 0) (holderIn e l is)
 
+-- x, or y where x is 0
 abbrev pub orElse : ℕ → ℕ → ℕ
 orElse zero y = y
 orElse (suc x) y = suc x

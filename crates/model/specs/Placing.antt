@@ -30,6 +30,7 @@ abbrev pub placeOne : List (ℕ × Prefix) → List Scan → Placing → Associa
 placeOne ps ss p Nobody = record { ids = p .ids ++ (0 ∷ []); owners = p .owners; next = p .next }
 placeOne ps ss p (Track e) = placeTrack p (e .0) (freeOwner ps ss (p .ids) (find (e .0) (p .owners)))
 
+-- "Push takes the frame's associations in order."
 unfoldable pub place : List (ℕ × Prefix) → List Scan → List Association → Placing → Placing
 place ps ss [] p = p
 place ps ss (a ∷ l) p = place ps ss l (placeOne ps ss p (a .track))

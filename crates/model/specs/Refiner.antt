@@ -43,6 +43,7 @@ new =
       counters = record { swaps = 0; merges = 0; splits = 0; drops = 0 };
     }
 
+-- what a call answers: a refusal's number, "held", or a frame
 pub data Answer : Type 0 where
   refused : ℕ → Answer
   waits : Answer
@@ -50,15 +51,19 @@ pub data Answer : Type 0 where
 
 -- ---- a frame arrives: placing, searching, owning
 
+-- the ids that placing gives
 abbrev pub placed : State → Frame → Placing
 placed t f = place (t .prefixes) (t .scans) (f .associations) (record { ids = []; owners = t .owners; next = t .next })
 
+-- the held scans and the new one
 abbrev pub withScan : State → Frame → List Scan
 withScan t f = t .scans ++ (record { frame = f; ids = placed t f .ids } ∷ [])
 
+-- what the search makes of them
 abbrev pub searched : FgoConfig → State → Frame → Searched
 searched c t f = improve c (t .first) (t .prefixes) (withScan t f) (placed t f .next) (t .counters)
 
+-- the state with the new scan in it
 unfoldable pub arrive : FgoConfig → State → Frame → State
 arrive c t f =
     let r = searched c t f .search in
@@ -73,9 +78,11 @@ arrive c t f =
 
 -- ---- the oldest scan leaves: freezing, listing, forgetting
 
+-- the frame that the scan s, of number n, becomes
 unfoldable pub emit : FgoConfig → ℕ → List (ℕ × Prefix) → Scan → Emitted
 emit c n ps s = record { scan = s; tracks = listing c (s .frame .time) (freezeScan c n s ps) }
 
+-- the state without it
 unfoldable pub leave : FgoConfig → State → Scan → List Scan → State
 leave c t s ss =
     let ps = remember c (s .frame .time) ss (freezeScan c (t .first) s (t .prefixes)) in
@@ -108,6 +115,7 @@ full8 t =
     || (ltb (2 ^ 60) (t .counters .swaps)
     || (ltb (2 ^ 60) (t .counters .merges) || (ltb (2 ^ 60) (t .counters .splits) || ltb (2 ^ 60) (t .counters .drops)))))
 
+-- the association has an engine id
 abbrev pub hasId : Associated → Bool
 hasId Nobody = false
 hasId (Track e) = true
@@ -120,6 +128,7 @@ idCount l = length (keep (λ a. hasId (a .track)) l)
 unfoldable pub full9 : State → Frame → Bool
 full9 t f = ltb 128 (length (t .prefixes) + detections (t .scans) + idCount (f .associations))
 
+-- an engine id joined to those of a list
 abbrev pub join : Associated → List ℕ → List ℕ
 join Nobody l = l
 join (Track e) l = cond (has (e .0) l) l ((e .0) ∷ l)
@@ -135,6 +144,7 @@ firstOf false true d = some 9
 firstOf false false true = some 10
 firstOf false false false = none
 
+-- a refusal changes nothing; else the frame arrives, and the oldest leaves "when more than lag scans are held"
 abbrev pub pushBy : Option ℕ → FgoConfig → State → Frame → Answer × State
 pushBy (some n) c t f = (refused n, t)
 pushBy none c t f = let u = arrive c t f in settle c u (ltb (lag c) (length (u .scans)))
@@ -143,6 +153,7 @@ pushBy none c t f = let u = arrive c t f in settle c u (ltb (lag c) (length (u .
 unfoldable pub pushFrame : FgoConfig → State → Frame → Answer × State
 pushFrame c t f = pushBy (firstOf (full8 t) (full9 t f) (full10 t f)) c t f
 
+-- a body that is refused, or the frame that it says
 abbrev pub pushRead : FgoConfig → State → Decoded → Answer × State
 pushRead c t (unread n) = (refused n, t)
 pushRead c t (read f) = pushFrame c t f

@@ -21,6 +21,7 @@ use Rattle.model.specs.Windows.{Scan, Prefix, live, detections}
 use Rattle.model.specs.Owning.{latest}
 use Rattle.model.specs.Refiner.{State}
 
+-- P holds of each
 abbrev pub All : {A : Type 0} → (A → Type 0) → List A → Type 0
 All P [] = Unit {0}
 All P (a ∷ l) = P a × All P l
@@ -54,6 +55,7 @@ abbrev pub LooseOne : Associated → ℕ → Type 0
 LooseOne Nobody i = i ≡ 0
 LooseOne (Track e) i = Unit {0}
 
+-- of all associations of a scan, and their ids
 abbrev pub Loose : List Association → List ℕ → Type 0
 Loose [] is = Unit {0}
 Loose (a ∷ l) [] = Unit {0}
@@ -67,6 +69,7 @@ pub record ColumnRule (next : ℕ) (s : Scan) : Type 0 where
   pub loose : Loose (s .frame .associations) (s .ids)
   pub spoken : Spoken (s .frame)
 
+-- "Refiner state rule"
 pub record Rule (c : FgoConfig) (t : State) : Type 0 where
   pub settings : legal c ≡ true
   pub lagged : length (t .scans) ≤ lag c
@@ -86,16 +89,19 @@ pub record Rule (c : FgoConfig) (t : State) : Type 0 where
 
 -- ---- the test
 
+-- the test passes for each
 abbrev pub allOf : {A : Type 0} → (A → Bool) → List A → Bool
 allOf p [] = true
 allOf p (a ∷ l) = p a && allOf p l
 
+-- the test of `PrefixRule`
 abbrev pub prefixOk : ℕ → Prefix → Bool
 prefixOk first p =
     leb 1 (p .count)
     && (leb (p .count) first
     && (leb 1 (length (p .heights)) && (leb (length (p .heights)) 5 && (ltb (p .lastFrame) first && timeOk (p .lastNs)))))
 
+-- of `Rise`
 unfoldable pub risesOk : ℕ → ℕ → ℕ → List (ℕ × Prefix) → Bool
 risesOk first next x [] = true
 risesOk first next x (e ∷ ps) = ltb x (e .0) && (ltb (e .0) next && (prefixOk first (e .1) && risesOk first next (e .0) ps))
@@ -105,15 +111,18 @@ unfoldable pub apartOk : List ℕ → Bool
 apartOk [] = true
 apartOk (i ∷ is) = (eqb i 0 || not (has i is)) && apartOk is
 
+-- of `LooseOne`
 abbrev pub looseOk : Associated → ℕ → Bool
 looseOk Nobody i = eqb i 0
 looseOk (Track e) i = true
 
+-- of `Loose`
 unfoldable pub clutterOk : List Association → List ℕ → Bool
 clutterOk [] is = true
 clutterOk (a ∷ l) [] = true
 clutterOk (a ∷ l) (i ∷ is) = looseOk (a .track) i && clutterOk l is
 
+-- of `ColumnRule`, apart from `spoken`
 unfoldable pub columnOk : ℕ → Scan → Bool
 columnOk next s =
     eqb (length (s .ids)) (length (s .frame .associations))
@@ -124,16 +133,19 @@ abbrev pub ownerIs : Option ℕ → ℕ → Bool
 ownerIs none x = false
 ownerIs (some y) x = eqb y x
 
+-- where the association lies in a window, its engine id is owned by the holder of the latest
 abbrev pub ownedBy : List (ℕ × ℕ) → List Scan → Associated → ℕ → Bool
 ownedBy os ss Nobody i = true
 ownedBy os ss (Track e) zero = true
 ownedBy os ss (Track e) (suc i) = ownerIs (find (e .0) os) (latest (e .0) 0 ss)
 
+-- of all associations of a scan
 unfoldable pub ownedOk : List (ℕ × ℕ) → List Scan → List Association → List ℕ → Bool
 ownedOk os ss [] is = true
 ownedOk os ss (a ∷ l) [] = true
 ownedOk os ss (a ∷ l) (i ∷ is) = ownedBy os ss (a .track) i && ownedOk os ss l is
 
+-- no number stands twice
 unfoldable pub distinctOk : List ℕ → Bool
 distinctOk [] = true
 distinctOk (e ∷ es) = not (has e es) && distinctOk es

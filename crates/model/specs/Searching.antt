@@ -33,9 +33,11 @@ square v = v ⊗ v
 
 -- ---- moves: each renames ids within the scans
 
+-- an id with a and b exchanged
 abbrev pub exchange : ℕ → ℕ → ℕ → ℕ
 exchange a b i = cond (eqb a i) b (cond (eqb b i) a i)
 
+-- an id, or 0 where it is a
 abbrev pub clear : ℕ → ℕ → ℕ
 clear a i = cond (eqb a i) 0 i
 
@@ -69,6 +71,7 @@ pairGain Stay = ofBits binary64 0
 pairGain (Swap f g) = g
 pairGain (Merge k own g) = g
 
+-- likewise of a single track
 abbrev pub trackGain : TrackMove → Float
 trackGain Rest = ofBits binary64 0
 trackGain (Split f g) = g
@@ -78,34 +81,41 @@ trackGain (Drop f g) = g
 abbrev pub wins : Float → Float → Bool
 wins d best = lt d (best ⊖ ofBits binary64 0x3e11_2e0b_e826_d695)
 
+-- "keeps for each pair the best move with its gain": of equal gains the first tried stays
 abbrev pub betterPair : PairMove → PairMove → PairMove
 betterPair best m = cond (wins (pairGain m) (pairGain best)) m best
 
+-- likewise of a single track
 abbrev pub betterTrack : TrackMove → TrackMove → TrackMove
 betterTrack best m = cond (wins (trackGain m) (trackGain best)) m best
 
 -- ---- counting
 
+-- the counters after a move of a pair
 abbrev pub countPair : PairMove → FgoCounters → FgoCounters
 countPair Stay k = k
 countPair (Swap f g) k = record { swaps = suc (k .swaps); merges = k .merges; splits = k .splits; drops = k .drops }
 countPair (Merge i own g) k = record { swaps = k .swaps; merges = suc (k .merges); splits = k .splits; drops = k .drops }
 
+-- the counters after a move of a single track
 abbrev pub countTrack : TrackMove → FgoCounters → FgoCounters
 countTrack Rest k = k
 countTrack (Split f g) k = record { swaps = k .swaps; merges = k .merges; splits = suc (k .splits); drops = k .drops }
 countTrack (Drop f g) k = record { swaps = k .swaps; merges = k .merges; splits = k .splits; drops = suc (k .drops) }
 
+-- "The tail .. gets the next id"
 abbrev pub nextAfter : TrackMove → ℕ → ℕ
 nextAfter Rest n = n
 nextAfter (Split f g) n = suc n
 nextAfter (Drop f g) n = n
 
+-- a move of a pair was made
 abbrev pub pairMoves : PairMove → Bool
 pairMoves Stay = false
 pairMoves (Swap f g) = true
 pairMoves (Merge k own g) = true
 
+-- a move of a single track was made
 abbrev pub trackMoves : TrackMove → Bool
 trackMoves Rest = false
 trackMoves (Split f g) = true
@@ -129,6 +139,7 @@ pub record Pair : Type 0 where
   pub b : ℕ
   pub cuts : List ℕ
 
+-- a pair that has cuts is listed
 abbrev pub consPair : ℕ → ℕ → List ℕ → List Pair → List Pair
 consPair a b [] ps = ps
 consPair a b (g ∷ gs) ps = record { a = a; b = b; cuts = g ∷ gs } ∷ ps
@@ -194,13 +205,16 @@ module _ (c : FgoConfig) (first : ℕ) (ps : List (ℕ × Prefix)) where
   isCut v w g =
       any (λ d. any (λ e. (eqb g (min (d .scan) (e .scan)) || eqb g (suc (min (d .scan) (e .scan)))) && close d e) w) v
 
+  -- the cuts of a pair, ascending: f and f + 1 are held scans or the one after
   unfoldable pub cuts : List Scan → ℕ → ℕ → List ℕ
   cuts ss a b = keep (isCut (window a first ss) (window b first ss)) (upFrom first (suc (length ss)))
 
+  -- the pairs of a with later ids
   unfoldable pub pairsWith : List Scan → ℕ → List ℕ → List Pair
   pairsWith ss a [] = []
   pairsWith ss a (b ∷ bs) = consPair a b (cuts ss a b) (pairsWith ss a bs)
 
+  -- the pairs a < b of a list of ascending ids
   unfoldable pub pairs : List Scan → List ℕ → List Pair
   pairs ss [] = []
   pairs ss (a ∷ l) = pairsWith ss a l ++ pairs ss l
@@ -232,6 +246,7 @@ module _ (c : FgoConfig) (first : ℕ) (ps : List (ℕ × Prefix)) where
       ∷ tryMerge a b b false ss base
       ∷ [])
 
+  -- the best of them, from no move on
   unfoldable pub bestOfPair : List Scan → Pair → PairMove
   bestOfPair ss p = foldl betterPair Stay (pairCandidates ss p)
 
@@ -255,11 +270,13 @@ module _ (c : FgoConfig) (first : ℕ) (ps : List (ℕ × Prefix)) where
       let base = costOf a ss in
       map (trySplit a x ss base) (rest w) ++ map (tryDrop a ss base) (droppable (isSome (find a ps)) w)
 
+  -- the best of them, from no move on
   unfoldable pub bestOfTrack : List Scan → ℕ → ℕ → TrackMove
   bestOfTrack ss x a = foldl betterTrack Rest (trackCandidates ss x a)
 
   -- ---- passes
 
+  -- a pair's best move, made
   unfoldable pub pairStep : Search → Pair → Search
   pairStep s p =
       let m = bestOfPair (s .scans) p in
@@ -270,6 +287,7 @@ module _ (c : FgoConfig) (first : ℕ) (ps : List (ℕ × Prefix)) where
         moved = s .moved || pairMoves m;
       }
 
+  -- a track's best move, made
   unfoldable pub trackStep : Search → ℕ → Search
   trackStep s a =
       let m = bestOfTrack (s .scans) (s .next) a in

@@ -57,6 +57,7 @@ unfoldable pub classAmong : ℕ → ClassLabel → List EngineTrack → ClassLab
 classAmong e k [] = k
 classAmong e k (t ∷ ts) = classAmong e (cond (eqb e (t .id .0)) (t .class) k) ts
 
+-- the class that an association knows
 abbrev pub classFor : Associated → List EngineTrack → ClassLabel
 classFor Nobody ts = Unknown
 classFor (Track e) ts = classAmong (e .0) Unknown ts
@@ -73,6 +74,7 @@ under x n f [] is = []
 under x n f (a ∷ l) [] = []
 under x n f (a ∷ l) (i ∷ is) = cond (eqb x i) (dotOf n f a ∷ under x n f l is) (under x n f l is)
 
+-- those of a held scan
 abbrev pub inScan : ℕ → ℕ → Scan → List Dot
 inScan x n s = under x n (s .frame) (s .frame .associations) (s .ids)
 
@@ -89,6 +91,7 @@ present ss = foldr insert [] (keep (ltb 0) (flatMap (λ s. s .ids) ss))
 abbrev pub inWindows : List ℕ → ℕ
 inWindows is = length (keep (ltb 0) is)
 
+-- the detections in windows of all held scans
 abbrev pub detections : List Scan → ℕ
 detections ss = inWindows (flatMap (λ s. s .ids) ss)
 
@@ -102,6 +105,7 @@ live ps ss x = isSome (find x ps) || has x (present ss)
 abbrev pub noise : FgoConfig → Dot → Float
 noise c d = mul binary64 (sigma c) (sigma c)
 
+-- an observation, as the detection of a window
 abbrev pub detOf : FgoConfig → Dot → Det
 detOf c d = record { scan = d .scan; t = secondsOf (d .time); x = d .x; y = d .y; r = noise c d }
 

@@ -7,6 +7,7 @@ use lib.ListN.{take}
 use Rattle.engine.specs.Body.{rows}
 use Rattle.recording.specs.Recording.{count, refusal, holds, bodyAt}
 
+-- a recording is its contents and its bodies
 pub record Filled (s : List ℕ) : Type 0 where
   -- settings, count and contents table, and then every body in turn: no byte is in none of them or in two
   pub bytes : s ≡ take (92 + 8 * count s) s ++ flatten (rows (bodyAt s) 0 (count s))

@@ -45,10 +45,11 @@ module _ (s : List ℕ) where
   abbrev pub count : ℕ
   count = little 4 s 88
 
-  -- "per frame u32 offset (from the recording's start) and length"
+  -- "per frame u32 offset (from the recording's start)"
   abbrev pub offset : ℕ → ℕ
   offset i = little 4 s (92 + 8 * i)
 
+  -- "and length"
   abbrev pub size : ℕ → ℕ
   size i = little 4 s (96 + 8 * i)
 
@@ -76,10 +77,11 @@ module _ (s : List ℕ) where
   unfoldable pub bodyAt : ℕ → List ℕ
   bodyAt i = cond (holds i) (take (size i) (drop (offset i) s)) []
 
--- what a recording says at its start
+-- by the refusal that a recording gets
 abbrev pub contentsBy : ℕ → FgoConfig → ℕ → Contents
 contentsBy zero c n = Frames c n
 contentsBy (suc r) c n = Refused (suc r)
 
+-- what a recording says at its start: its settings and the number of its frames, or 11 or 12
 unfoldable pub contentsOf : List ℕ → Contents
 contentsOf s = contentsBy (refusal s) (settings s) (count s)

@@ -32,6 +32,7 @@ module _ (N : Num) (q dt : N .F) (filtered later r : Estimate (N .F)) where
   abbrev P⁻ : List (N .F)
   P⁻ = add N 36 (mul N (mul N F P) (transpose N F)) Q
 
+  -- r is the step's answer
   pub record RauchTungStriebel : Type 0 where
     -- (P⁻)⁻¹
     pub inverse : List (N .F)

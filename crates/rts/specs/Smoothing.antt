@@ -18,9 +18,11 @@ pub record Answer (F : Type 0) : Type 0 where
   pub step : Step
   pub state : Estimate F
 
+-- the state of x and p
 abbrev pub estimate : {F : Type 0} → List F → List F → Estimate F
 estimate x p = record { x = x; p = p }
 
+-- the answer of a step and a state
 abbrev pub answer : {F : Type 0} → Step → Estimate F → Answer F
 answer r e = record { step = r; state = e }
 
@@ -47,6 +49,7 @@ module _ (N : Num) where
   unfoldable pub smoothedP : List F → List F → List F → List F → List F
   smoothedP p pp g ps = halfSum N (add N 36 p (mul N (mul N g (sub N 36 ps pp)) (transpose N g)))
 
+  -- the step as a whole
   unfoldable pub smoothed : F → F → Estimate F → Estimate F → Estimate F
   smoothed q dt a s =
       let pp = pPred q dt (a .p) in

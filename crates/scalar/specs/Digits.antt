@@ -14,12 +14,14 @@ nil = ofBits binary64 0
 abbrev pub scaled : ℕ → ℕ → Float
 scaled q y = odd 53 false q y 1074
 
+-- a is q · 2^(y - 1074), above 0 and finite
 pub record IsFinite (a : Float) (q y : ℕ) : Type 0 where
   pub is : a ≡ scaled q y
   pub some : 0 < q
   pub few : q < 2 ^ 53
   pub low : y < 2046
 
+-- what each kind says of a
 abbrev pub Falls : Float → Digits → Type 0
 Falls a (Finite q y) = IsFinite a q y
 Falls a Infinite = a ≡ inf false

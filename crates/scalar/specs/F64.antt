@@ -5,6 +5,7 @@ use Rattle.scalar.specs.Num.{Num}
 use Rattle.scalar.specs.Ln.{lnOf}
 use Rattle.scalar.specs.Root.{rootOf}
 
+-- the operations and constants of f64; pi is document 01's
 abbrev pub f64 : Num
 f64 =
     record {

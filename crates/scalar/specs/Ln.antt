@@ -22,19 +22,23 @@ unfoldable pub lnSeries : Float → Float
 unfolding reciprocal oddsDown seriesStep
 lnSeries w = foldl (seriesStep w) (reciprocal 21) (map reciprocal oddsDown)
 
--- 1.4142135623730951, 0.6931471805599453, 1, 2 and a half
+-- 1.4142135623730951
 abbrev pub rootTwo : Float
 rootTwo = ofBits binary64 0x3ff6_a09e_667f_3bcd
 
+-- 0.6931471805599453
 abbrev pub lnTwo : Float
 lnTwo = ofBits binary64 0x3fe6_2e42_fefa_39ef
 
+-- 1
 abbrev pub one : Float
 one = ofBits binary64 0x3ff0_0000_0000_0000
 
+-- 2
 abbrev pub two : Float
 two = ofBits binary64 0x4000_0000_0000_0000
 
+-- a half
 abbrev pub half : Float
 half = ofBits binary64 0x3fe0_0000_0000_0000
 

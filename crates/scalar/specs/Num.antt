@@ -4,6 +4,7 @@
 use mathlib.Core.Bool.{Bool, true}
 use mathlib.Core.Path.{_≡_}
 
+-- operations, comparisons and constants
 pub record Num : Type 1 where
   pub F : Type 0
   pub add : F → F → F

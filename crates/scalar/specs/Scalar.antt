@@ -24,5 +24,6 @@ bitsOf x = toBits binary64 x
 abbrev pub word : ℤ → ℕ
 word z = ofZ w64 z
 
+-- the signed number of a word in two's complement
 abbrev pub signed : ℕ → ℤ
 signed b = toZ w64 b
