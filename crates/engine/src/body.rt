@@ -13,11 +13,11 @@ use crate::types::TrackingMode;
 use scalar::bits;
 ghost use mathlib.Core.Path.{_≡_};
 ghost use mathlib.Core.Bool.{cond};
-ghost use lib.Dec.{eqb, ltb};
+ghost use lib.Dec.{eqb};
 ghost use Prim.Native.Nat.{_+_, _*_, _≤_};
 ghost use lib.ListN.{length, getD};
 ghost use Rattle.engine.specs.Frame.{modeOf, outcomeOf, associatedOf, classOf, costOf, noTrack, noObservation, noAssociation};
-ghost use Rattle.engine.specs.Body.{narrow, all, codeOk, presentOk, timeOk, zeroBytes, trackOk, associationOk, observationOk, indexAt, indexOk, trackCount, sensorCount, observationCount, associationCount, sensorsFrom, observationsFrom, associationsFrom, size, time, headOk, tracksOk, associationsOk, observationsOk, indicesOk, refusal, frameOf, trackAt, observationAt, associationAt};
+ghost use Rattle.engine.specs.Body.{narrow, all, codeOk, presentOk, timeOk, trackOk, associationOk, observationOk, indexOk, trackCount, sensorCount, observationCount, associationCount, sensorsFrom, observationsFrom, associationsFrom, size, time, headOk, refusal, frameOf, trackAt, observationAt, associationAt};
 
 // ---- one byte
 

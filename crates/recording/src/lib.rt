@@ -1,14 +1,9 @@
 // A recording: settings, a contents table and frame bodies; and a reader over it that stands at one entry.
 use engine::config::FgoConfig;
 use engine::little;
-use scalar::bits;
 ghost use mathlib.Core.Path.{_≡_};
-ghost use mathlib.Core.Bool.{true};
 ghost use Prim.Native.Nat.{_+_, _*_, _≤_};
 ghost use lib.ListN.{length};
-ghost use lib.Ieee.{binary64, ofBits};
-ghost use Rattle.scalar.specs.Scalar.{signed};
-ghost use Rattle.engine.specs.Little.{little as littleOf};
 ghost use Rattle.recording.specs.Recording.{count, offset, size, holds, fills, refusal, settings, contentsOf, bodyAt};
 
 // What a recording says at its start: refusal 11 or 12, or its settings and the number of its frames.

@@ -1,5 +1,5 @@
 -- What follows from the laws of exact arithmetic. Assumes nothing.
-use mathlib.Core.Path.{_≡_, refl, sym, ap, ap₂, _∙_}
+use mathlib.Core.Path.{_≡_, sym, ap, ap₂, _∙_}
 use mathlib.Core.Bool.{true}
 use Rattle.scalar.specs.Num.{Num, Exact}
 

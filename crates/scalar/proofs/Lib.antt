@@ -1,5 +1,6 @@
 pub mod Algebra
 pub mod Positive
+pub mod NotPositive
 pub mod Logarithm
 pub mod Reciprocals
 pub mod Floor

@@ -1,18 +1,19 @@
 -- What the proofs of the logarithm cite: how a positive f64 falls into m · 2^e, from its digits. Assumes nothing.
 use mathlib.Core.Path.{_≡_, refl, sym, ap, _∙_, subst}
 use Prim.Native.Nat.{ℕ, zero, suc, _+_, _-_, _*_, _/_, _%_, _^_, _≤_, _<_}
-use native.Mathlib.Nat.{lt-irrefl, lt-of-le-of-lt, lt-of-lt-of-le, one-mul, lt-of-mul-lt-mul-right, mul-assoc, mod-eq-of-lt, le-of-mul-le-mul-right, mul-le-mul-right, zero-mul}
+use native.Mathlib.Nat.{lt-irrefl, lt-of-le-of-lt, lt-of-lt-of-le, one-mul, lt-of-mul-lt-mul-right, mul-assoc, mod-eq-of-lt, le-of-mul-le-mul-right, mul-le-mul-right}
 use native.Mathlib.Omega.{arith}
-use mathlib.Core.Bool.{Bool, true, false, cond, not, _&&_}
+use mathlib.Core.Bool.{Bool, true, false, cond, not}
 use lib.IntN.{ℤ, pos, negsuc, _+ℤ_, subℕ}
-use lib.Dec.{T, lit≤, ltb, leb, eqb, leb→le, nleb→lt}
+use lib.Dec.{T, lit≤, ltb, leb, leb→le, nleb→lt}
 use lib.Pow.{pow-add, pow-pos}
-use lib.Ieee.{Float, nan, inf, fin, binary64, minus, size, odd, ofBits, lt, eq, mul, div, neg, up, down, nanBits}
+use lib.Ieee.{Float, inf, fin, binary64, minus, size, odd, ofBits, lt, eq, mul, div, neg, nanBits}
 use lib.Ieee.Bits.{nanBits-above}
-use borrow.Author.Tests.{lt-ltb, le-ltb, le-leb, lt-leb, leb-true, leb-false, ltb-true, ltb-false, eqb-true}
+use borrow.Author.Tests.{lt-ltb, le-ltb, le-leb, lt-leb, leb-true, leb-false, ltb-true, ltb-false}
 use Rattle.scalar.specs.Ln.{lnOf, lnScaled, lnNear, rootTwo, half, one}
 use Rattle.scalar.specs.Digits.{nil}
-use Rattle.scalar.proofs.Positive.{oddly, odd-shift, pow-lt-back, size-exact, Shift, some, not-yes, not-no}
+use Rattle.scalar.proofs.Positive.{oddly, odd-shift, pow-lt-back, size-exact, Shift}
+use Rattle.scalar.proofs.NotPositive.{zero-of, none-of}
 
 -- ---- exponents
 minus-up : (j : ℕ) → j < 53 → minus (1022 + j) 1074 ≡ minus 0 (52 - j)
@@ -111,28 +112,12 @@ unfolding lnScaled
 not-above m k e = rw e
 
 pub zero-is : (a : Float) → eq a nil ≡ true → lnOf a ≡ div binary64 (neg one) nil
-unfolding lnOf ofBits eq div neg
-zero-is nan e = not-yes e
-zero-is (inf s) e = not-yes e
-zero-is (fin s zero x) e = refl
-zero-is (fin s (suc m) x) e = absurd (differ (eqb-true _ _ (left (eqb (suc m * up x * 1) (0 * down x)) _ e)))
-  where
-    left : (p q : Bool) → (p && q) ≡ true → p ≡ true
-    left true q e = refl
-    left false q e = e
-
-    differ : suc m * up x * 1 ≡ 0 * down x → ⊥
-    differ h = omega (arith, some m x, h, zero-mul (down x))
+unfolding lnOf ofBits div neg
+zero-is = zero-of (λ a. lnOf a ≡ div binary64 (neg one) nil) (λ s x. refl)
 
 pub none-is : (a : Float) → lt nil a ≡ false → eq a nil ≡ false → lnOf a ≡ div binary64 nil nil
-unfolding lnOf ofBits eq lt div
-none-is nan e f = refl
-none-is (inf true) e f = refl
-none-is (inf false) e f = not-no e
-none-is (fin true zero x) e f = not-no (rw (zero-mul (up x), zero-mul (down x)) at f)
-none-is (fin false zero x) e f = not-no (rw (zero-mul (up x), zero-mul (down x)) at f)
-none-is (fin true (suc m) x) e f = refl
-none-is (fin false (suc m) x) e f = absurd (lt-irrefl 0 (omega (arith, some m x, ltb-false (0 * down x) (suc m * up x * 1) e, zero-mul (down x))))
+unfolding lnOf ofBits div
+none-is = none-of (λ a. lnOf a ≡ div binary64 nil nil) refl refl (λ m x. refl)
 
 pub top-is : lnOf (inf false) ≡ inf false
 unfolding lnOf
