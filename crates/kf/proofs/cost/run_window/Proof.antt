@@ -3,7 +3,7 @@ use borrow.Author.Needs.{needs}
 use mathlib.Core.Path.{sym, ap, subst}
 use Prim.Native.Nat.{_<_}
 use native.Mathlib.Omega.{arith}
-use Rattle.kf.specs.Cost.{run, missesOf}
+use Rattle.kf.specs.Cost.{run, viewOf, missesOf}
 use Rattle.kf.proofs.Steps.{leads-none, leads-born, leads-frozen}
 use Rattle.kf.proofs.cost.run_window.Statement.{statement}
 use Rattle.kf.proofs.cost.run_window.Tie as tie
@@ -71,12 +71,12 @@ returns-2 c =
 returns-3 : tie.Need-returns-3
 returns-3 c =
     let s = c .before .before .before .before .before .before .before .before in
-    (rw (c .run-on2 .ensures .0, c .before .before .before .from .given .1) (leads-frozen (s .args .c) _ (s .args .k) _ _ (c .before .before .before .before .before .before .leading .ensures) _ _ (c .before .before .before .before .before .if1 .left)), c .run-on2 .ensures .1)
+    (rw (c .run-on2 .ensures .0, c .before .before .before .from .given .1) (leads-frozen (s .args .c) (viewOf (s .args .first) (s .args .dots .now)) (s .args .k) _ _ (c .before .before .before .before .before .before .leading .ensures) _ _ (c .before .before .before .before .before .if1 .left)), c .run-on2 .ensures .1)
 
 returns-4 : tie.Need-returns-4
 returns-4 c =
     let s = c .before .before .before .before .before .before .before .before in
-    (rw (c .run-on3 .ensures .0, c .before .before .before .from2 .given .1) (ap (run (s .args .c) _) (sym (c .before .before .before .before .before .before .leading .ensures .rest _ (s .args .k)))), c .run-on3 .ensures .1)
+    (rw (c .run-on3 .ensures .0, c .before .before .before .from2 .given .1) (ap (run (s .args .c) _) (sym (c .before .before .before .before .before .before .leading .ensures .rest (viewOf (s .args .first) (s .args .dots .now)) (s .args .k)))), c .run-on3 .ensures .1)
 
 pub run-window-spec : {M : Type 1} → statement M
 run-window-spec =
