@@ -88,8 +88,8 @@ abbrev pub opensBy : ℕ → State → Opening
 opensBy zero s = opened s
 opensBy (suc n) s = unopened (suc n)
 
-unfoldable pub opens : ℕ → Float → ℕ → Lent → Opening
-opens lag q most b = opensBy (openRefusal lag q most (b .windowWords) (b .windowNumbers)) (new lag q most)
+unfoldable pub opens : ℕ → Float → ℕ → ℕ → ℕ → Opening
+opens lag q most words numbers = opensBy (openRefusal lag q most words numbers) (new lag q most)
 
 -- ---- the oldest frame leaves, smoothed
 
