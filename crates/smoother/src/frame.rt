@@ -4,8 +4,16 @@ use scalar::bits;
 ghost use mathlib.Core.Path.{_≡_};
 ghost use Prim.Native.Nat.{_+_, _*_, _<_, _≤_};
 ghost use lib.ListN.{length};
-ghost use Rattle.engine.specs.Body.{all};
+ghost use Rattle.scalar.specs.Scalar.{signed};
+ghost use Rattle.engine.specs.Body.{all, timeOk};
 ghost use Rattle.smoother.specs.Frame.{frame, trackCount, associationCount, sensorCount, sensorsFrom, wordsLong, numbersLong, headOk, trackOk, associationOk, sensorOk, exact, rowsOk, wellFormed};
+
+// A word is a time in bounds.
+fn time_ok(word: u64) -> bool
+    ensures { λ r. ⌜ r ≡ timeOk (signed word) ⌝ }
+{
+    body::time_ok(bits::from_word(word))
+}
 
 // The counts, the codes and the time are in bounds, with at most `most` tracks.
 pub fn head_ok(w: &[u64], most: usize) -> bool
@@ -14,7 +22,7 @@ pub fn head_ok(w: &[u64], most: usize) -> bool
     if w.len() < 6 {
         return false;
     }
-    if !body::time_ok(bits::from_word(w[0])) {
+    if !time_ok(w[0]) {
         return false;
     }
     if 2 < w[1] {

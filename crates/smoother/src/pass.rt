@@ -10,7 +10,7 @@ ghost use mathlib.Core.Path.{_≡_};
 ghost use mathlib.Core.Option.{some};
 ghost use Prim.Native.Nat.{_+_, _-_, _*_, _<_, _≤_};
 ghost use lib.ListN.{length};
-ghost use Rattle.scalar.specs.Scalar.{signed};
+ghost use Rattle.scalar.specs.Scalar.{secondsOf, signed};
 ghost use Rattle.smoother.specs.Frame.{trackCount, lastAt, stateAt};
 ghost use Rattle.smoother.specs.Pass.{backOne, chain, runBack, smoothedAt};
 ghost use Rattle.smoother.specs.Window.{wordsIn, frameIn, framesFrom, framesIn, Fitting, AllCounted, estimateOf, passedOf, foundOf};
@@ -58,6 +58,13 @@ fn state_at(x: &[f64], i: usize) -> TrackState
     TrackState { x: a, p: b }
 }
 
+// A time word in seconds.
+fn seconds_of(word: u64) -> f64
+    ensures { λ r. ⌜ r ≡ secondsOf (signed word) ⌝ }
+{
+    bits::seconds(bits::from_word(word))
+}
+
 // One step back, from what was found at the time `to`, to the state a at the time `from`.
 fn joined(q: f64, from: u64, to: u64, a: TrackState, later: Passed) -> Passed
     ensures { λ r. ⌜ passedOf r ≡ backOne q (signed from) (signed to) (estimateOf a) (passedOf later) ⌝ }
@@ -66,11 +73,13 @@ fn joined(q: f64, from: u64, to: u64, a: TrackState, later: Passed) -> Passed
     if !ok {
         return later;
     }
-    let dt = bits::seconds(bits::from_word(to)) - bits::seconds(bits::from_word(from));
+    let dt = seconds_of(to) - seconds_of(from);
     let s = later.state;
     let mut x = s.x;
     let mut p = s.p;
-    let step = rts::back(q, dt, &a.x, &a.p, &mut x, &mut p);
+    let ax = a.x;
+    let ap = a.p;
+    let step = rts::back(q, dt, &ax, &ap, &mut x, &mut p);
     match step {
         Step::Smoothed => Passed {
             ok: true,
