@@ -1,3 +1,4 @@
 pub mod Copying
 pub mod Forms
 pub mod Slots
+pub mod Chains
