@@ -2,3 +2,5 @@ pub mod Copying
 pub mod Forms
 pub mod Slots
 pub mod Chains
+pub mod Writing
+pub mod Storing

@@ -12,7 +12,9 @@ use Rattle.smoother.specs.declared.Answer.the-variants.{Refused, Held, F
 use Rattle.smoother.specs.declared.Told.{Told}
 use Rattle.smoother.specs.Smoother as Smoother
 use Rattle.smoother.specs.Smoother.{State, Lent, Opening, opened, unopened, refused, waits, gives}
-use Rattle.smoother.specs.Window.{stateIn}
+use Rattle.smoother.specs.Frame.{SmootherFrame}
+use Rattle.smoother.specs.Pass.{emitted}
+use Rattle.smoother.specs.Window.{frameIn, framesIn, fewer, stateIn}
 
 -- what the lent buffers hold
 pub record Buffers : Type 0 where
@@ -60,6 +62,20 @@ numbersOut (gives f) = f .numbers
 -- a buffer once l is put over its front: "The rest stays"
 abbrev pub over : {A : Type 0} → List A → List A → List A
 over l old = l ++ drop (length l) old
+
+-- ---- the oldest frame leaves
+
+-- the oldest held frame, smoothed
+unfoldable pub oldest : FixedLagSmoother → List ℕ → List Float → SmootherFrame
+oldest s win nums = emitted (s .lag) (s .density) (framesIn s win nums) (frameIn s win nums 0)
+
+pub record Released (s : FixedLagSmoother) (b : Buffers) (r : Told) (words′ : List ℕ) (numbers′ : List Float) : Type 0 where
+  pub answer : r .answer ≡ answerOf (gives (oldest s (b .window) (b .values)))
+  pub state : r .state ≡ fewer s
+  pub words : words′ ≡ over (oldest s (b .window) (b .values) .words) (b .words)
+  pub numbers : numbers′ ≡ over (oldest s (b .window) (b .values) .numbers) (b .numbers)
+
+-- ---- what a call owes
 
 -- "After it the state and the lent buffers hold what they held before the call": of the output buffers `Promised` says so for every answer
 pub record Kept (given : FixedLagSmoother) (b : Buffers) (r : Told) (a : Buffers) : Type 0 where

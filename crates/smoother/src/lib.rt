@@ -4,8 +4,6 @@ use crate::emit::emit_numbers;
 use crate::emit::emit_words;
 use crate::window::all_formed;
 use crate::window::dropped;
-use crate::window::frame_numbers;
-use crate::window::frame_words;
 use crate::window::store;
 ghost use mathlib.Core.Path.{_≡_};
 ghost use Prim.Native.Nat.{_+_, _<_, _≤_};
@@ -13,8 +11,8 @@ ghost use lib.ListN.{length};
 ghost use Rattle.smoother.specs.Frame.{frame as frameOf};
 ghost use Rattle.smoother.specs.Smoother as Smoother;
 ghost use Rattle.smoother.specs.Smoother.{openRefusal, laterRefusal};
-ghost use Rattle.smoother.specs.Window.{framesIn, stateIn, Fitting, AllCounted};
-ghost use Rattle.smoother.specs.Promise.{buffers, lengths, openingOf, Promised};
+ghost use Rattle.smoother.specs.Window.{stateIn, Fitting, AllCounted};
+ghost use Rattle.smoother.specs.Promise.{buffers, lengths, openingOf, Released, Promised};
 
 mod copy;
 mod emit;
@@ -127,18 +125,18 @@ fn later_refusal<'a>(s: FixedLagSmoother, win: &'a [u64], nums: &'a [f64], words
 // The oldest frame leaves, smoothed.
 fn release<'a, 'b, 'c>(s: FixedLagSmoother, win: &'c [u64], nums: &'c [f64], words: &'a mut [u64], numbers: &'b mut [f64]) -> Told
     requires { ⌜ Fitting s (now win) (now nums) × (s .held ≤ s .lag + 1) × (0 < s .held) × AllCounted s (now win) × (910 ≤ length (now words)) × (5408 ≤ length (now numbers)) ⌝ }
-    ensures { λ r. ⌜ Promised s (buffers (now (win .entry)) (now (nums .entry)) (now (words .entry)) (now (numbers .entry))) (Smoother.release (stateIn s (now (win .entry)) (now (nums .entry))) (framesIn s (now (win .entry)) (now (nums .entry)))) r (buffers (now (win .entry)) (now (nums .entry)) (now (words .exit)) (now (numbers .exit))) ⌝ }
+    ensures { λ r. ⌜ Released s (buffers (now (win .entry)) (now (nums .entry)) (now (words .entry)) (now (numbers .entry))) r (now (words .exit)) (now (numbers .exit)) ⌝ }
 {
-    let w = frame_words(s, win, 0);
-    let x = frame_numbers(s, win, nums, 0);
-    let answer = Answer::Frame {
-        words: w.len(),
-        numbers: x.len(),
-    };
-    emit_words(words, s, win);
-    emit_numbers(numbers, s, win, nums);
+    let n = emit_words(words, s, win);
+    let m = emit_numbers(numbers, s, win, nums);
     let state = dropped(s);
-    Told { answer, state }
+    Told {
+        answer: Answer::Frame {
+            words: n,
+            numbers: m,
+        },
+        state,
+    }
 }
 
 impl FixedLagSmoother {

@@ -1,3 +1,4 @@
+use borrow.Author.Needs.{needs}
 use Rattle.smoother.proofs.release.Statement.{statement}
 use Rattle.smoother.proofs.release.Tie as tie
 use Rattle.smoother.proofs.release.Reads as reads
@@ -5,38 +6,28 @@ use Rattle.smoother.proofs.release.Lts as lts
 use Rattle.smoother.proofs.emit.emit_numbers.Reads as emit-numbers-reads
 use Rattle.smoother.proofs.emit.emit_words.Reads as emit-words-reads
 use Rattle.smoother.proofs.window.dropped.Reads as dropped-reads
-use Rattle.smoother.proofs.window.frame_numbers.Reads as frame-numbers-reads
-use Rattle.smoother.proofs.window.frame_words.Reads as frame-words-reads
 
--- src/lib.rt:132:9
-frame-words-requires : tie.Need-frame-words-requires
-frame-words-requires c κs = ?
-
--- src/lib.rt:133:9
-frame-numbers-requires : tie.Need-frame-numbers-requires
-frame-numbers-requires c κs = ?
-
--- src/lib.rt:138:5
+-- src/lib.rt:130:9
 emit-words-requires : tie.Need-emit-words-requires
 emit-words-requires c κs = ?
 
--- src/lib.rt:139:5
+-- src/lib.rt:131:9
 emit-numbers-requires : tie.Need-emit-numbers-requires
-emit-numbers-requires c κs = ?
+emit-numbers-requires c κs = search needs
 
--- src/lib.rt:140:9
+-- src/lib.rt:132:9
 dropped-requires : tie.Need-dropped-requires
-dropped-requires c κs = ?
+dropped-requires c κs = search needs
 
--- src/lib.rt:128:1
+-- src/lib.rt:126:1
 same-length : tie.Need-same-length
-same-length c = ?
+same-length c = search needs
 
--- src/lib.rt:128:1
+-- src/lib.rt:126:1
 same-length-2 : tie.Need-same-length-2
-same-length-2 c = ?
+same-length-2 c = search needs
 
--- src/lib.rt:128:1
+-- src/lib.rt:126:1
 returns : tie.Need-returns
 returns c = ?
 
@@ -44,8 +35,6 @@ pub release-spec : {M : Type 1} → statement M
 release-spec =
     tie.close
     (tie.spec
-    frame-words-requires
-    frame-numbers-requires
     emit-words-requires
     emit-numbers-requires
     dropped-requires
