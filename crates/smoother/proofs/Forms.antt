@@ -2,7 +2,7 @@
 use Prim.Native.Nat.{ℕ, zero, suc, _+_, _*_, _≤_, _<_}
 use mathlib.Core.Path.{_≡_, refl, sym, ap, _∙_}
 use mathlib.Core.Bool.{Bool, true, false, _&&_}
-use mathlib.Core.List.{List}
+use mathlib.Core.List.{List, [], _∷_, _++_}
 use native.Mathlib.Omega.{arith}
 use native.Mathlib.Nat.{zero-add, add-zero, suc-add, add-suc}
 use lib.ListN.{length, getD, take}
@@ -112,3 +112,15 @@ module _ (s : FixedLagSmoother) (win : List ℕ) (nums : List Float) where
 
   pub all-held : allFormed (s .most) (framesIn s win nums) ≡ all formed (s .held)
   all-held = all-from 0 (s .held) ∙ (λ j. all (λ i. formed (zero-add i j)) (s .held))
+
+  -- so many frames as are counted
+  pub frames-long : (k n : ℕ) → length (framesFrom s win nums k n) ≡ n
+  unfolding framesFrom
+  frames-long k zero = refl
+  frames-long k (suc n) = ap suc (frames-long (suc k) n)
+
+-- one more that is well formed
+pub formed-more : (most : ℕ) (fs : List SmootherFrame) (f : SmootherFrame) → allFormed most fs ≡ true → wellFormed most f ≡ true → allFormed most (fs ++ (f ∷ [])) ≡ true
+unfolding allFormed
+formed-more most [] f h g = rw g
+formed-more most (e ∷ fs) f h g = let a = both (wellFormed most e) (allFormed most fs) h in rw (a .0) (formed-more most fs f (a .1) g)

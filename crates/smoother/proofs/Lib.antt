@@ -4,3 +4,5 @@ pub mod Slots
 pub mod Chains
 pub mod Writing
 pub mod Storing
+pub mod Refusals
+pub mod Calls

@@ -1,47 +1,38 @@
+-- `smoother::open_refusal` meets its contract. Assumes nothing.
+use mathlib.Core.Path.{sym, _∙_}
+use borrow.Author.Tests.{not-true, not-false}
+use Rattle.smoother.specs.Smoother.{openRefusal}
+use Rattle.smoother.proofs.Refusals.{bounds}
 use borrow.Author.Needs.{needs}
 use Rattle.smoother.proofs.open_refusal.Statement.{statement}
 use Rattle.smoother.proofs.open_refusal.Tie as tie
-use Rattle.smoother.proofs.open_refusal.Reads as reads
-use Rattle.smoother.proofs.open_refusal.Lts as lts
-use Rattle.scalar.proofs.bits.is_finite.Reads as is-finite-reads
-use Rattle.smoother.proofs.bounded.Reads as bounded-reads
-use Rattle.smoother.proofs.window_fits.Reads as window-fits-reads
 
--- src/lib.rt:82:9
-bounded-requires : tie.Need-bounded-requires
-bounded-requires c κs = search needs
-
--- src/lib.rt:83:9
 returns : tie.Need-returns
-returns c = ?
+unfolding openRefusal
+returns c = rw (sym (c .before .bounded .ensures) ∙ not-true _ (c .if1 .taken))
 
--- src/lib.rt:85:9
-is-finite-requires : tie.Need-is-finite-requires
-is-finite-requires c κs = search needs
-
--- src/lib.rt:86:9
 returns-2 : tie.Need-returns-2
-returns-2 c = ?
+unfolding openRefusal
+returns-2 c = rw (sym (c .before .before .before .bounded .ensures) ∙ not-false _ (c .before .before .if1 .left), sym (c .before .is-finite .ensures) ∙ not-true _ (c .if2 .taken))
 
--- src/lib.rt:88:8
 window-fits-requires : tie.Need-window-fits-requires
-window-fits-requires c κs = ?
+window-fits-requires c κs = bounds (c .before .before .before .before .args .lag) (c .before .before .before .before .args .most) (sym (c .before .before .before .bounded .ensures) ∙ not-false _ (c .before .before .if1 .left))
 
--- src/lib.rt:79:1
 returns-3 : tie.Need-returns-3
-returns-3 c = ?
+unfolding openRefusal
+returns-3 c = rw (sym (c .before .before .before .before .before .bounded .ensures) ∙ not-false _ (c .before .before .before .before .if1 .left), sym (c .before .before .before .is-finite .ensures) ∙ not-false _ (c .before .before .if2 .left), sym (c .before .window-fits .ensures) ∙ c .if3 .taken)
 
--- src/lib.rt:79:1
 returns-4 : tie.Need-returns-4
-returns-4 c = ?
+unfolding openRefusal
+returns-4 c = rw (sym (c .before .before .before .before .before .bounded .ensures) ∙ not-false _ (c .before .before .before .before .if1 .left), sym (c .before .before .before .is-finite .ensures) ∙ not-false _ (c .before .before .if2 .left), sym (c .before .window-fits .ensures) ∙ c .if3 .left)
 
 pub open-refusal-spec : {M : Type 1} → statement M
 open-refusal-spec =
     tie.close
     (tie.spec
-    bounded-requires
+    (λ c κs. search needs)
     returns
-    is-finite-requires
+    (λ c κs. search needs)
     returns-2
     window-fits-requires
     returns-3
