@@ -6,3 +6,4 @@ pub mod Writing
 pub mod Storing
 pub mod Refusals
 pub mod Calls
+pub mod Finishing

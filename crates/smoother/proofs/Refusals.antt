@@ -39,7 +39,7 @@ module _ (s : FixedLagSmoother) (win : List ℕ) (nums : List Float) where
       counted s win nums k (omega (arith, n)) (all-at _ (s .held) k (sym (all-held s win nums) ∙ h) l)
 
 -- none of three conditions in a row refuses
-none-of : (p q r : Bool) → _≡_ {A = ℕ} (cond p (cond q (cond r 0 4) 3) 2) 0 → (p ≡ true) × (q ≡ true) × (r ≡ true)
+pub none-of : (p q r : Bool) → _≡_ {A = ℕ} (cond p (cond q (cond r 0 4) 3) 2) 0 → (p ≡ true) × (q ≡ true) × (r ≡ true)
 none-of true true true e = (refl, refl, refl)
 none-of true true false e = absurd (omega arith)
 none-of true false r e = absurd (omega arith)
