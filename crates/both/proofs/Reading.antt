@@ -31,7 +31,7 @@ element (a ∷ l) (suc i) h =
 
 -- rows of k elements each, one after the other
 module _ {A B : Type 0} (g : A → List B) (k : ℕ) (sized : (a : A) → length (g a) ≡ k) where
-  pub rows-length : (l : List A) → length (flatMap g l) ≡ k * length l
+  rows-length : (l : List A) → length (flatMap g l) ≡ k * length l
   unfolding flatMap
   rows-length [] = simp mul-zero
   rows-length (a ∷ l) = let ih = rows-length l in simp (length-append, sized, ih, mul-suc) (omega arith)
@@ -47,17 +47,17 @@ module _ {A B : Type 0} (g : A → List B) (k : ℕ) (sized : (a : A) → length
       ∙ drop-append-add (g a) (flatMap g l ++ r) (k * i)
       ∙ rows-from l r i (omega arith)
 
-  pub row-at : (l : List A) (r : List B) (i : ℕ) → i < length l → (a : At l i) → drop (k * i) (flatMap g l ++ r) ≡ g (a .item) ++ (flatMap g (a .after) ++ r)
+  row-at : (l : List A) (r : List B) (i : ℕ) → i < length l → (a : At l i) → drop (k * i) (flatMap g l ++ r) ≡ g (a .item) ++ (flatMap g (a .after) ++ r)
   unfolding flatMap
   row-at l r i h a =
       rows-from l r i (omega arith) ∙ ap (λ m. flatMap g m ++ r) (a .here) ∙ append-assoc (g (a .item)) (flatMap g (a .after)) r
 
-  pub rows-past : (l : List A) (r : List B) → drop (k * length l) (flatMap g l ++ r) ≡ r
+  rows-past : (l : List A) (r : List B) → drop (k * length l) (flatMap g l ++ r) ≡ r
   unfolding flatMap
   rows-past l r = rows-from l r (length l) (le-refl (length l)) ∙ ap (λ m. flatMap g m ++ r) (drop-length l)
 
 -- a place in a list, counted from another
-pub place : {A : Type 0} (l m : List A) (n i : ℕ) (d : A) → drop n l ≡ m → getD l (n + i) d ≡ getD m i d
+place : {A : Type 0} (l m : List A) (n i : ℕ) (d : A) → drop n l ≡ m → getD l (n + i) d ≡ getD m i d
 place l m n i d e = sym (getD-drop n l i d) ∙ ap (λ k. getD k i d) e
 
 -- ---- associations
@@ -82,7 +82,7 @@ association (a ∷ al) (i ∷ is) r (suc j) e h =
     let l = associationsWords (a ∷ al) (i ∷ is) ++ r in
     record { item = b .item; id = b .id; after = b .after; words = ap (λ k. drop k l) n ∙ sym (drop-drop (4 * j) 4 l) ∙ b .words; cost = b .cost }
 
-pub associations-length : (al : List Association) (is : List ℕ) → length is ≡ length al → length (associationsWords al is) ≡ 4 * length al
+associations-length : (al : List Association) (is : List ℕ) → length is ≡ length al → length (associationsWords al is) ≡ 4 * length al
 unfolding associationsWords
 associations-length [] is e = refl
 associations-length (a ∷ al) [] e = absurd (omega arith)
@@ -104,19 +104,17 @@ module _ (e : Emitted) where
   abbrev costs : List Float
   costs = map (λ a. costNumber (a .cost)) ass
 
-  pub track-words : (i : ℕ) → i < length tracks → (a : At tracks i) → drop (6 + 6 * i) (wordsOf e) ≡ trackWords (a .item) ++ (flatMap trackWords (a .after) ++ rest)
-  unfolding wordsOf
-  track-words i h a =
-      drop-append-add (headWords e) (flatMap trackWords tracks ++ rest) (6 * i) ∙ row-at trackWords 6 (λ l. refl) tracks rest i h a
-
   pub track-word : (i : ℕ) → i < length tracks → (a : At tracks i) (k : ℕ) → getD (wordsOf e) (6 + 6 * i + k) 0 ≡ getD (trackWords (a .item) ++ (flatMap trackWords (a .after) ++ rest)) k 0
-  track-word i h a k = place (wordsOf e) _ (6 + 6 * i) k 0 (track-words i h a)
+  unfolding wordsOf
+  track-word i h a k =
+      place (wordsOf e) _ (6 + 6 * i) k 0
+      (drop-append-add (headWords e) (flatMap trackWords tracks ++ rest) (6 * i) ∙ row-at trackWords 6 (λ l. refl) tracks rest i h a)
 
-  pub words-past : drop (6 + 6 * length tracks) (wordsOf e) ≡ rest
+  words-past : drop (6 + 6 * length tracks) (wordsOf e) ≡ rest
   unfolding wordsOf
   words-past = drop-append-add (headWords e) (flatMap trackWords tracks ++ rest) (6 * length tracks) ∙ rows-past trackWords 6 (λ l. refl) tracks rest
 
-  pub track-numbers : (i : ℕ) → i < length tracks → (a : At tracks i) → drop (42 * i) (numbersOf e) ≡ trackNumbers (a .item) ++ (flatMap trackNumbers (a .after) ++ costs)
+  track-numbers : (i : ℕ) → i < length tracks → (a : At tracks i) → drop (42 * i) (numbersOf e) ≡ trackNumbers (a .item) ++ (flatMap trackNumbers (a .after) ++ costs)
   unfolding numbersOf
   track-numbers i h a = row-at trackNumbers 42 (λ l. refl) tracks costs i h a
 
@@ -132,15 +130,21 @@ module _ (e : Emitted) where
       let f = sym (drop-drop 6 (42 * i) (numbersOf e)) ∙ ap (drop 6) d in
       λ j. record { x = take 6 (d j); p = take 36 (f j) }
 
-  module _ (complete : length (e .scan .ids) ≡ length ass) where
-    pub association-words : (j : ℕ) → (a : Associated ass (e .scan .ids) (e .scan .frame .sensors) j) → drop (6 + 6 * length tracks + 4 * j) (wordsOf e) ≡ associationWords (a .item) (a .id) ++ a .after
-    association-words j a = sym (drop-drop (4 * j) (6 + 6 * length tracks) (wordsOf e)) ∙ ap (drop (4 * j)) words-past ∙ a .words
+  pub association-word : (j : ℕ) (a : Associated ass (e .scan .ids) (e .scan .frame .sensors) j) (k : ℕ) → getD (wordsOf e) (6 + 6 * length tracks + 4 * j + k) 0 ≡ getD (associationWords (a .item) (a .id) ++ a .after) k 0
+  association-word j a k =
+      place (wordsOf e) _ (6 + 6 * length tracks + 4 * j) k 0
+      (sym (drop-drop (4 * j) (6 + 6 * length tracks) (wordsOf e)) ∙ ap (drop (4 * j)) words-past ∙ a .words)
 
-    pub sensor-words : drop (6 + 6 * length tracks + 4 * length ass) (wordsOf e) ≡ e .scan .frame .sensors
-    sensor-words =
-        sym (drop-drop (4 * length ass) (6 + 6 * length tracks) (wordsOf e))
+  pub cost-number : (j : ℕ) → getD (numbersOf e) (42 * length tracks + j) nan ≡ getD costs j nan
+  cost-number j = place (numbersOf e) costs (42 * length tracks) j nan numbers-past
+
+  module _ (complete : length (e .scan .ids) ≡ length ass) where
+    pub sensor-word : (k : ℕ) → getD (wordsOf e) (6 + 6 * length tracks + 4 * length ass + k) 0 ≡ getD (e .scan .frame .sensors) k 0
+    sensor-word k =
+        place (wordsOf e) (e .scan .frame .sensors) (6 + 6 * length tracks + 4 * length ass) k 0
+        (sym (drop-drop (4 * length ass) (6 + 6 * length tracks) (wordsOf e))
         ∙ ap (drop (4 * length ass)) words-past
-        ∙ drop-at (associationsWords ass (e .scan .ids)) (e .scan .frame .sensors) (4 * length ass) (associations-length ass (e .scan .ids) complete)
+        ∙ drop-at (associationsWords ass (e .scan .ids)) (e .scan .frame .sensors) (4 * length ass) (associations-length ass (e .scan .ids) complete))
 
     pub words-length : length (wordsOf e) ≡ wordsLong (wordsOf e)
     unfolding wordsOf

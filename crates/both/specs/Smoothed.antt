@@ -5,7 +5,7 @@
 use Prim.Native.Nat.{ℕ, _+_, _≤_}
 use mathlib.Core.Path.{_≡_}
 use mathlib.Core.Bool.{true, cond, _&&_}
-use mathlib.Core.List.{List, [], _∷_, _++_, map, flatMap, foldl, List·Memᴰ}
+use mathlib.Core.List.{List, [], _∷_, _++_, map, flatMap, foldl}
 use mathlib.Core.Option.{Option, none, some}
 use lib.ListN.{length, set, take, drop}
 use lib.Ieee.{Float}
@@ -14,8 +14,7 @@ use Rattle.engine.specs.declared.config.FgoConfig.{FgoConfig}
 use Rattle.rts.specs.Smoothing.{Estimate, estimate}
 use Rattle.model.specs.Lists.{has}
 use Rattle.model.specs.Emitting.{Listed, Emitted, wordsOf, numbersOf, trackNumbers, costNumber}
-use Rattle.model.specs.Rule.{All}
-use Rattle.model.specs.History.{Op, Sent, run, timeOf, seen, afresh}
+use Rattle.model.specs.History.{Op, run, timeOf, seen, afresh}
 use Rattle.smoother.specs.Frame.{SmootherFrame, frame, wellFormed}
 use Rattle.smoother.specs.Pass.{Timed, chainOn, runBack, replaced, flat, smoothedFlag}
 use Rattle.smoother.specs.Smoother.{State, new, Lent, Answer, refused, waits, gives, windowFits, outFits, held, settle, release, push, takes}
@@ -132,12 +131,12 @@ pub record Both (c : FgoConfig) (ops : List Op) (lag : ℕ) (q : Float) (calls :
   -- "After it the state and the lent buffers hold what they held before the call": a call that is refused changes nothing
   pub refusals : (k : Call) (n : ℕ) → answer (smoothing lag q calls .state) k .0 ≡ refused n → smoothing lag q (calls ++ (k ∷ [])) ≡ smoothing lag q calls
   -- with lag and density in bounds and buffers of document 01's lengths, no emitted frame is refused, and no take but for 13
-  pub pushes : lag ≤ 16 → finite q ≡ true → (b : Lent) → Fitting lag b → (e : Emitted) → List·Memᴰ e (run c ops .emitted) → push (smoothing lag q calls .state) b (handed e) ≡ settle (held (smoothing lag q calls .state) (handed e))
+  pub pushes : lag ≤ 16 → finite q ≡ true → (b : Lent) → Fitting lag b → (past : List Emitted) (e : Emitted) (later : List Emitted) → run c ops .emitted ≡ past ++ (e ∷ later) → push (smoothing lag q calls .state) b (handed e) ≡ settle (held (smoothing lag q calls .state) (handed e))
   pub takes : lag ≤ 16 → finite q ≡ true → (b : Lent) → Fitting lag b → takes (smoothing lag q calls .state) b ≡ release (smoothing lag q calls .state) (smoothing lag q calls .state .frames)
 
 -- every frame that a refiner emits passes the smoother's 5 at C 128
-unfoldable pub Passes : FgoConfig → List Op → Type 0
-Passes c ops = (e : Emitted) → List·Memᴰ e (run c ops .emitted) → wellFormed 128 (handed e) ≡ true
+abbrev pub Passes : FgoConfig → List Op → Type 0
+Passes c ops = (past : List Emitted) (e : Emitted) (later : List Emitted) → run c ops .emitted ≡ past ++ (e ∷ later) → wellFormed 128 (handed e) ≡ true
 
 -- the theorems, in proofs/:
 --   passes : (c : FgoConfig) (ops : List Op) → All Sent ops → Passes c ops
