@@ -1,12 +1,11 @@
 -- Every emitted frame of a run over bytes is in bounds: by the bodies that say it, and by the frames emitted before it. Assumes nothing.
-use Prim.Native.Nat.{ℕ, zero, suc, _+_, _*_, _^_, _≤_, _<_}
-use native.Mathlib.Nat.{le-trans}
+use Prim.Native.Nat.{ℕ, zero, suc, _+_, _^_, _≤_, _<_}
 use native.Mathlib.Omega.{arith}
 use mathlib.Core.Path.{_≡_, refl, sym, ap, _∙_, subst}
 use mathlib.Core.Bool.{Bool, true, false, cond}
-use mathlib.Core.List.{List, [], _∷_, _++_, map, map-append, append-assoc, List·Memᴰ}
+use mathlib.Core.List.{List, [], _∷_, _++_, map-append, append-assoc, List·Memᴰ}
 use mathlib.Core.Option.{some, Option·none-ne-some, Option·some-injective}
-use lib.ListN.{length, getD, length-append, length-map}
+use lib.ListN.{length, getD, length-append}
 use lib.Dec.{eqb, lit<}
 use mir.Syntax.{w8}
 use mir.Val.{Fits}
@@ -18,7 +17,7 @@ use Rattle.engine.specs.declared.types.Associated.the-variants.{Nobody, Track}
 use Rattle.engine.specs.declared.types.EngineTrack.{EngineTrack}
 use Rattle.engine.specs.Little.{little}
 use Rattle.engine.specs.Frame.{Frame, classOf}
-use Rattle.engine.specs.Body.{narrow, rows, trackAt, frameOf, refusal, trackCount, sensorCount, associationCount}
+use Rattle.engine.specs.Body.{narrow, rows, trackAt, frameOf, refusal, trackCount, sensorCount}
 use Rattle.engine.proofs.Bytes.{little-below}
 use Rattle.engine.proofs.Passing.{sized-body, length-rows}
 use Rattle.model.specs.Lists.{times}
@@ -26,7 +25,7 @@ use Rattle.model.specs.Windows.{Scan, Dot, classAmong, classFor, dotOf, window}
 use Rattle.model.specs.Freezing.{newer}
 use Rattle.model.specs.Emitting.{Listed, Emitted, classWord}
 use Rattle.model.specs.Rule.{All, Bytes, Spoken}
-use Rattle.model.specs.History.{Op, Sent, run, scansOf, timeOf, seen, classOver, afresh, Told, History}
+use Rattle.model.specs.History.{Op, Sent, run, scansOf, timeOf, seen, classOver, afresh, Told}
 use Rattle.model.proofs.All.{All-weaken, All-left, All-right}
 use Rattle.model.proofs.Arrival.{Column}
 use Rattle.model.proofs.Windows.{window-All, window-length}

@@ -12,7 +12,6 @@ use borrow.Author.Tests.{ltb-true, ltb-false}
 use Rattle.smoother.specs.Frame.{SmootherFrame, wellFormed}
 use Rattle.smoother.specs.Pass.{emitted}
 use Rattle.smoother.specs.Smoother.{State, new, holding, held, Lent, Answer, refused, waits, gives, laterRefusal, settle, settleBy, release, pushFormed, pushBy, push, takesBy, takes}
-use Rattle.model.specs.Rule.{All}
 use Rattle.model.proofs.All.{mem-All, foldl-keeps}
 use Rattle.both.specs.Smoothed.{Call, pushed, taken, Smoothing, acceptedBy, givenBy, answer, step, begin, smoothing}
 
@@ -125,12 +124,16 @@ module _ (lag : ℕ) (q : Float) where
             form = b .form;
           }
 
-  blocks-snoc : (all : List SmootherFrame) (k : ℕ) (os : List SmootherFrame) (o : SmootherFrame) → Blocks all k os → Left all (k + length os) o → Blocks all k (os ++ (o ∷ []))
+  blocks-snoc :
+      (all : List SmootherFrame) (k : ℕ) (os : List SmootherFrame) (o : SmootherFrame) →
+      Blocks all k os → Left all (k + length os) o → Blocks all k (os ++ (o ∷ []))
   blocks-snoc all k [] o h b = (subst (λ n. Left all n o) (add-zero k) b, tt)
   blocks-snoc all k (p ∷ os) o h b =
       (h .0, blocks-snoc all (suc k) os o (h .1) (subst (λ n. Left all n o) (add-suc k (length os) ∙ sym (suc-add k (length os))) b))
 
-  blocks-at : (all : List SmootherFrame) (k : ℕ) (before : List SmootherFrame) (o : SmootherFrame) (os : List SmootherFrame) → Blocks all k (before ++ (o ∷ os)) → Left all (k + length before) o
+  blocks-at :
+      (all : List SmootherFrame) (k : ℕ) (before : List SmootherFrame) (o : SmootherFrame) (os : List SmootherFrame) →
+      Blocks all k (before ++ (o ∷ os)) → Left all (k + length before) o
   blocks-at all k [] o os h = subst (λ n. Left all n o) (sym (add-zero k)) (h .0)
   blocks-at all k (p ∷ before) o os h =
       subst (λ n. Left all n o) (suc-add k (length before) ∙ sym (add-suc k (length before))) (blocks-at all (suc k) before o os (h .1))
@@ -216,7 +219,9 @@ module _ (lag : ℕ) (q : Float) where
 
   -- ---- what a run tells
 
-  pub every-left : (calls : List Call) (before : List SmootherFrame) (o : SmootherFrame) (os : List SmootherFrame) → smoothing lag q calls .given ≡ before ++ (o ∷ os) → Left (smoothing lag q calls .accepted) (length before) o
+  pub every-left :
+      (calls : List Call) (before : List SmootherFrame) (o : SmootherFrame) (os : List SmootherFrame) → smoothing lag q calls .given ≡ before ++ (o ∷ os) →
+      Left (smoothing lag q calls .accepted) (length before) o
   every-left calls before o os e =
       let r = smoothing lag q calls in
       subst (λ n. Left (r .accepted) n o) (zero-add (length before))
@@ -230,7 +235,9 @@ module _ (lag : ℕ) (q : Float) where
   none-more : (gs : List SmootherFrame) (o : SmootherFrame) → gs ≡ gs ++ (o ∷ []) → ⊥
   none-more gs o e = nil≢cons (append-cancel-left gs [] (o ∷ []) (append-nil gs ∙ e))
 
-  gave : (fs acc gs ms : List SmootherFrame) (r : Smoothing) → length ms ≤ 1 → Kept fs acc gs → Does fs acc gs ms r → (o : SmootherFrame) → r .given ≡ gs ++ (o ∷ []) → Block (r .accepted) [] (length gs) o
+  gave :
+      (fs acc gs ms : List SmootherFrame) (r : Smoothing) → length ms ≤ 1 → Kept fs acc gs → Does fs acc gs ms r →
+      (o : SmootherFrame) → r .given ≡ gs ++ (o ∷ []) → Block (r .accepted) [] (length gs) o
   gave fs acc gs ms r s i (refuses e) o h = absurd (none-more gs o (ap (λ r. r .given) (sym e) ∙ h))
   gave fs acc gs ms r s i (holds l e) o h = absurd (none-more gs o (ap (λ r. r .given) (sym e) ∙ h))
   gave fs acc gs ms r s i (leaves f hs p e) o h =
@@ -238,7 +245,9 @@ module _ (lag : ℕ) (q : Float) where
       let d : w ≡ o = head-eq-of-cons-eq (append-cancel-left gs (w ∷ []) (o ∷ []) (ap (λ r. r .given) (sym e) ∙ h)) in
       subst (λ l. Block l [] (length gs) o) (ap (λ r. r .accepted) (sym e)) (subst (Block (acc ++ ms) [] (length gs)) d (left fs acc gs ms s i f hs p))
 
-  pub last-left : (calls : List Call) (k : Call) (o : SmootherFrame) → step (smoothing lag q calls) k .given ≡ smoothing lag q calls .given ++ (o ∷ []) → Block (step (smoothing lag q calls) k .accepted) [] (length (smoothing lag q calls .given)) o
+  pub last-left :
+      (calls : List Call) (k : Call) (o : SmootherFrame) → step (smoothing lag q calls) k .given ≡ smoothing lag q calls .given ++ (o ∷ []) →
+      Block (step (smoothing lag q calls) k .accepted) [] (length (smoothing lag q calls .given)) o
   last-left calls k o h =
       let r = smoothing lag q calls in
       let i = ran calls in

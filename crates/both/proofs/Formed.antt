@@ -1,10 +1,9 @@
 -- An emitted frame whose counts, times, classes and sensors are in bounds passes the smoother's 5 at C 128. Assumes nothing.
-use Prim.Native.Nat.{ℕ, zero, suc, _+_, _*_, _^_, _≤_, _<_}
-use native.Mathlib.Nat.{le-trans}
+use Prim.Native.Nat.{ℕ, zero, suc, _+_, _^_, _≤_, _<_}
 use native.Mathlib.Omega.{arith}
-use mathlib.Core.Path.{_≡_, refl, sym, ap, _∙_, subst}
-use mathlib.Core.Bool.{Bool, true, false, cond, _&&_}
-use mathlib.Core.List.{List, [], _∷_, _++_, map, List·Memᴰ}
+use mathlib.Core.Path.{_≡_, refl, ap, _∙_}
+use mathlib.Core.Bool.{Bool, true, false, cond}
+use mathlib.Core.List.{List, [], _∷_, List·Memᴰ}
 use lib.ListN.{length, getD}
 use lib.Dec.{leb}
 use lib.Ieee.{Float, nan, ofBits, toBits}
@@ -17,15 +16,14 @@ use Rattle.engine.specs.declared.types.Outcome.the-variants.{Updated, Spawned, 
 use Rattle.engine.specs.declared.types.Cost.{Cost}
 use Rattle.engine.specs.declared.types.Cost.the-variants.{Absent, Paid}
 use Rattle.engine.specs.Frame.{Frame, modeNumber}
-use Rattle.engine.specs.Body.{all, codeOk, presentOk, timeOk}
+use Rattle.engine.specs.Body.{codeOk, presentOk, timeOk}
 use Rattle.engine.proofs.Every.{all-true}
 use Rattle.model.specs.Rule.{All}
 use Rattle.model.specs.Emitting.{Listed, Emitted, lifecycle, classWord, outcomeWord, costPresent, costNumber, wordsOf, numbersOf}
-use Rattle.model.specs.History.{timeOf}
 use Rattle.smoother.specs.Frame as Form
 use Rattle.smoother.specs.Frame.{trackOk, associationOk, sensorOk, headOk, exact, rowsOk, wellFormed}
 use Rattle.both.specs.Smoothed.{handed}
-use Rattle.both.proofs.Reading.{At, element, Associated, association, track-word, association-word, cost-number, sensor-word, words-length, numbers-length}
+use Rattle.both.proofs.Reading.{element, association, track-word, association-word, cost-number, sensor-word, words-length, numbers-length}
 use Rattle.both.proofs.Fresh.{time-is}
 
 -- what a frame that a body says keeps to
@@ -92,7 +90,10 @@ module _ (e : Emitted) (f : Fine e) where
   unfolding headOk wordsOf
   head-passes =
       let t : timeOk (Form.time (wordsOf e)) ≡ true = ap timeOk (time-is e (f .bounded .time)) ∙ f .bounded .time in
-      rw (le-leb 6 (length (wordsOf e)) (omega arith), t, mode-code (fr .mode), le-leb (length (e .tracks)) 128 (f .few), le-leb (length (fr .associations)) 32 (f .bounded .associations), le-leb (length (fr .sensors)) 8 (f .bounded .sensors))
+      let n = le-leb (length (e .tracks)) 128 (f .few) in
+      let a = le-leb (length (fr .associations)) 32 (f .bounded .associations) in
+      let s = le-leb (length (fr .sensors)) 8 (f .bounded .sensors) in
+      rw (le-leb 6 (length (wordsOf e)) (omega arith), t, mode-code (fr .mode), n, a, s)
 
   exact-passes : exact w x ≡ true
   unfolding exact

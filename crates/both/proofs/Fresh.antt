@@ -1,20 +1,18 @@
 -- The chain through emitted frames is the chain of fresh runs, and what the smoother emits of them is their smoothed form. Assumes nothing.
-use Prim.Native.Nat.{ℕ, zero, suc, _*_, _≤_, _<_}
+use Prim.Native.Nat.{ℕ, zero, suc, _≤_, _<_}
 use native.Mathlib.Nat.{le-refl, add-zero}
 use native.Mathlib.Decide.{ℕ-discrete}
 use native.Mathlib.Omega.{arith}
 use mathlib.Core.Path.{_≡_, refl, sym, ap, _∙_, subst}
-use mathlib.Core.Bool.{Bool, true, false, cond, _||_, or-true, or-false}
+use mathlib.Core.Bool.{true, false, cond, _||_, or-true, or-false}
 use mathlib.Core.List.{List, [], _∷_, _++_, map, flatMap, map-append, append-nil, append-assoc, List·Memᴰ}
 use mathlib.Core.Option.{Option, none, some}
 use lib.ListN.{length, getD, take, set}
 use lib.Seq.{take-length}
 use lib.Dec.{eqb}
-use lib.IntN.{ℤ}
 use lib.Ieee.{Float}
 use mir.Facts.{toZ-ofZ}
 use borrow.Author.Tests.{eq-eqb, ne-eqb}
-use Rattle.scalar.specs.Scalar.{word, signed}
 use Rattle.engine.specs.declared.config.FgoConfig.{FgoConfig}
 use Rattle.engine.specs.Body.{timeOk}
 use Rattle.engine.proofs.ReadBack.{time-fits}
@@ -23,9 +21,9 @@ use Rattle.model.specs.Lists.{has, any}
 use Rattle.model.specs.Emitting.{Listed, Emitted, wordsOf, numbersOf}
 use Rattle.model.specs.History.{timeOf, seen, afresh, Told}
 use Rattle.model.proofs.Counting.{any-append}
-use Rattle.smoother.specs.Frame.{SmootherFrame, time, trackCount, idWord, stateAt, stateIf, stateOf, lastAt}
+use Rattle.smoother.specs.Frame.{SmootherFrame, time, idWord, stateIf, stateOf, lastAt}
 use Rattle.smoother.specs.Pass.{chainOn, chain, runBack, replaced, flat, smoothedAt, smoothedFlag, statesTo, emitted}
-use Rattle.both.specs.Smoothed.{handed, estimateOf, estimateIf, listedIds, freshIn, freshChain, smoothedState, smoothedForm}
+use Rattle.both.specs.Smoothed.{handed, estimateIf, freshIn, freshChain, smoothedState, smoothedForm}
 use Rattle.both.proofs.Reading.{At, element, track-word, numbers-past, state-is}
 
 -- a time in bounds is read back from its word
@@ -55,7 +53,9 @@ module _ (e : Emitted) where
     last-is zero h = refl
     last-is (suc n) h = go (element (e .tracks) n h) (last-is n (omega arith))
       where
-        go : At (e .tracks) n → stateIf (numbersOf e) (lastAt x (wordsOf e) n) ≡ cond (has x (ids n)) (estimateIf o) none → stateIf (numbersOf e) (cond (eqb (idWord (wordsOf e) n) x) (some n) (lastAt x (wordsOf e) n)) ≡ cond (has x (ids (suc n))) (estimateIf o) none
+        go :
+            At (e .tracks) n → stateIf (numbersOf e) (lastAt x (wordsOf e) n) ≡ cond (has x (ids n)) (estimateIf o) none →
+            stateIf (numbersOf e) (cond (eqb (idWord (wordsOf e) n) x) (some n) (lastAt x (wordsOf e) n)) ≡ cond (has x (ids (suc n))) (estimateIf o) none
         go a r =
             let l = a .item in
             let d : idWord (wordsOf e) n ≡ l .id = id-is n h a in
@@ -93,12 +93,12 @@ module _ (c : FgoConfig) where
 
   -- ---- the frame that is emitted
 
-  module _ (lag : ℕ) (q : Float) (past : List Emitted) (e : Emitted) (es : List Emitted) (k : Known past (e ∷ es)) where
+  module _ (q : Float) (past : List Emitted) (e : Emitted) (es : List Emitted) (k : Known past (e ∷ es)) where
     abbrev fs : List SmootherFrame
     fs = map handed (e ∷ es)
 
     abbrev S : Listed → Estimate Float
-    S = smoothedState c lag q past e es
+    S = smoothedState c q past e es
 
     track-fresh : (i : ℕ) → i < length (e .tracks) → (a : At (e .tracks) i) → smoothedAt q fs (handed e) i ≡ S (a .item)
     unfolding smoothedAt smoothedState
@@ -112,16 +112,18 @@ module _ (c : FgoConfig) where
     states-fresh zero h = refl
     states-fresh (suc n) h = go (element (e .tracks) n h) (states-fresh n (omega arith))
       where
-        go : At (e .tracks) n → statesTo q fs (handed e) n ≡ flatMap (λ l. flat (S l)) (take n (e .tracks)) → statesTo q fs (handed e) n ++ flat (smoothedAt q fs (handed e) n) ≡ flatMap (λ l. flat (S l)) (take (suc n) (e .tracks))
+        go :
+            At (e .tracks) n → statesTo q fs (handed e) n ≡ flatMap (λ l. flat (S l)) (take n (e .tracks)) →
+            statesTo q fs (handed e) n ++ flat (smoothedAt q fs (handed e) n) ≡ flatMap (λ l. flat (S l)) (take (suc n) (e .tracks))
         go a r =
             let d = track-fresh n h a in
             (λ j. r j ++ flat (d j))
             ∙ flat-snoc (λ l. flat (S l)) (take n (e .tracks)) (a .item)
             ∙ ap (flatMap (λ l. flat (S l))) (sym (a .up))
 
-    pub emitted-fresh : emitted lag q fs (handed e) ≡ smoothedForm c lag q past e es
+    pub emitted-fresh : (lag : ℕ) → emitted lag q fs (handed e) ≡ smoothedForm c lag q past e es
     unfolding emitted smoothedForm wordsOf
-    emitted-fresh =
+    emitted-fresh lag =
         let n = length (e .tracks) in
         let s = states-fresh n (le-refl n) ∙ ap (flatMap (λ l. flat (S l))) (take-length (e .tracks)) in
         let d = numbers-past e in

@@ -1,6 +1,6 @@
 -- Where the rows of an emitted frame stand in its words and numbers. Assumes nothing.
 use Prim.Native.Nat.{ℕ, zero, suc, _+_, _*_, _≤_, _<_}
-use native.Mathlib.Nat.{le-refl, add-zero, mul-zero, mul-suc}
+use native.Mathlib.Nat.{le-refl, mul-zero, mul-suc}
 use native.Mathlib.Omega.{arith}
 use mathlib.Core.Path.{_≡_, refl, sym, ap, _∙_}
 use mathlib.Core.List.{List, [], _∷_, _++_, map, flatMap, append-assoc, List·Memᴰ, List·Memᴰ·head, List·Memᴰ·tail}
@@ -104,7 +104,9 @@ module _ (e : Emitted) where
   abbrev costs : List Float
   costs = map (λ a. costNumber (a .cost)) ass
 
-  pub track-word : (i : ℕ) → i < length tracks → (a : At tracks i) (k : ℕ) → getD (wordsOf e) (6 + 6 * i + k) 0 ≡ getD (trackWords (a .item) ++ (flatMap trackWords (a .after) ++ rest)) k 0
+  pub track-word :
+      (i : ℕ) → i < length tracks → (a : At tracks i) (k : ℕ) →
+      getD (wordsOf e) (6 + 6 * i + k) 0 ≡ getD (trackWords (a .item) ++ (flatMap trackWords (a .after) ++ rest)) k 0
   unfolding wordsOf
   track-word i h a k =
       place (wordsOf e) _ (6 + 6 * i) k 0
@@ -130,7 +132,9 @@ module _ (e : Emitted) where
       let f = sym (drop-drop 6 (42 * i) (numbersOf e)) ∙ ap (drop 6) d in
       λ j. record { x = take 6 (d j); p = take 36 (f j) }
 
-  pub association-word : (j : ℕ) (a : Associated ass (e .scan .ids) (e .scan .frame .sensors) j) (k : ℕ) → getD (wordsOf e) (6 + 6 * length tracks + 4 * j + k) 0 ≡ getD (associationWords (a .item) (a .id) ++ a .after) k 0
+  pub association-word :
+      (j : ℕ) (a : Associated ass (e .scan .ids) (e .scan .frame .sensors) j) (k : ℕ) →
+      getD (wordsOf e) (6 + 6 * length tracks + 4 * j + k) 0 ≡ getD (associationWords (a .item) (a .id) ++ a .after) k 0
   association-word j a k =
       place (wordsOf e) _ (6 + 6 * length tracks + 4 * j) k 0
       (sym (drop-drop (4 * j) (6 + 6 * length tracks) (wordsOf e)) ∙ ap (drop (4 * j)) words-past ∙ a .words)
@@ -149,7 +153,9 @@ module _ (e : Emitted) where
     pub words-length : length (wordsOf e) ≡ wordsLong (wordsOf e)
     unfolding wordsOf
     words-length =
-        omega (arith, length-append (flatMap trackWords tracks) rest, rows-length trackWords 6 (λ l. refl) tracks, length-append (associationsWords ass (e .scan .ids)) (e .scan .frame .sensors), associations-length ass (e .scan .ids) complete)
+        let a = rows-length trackWords 6 (λ l. refl) tracks in
+        let b = associations-length ass (e .scan .ids) complete in
+        omega (arith, a, b, length-append (flatMap trackWords tracks) rest, length-append (associationsWords ass (e .scan .ids)) (e .scan .frame .sensors))
 
   pub numbers-length : length (numbersOf e) ≡ numbersLong (wordsOf e)
   unfolding wordsOf numbersOf

@@ -11,16 +11,16 @@ use Rattle.scalar.specs.Scalar.{finite}
 use Rattle.engine.specs.declared.config.FgoConfig.{FgoConfig}
 use Rattle.model.specs.Emitting.{Emitted}
 use Rattle.model.specs.Rule.{All}
-use Rattle.model.specs.History.{Op, Sent, run, Told, History}
+use Rattle.model.specs.History.{Op, Sent, run}
 use Rattle.model.proofs.HistoryLaw.{history}
 use Rattle.smoother.specs.Frame.{SmootherFrame, wellFormed}
 use Rattle.smoother.specs.Pass.{emitted}
-use Rattle.smoother.specs.Smoother.{State, Lent, bounded, windowFits, allFormed, ruleOk, laterRefusal}
+use Rattle.smoother.specs.Smoother.{Lent, bounded, allFormed, ruleOk, laterRefusal}
 use Rattle.smoother.proofs.Calls.{push-formed, take-passed}
 use Rattle.both.specs.Smoothed.{handed, Call, Smoothing, step, smoothing, Fitting, Smoothed, Both, Passes}
-use Rattle.both.proofs.Calling.{keeping, Block, Ran, ran, every-left, one-more, last-left, step-stays}
+use Rattle.both.proofs.Calling.{keeping, Block, ran, every-left, one-more, last-left, step-stays}
 use Rattle.both.proofs.Fresh.{Known, emitted-fresh}
-use Rattle.both.proofs.Formed.{Fine, well}
+use Rattle.both.proofs.Formed.{well}
 use Rattle.both.proofs.Bodies.{fine}
 
 -- a list whose image is in two parts is in two parts
@@ -44,6 +44,7 @@ module _ (c : FgoConfig) (ops : List Op) (sent : All Sent ops) where
   pub passes : Passes c ops
   passes past e later h = well e (fine c ops sent past e later h)
 
+  -- the frames first are those that the smoother has accepted, and the refiner has emitted rest after them
   module _ (lag : ℕ) (q : Float) (calls : List Call) (first rest : List Emitted) (h : run c ops .emitted ≡ first ++ rest) (a : smoothing lag q calls .accepted ≡ map handed first) where
     abbrev r : Smoothing
     r = smoothing lag q calls
@@ -63,7 +64,9 @@ module _ (c : FgoConfig) (ops : List Op) (sent : All Sent ops) where
         )
 
     -- a frame that came out is the smoothed form of an emitted one
-    smoothed-of : (rs : List SmootherFrame) (k : ℕ) (o : SmootherFrame) → Block lag q (map handed first) rs k o → (later : List Emitted) × (map handed later ≡ rs) × Smoothed c lag q first later k o
+    smoothed-of :
+        (rs : List SmootherFrame) (k : ℕ) (o : SmootherFrame) → Block lag q (map handed first) rs k o →
+        (later : List Emitted) × (map handed later ≡ rs) × Smoothed c lag q first later k o
     smoothed-of rs k o b = go (p .after) refl
       where
         p : Parts handed first (b .front) (b .oldest ∷ (b .others ++ rs))
@@ -89,17 +92,21 @@ module _ (c : FgoConfig) (ops : List Op) (sent : All Sent ops) where
                 form =
                     b .form
                     ∙ (λ i. emitted lag q (sym f i ∷ sym g i) (sym f i))
-                    ∙ emitted-fresh c lag q (p .before) e (d .before) (known (p .before) (e ∷ d .before) (d .after) w);
+                    ∙ emitted-fresh c q (p .before) e (d .before) (known (p .before) (e ∷ d .before) (d .after) w) lag;
               },
             )
 
-    every-smoothed : (before : List SmootherFrame) (o : SmootherFrame) (after : List SmootherFrame) → r .given ≡ before ++ (o ∷ after) → (later : List Emitted) × Smoothed c lag q first later (length before) o
+    every-smoothed :
+        (before : List SmootherFrame) (o : SmootherFrame) (after : List SmootherFrame) → r .given ≡ before ++ (o ∷ after) →
+        (later : List Emitted) × Smoothed c lag q first later (length before) o
     every-smoothed before o after e =
         let b = every-left lag q calls before o after e in
         let s = smoothed-of (b .0) (length before) o (subst (λ l. Block lag q l (b .0) (length before) o) a (b .1)) in
         (s .0, s .2)
 
-    last-smoothed : (cs : List Call) (k : Call) (o : SmootherFrame) → calls ≡ cs ++ (k ∷ []) → r .given ≡ smoothing lag q cs .given ++ (o ∷ []) → Smoothed c lag q first [] (length (smoothing lag q cs .given)) o
+    last-smoothed :
+        (cs : List Call) (k : Call) (o : SmootherFrame) → calls ≡ cs ++ (k ∷ []) → r .given ≡ smoothing lag q cs .given ++ (o ∷ []) →
+        Smoothed c lag q first [] (length (smoothing lag q cs .given)) o
     last-smoothed cs k o p g =
         let e : r ≡ step (smoothing lag q cs) k = ap (smoothing lag q) p ∙ one-more lag q cs k in
         let n = length (smoothing lag q cs .given) in

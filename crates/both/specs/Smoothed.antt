@@ -4,7 +4,7 @@
 -- anywhere between."
 use Prim.Native.Nat.{ℕ, _+_, _≤_}
 use mathlib.Core.Path.{_≡_}
-use mathlib.Core.Bool.{true, cond, _&&_}
+use mathlib.Core.Bool.{true, cond}
 use mathlib.Core.List.{List, [], _∷_, _++_, map, flatMap, foldl}
 use mathlib.Core.Option.{Option, none, some}
 use lib.ListN.{length, set, take, drop}
@@ -96,21 +96,21 @@ module _ (c : FgoConfig) where
   freshChain x past [] = []
   freshChain x past (e ∷ es) = chainOn (timeOf e) (freshIn x past e) (freshChain x (past ++ (e ∷ [])) es)
 
-  module _ (lag : ℕ) (q : Float) (past : List Emitted) (e : Emitted) (es : List Emitted) where
-    -- "its smoothed form the backward pass over such states", from the frames es that follow e back to e. "A failed Cholesky leaves the track unchanged."
-    unfoldable pub smoothedState : Listed → Estimate Float
-    smoothedState l = replaced (estimateOf l) (runBack q (freshChain (l .id) past (e ∷ es)))
+  -- "its smoothed form the backward pass over such states": of the track l of the frame e, emitted after the frames past, from the frames es that follow e
+  -- back to e. "A failed Cholesky leaves the track unchanged."
+  unfoldable pub smoothedState : Float → List Emitted → Emitted → List Emitted → Listed → Estimate Float
+  smoothedState q past e es l = replaced (estimateOf l) (runBack q (freshChain (l .id) past (e ∷ es)))
 
-    -- e's own words but the flag; the smoothed state of each track that it lists, in order; its own costs
-    unfoldable pub smoothedForm : SmootherFrame
-    smoothedForm =
-        frame (set (wordsOf e) 5 (smoothedFlag lag))
-        (flatMap (λ l. flat (smoothedState l)) (e .tracks) ++ map (λ a. costNumber (a .cost)) (e .scan .frame .associations))
+  -- e's own words but the flag; the smoothed state of each track that it lists, in order; its own costs
+  unfoldable pub smoothedForm : ℕ → Float → List Emitted → Emitted → List Emitted → SmootherFrame
+  smoothedForm lag q past e es =
+      frame (set (wordsOf e) 5 (smoothedFlag lag))
+      (flatMap (λ l. flat (smoothedState q past e es l)) (e .tracks) ++ map (λ a. costNumber (a .cost)) (e .scan .frame .associations))
 
 -- ---- the theorem
 
--- The frame o came out after k others, when the frames first had been accepted and later others not yet: it is the smoothed form of the next frame in
--- order, over those that were held behind it.
+-- The frame o came out after k others, when the frames first but for the last of them, later, had been accepted: it is the smoothed form of the next frame
+-- in order, over the frames that were held behind it.
 pub record Smoothed (c : FgoConfig) (lag : ℕ) (q : Float) (first later : List Emitted) (k : ℕ) (o : SmootherFrame) : Type 0 where
   pub past : List Emitted
   pub source : Emitted
@@ -120,25 +120,36 @@ pub record Smoothed (c : FgoConfig) (lag : ℕ) (q : Float) (first later : List 
   pub few : length window ≤ lag
   pub form : o ≡ smoothedForm c lag q past source window
 
--- A refiner has run over some operations, and a new smoother over some calls that accepted, in order, the frames first, which the refiner emitted first.
+-- A refiner has run over some operations, and a new smoother over some calls. The frames that the smoother accepted are, in order, the frames first, which
+-- are the first that the refiner emitted.
 pub record Both (c : FgoConfig) (ops : List Op) (lag : ℕ) (q : Float) (calls : List Call) (first : List Emitted) : Type 0 where
   -- each frame that was accepted has come out or is held
   pub each : length (smoothing lag q calls .given) + length (smoothing lag q calls .state .frames) ≡ length first
   -- what has come out are, in order, the smoothed forms of the frames accepted
-  pub every : (before : List SmootherFrame) (o : SmootherFrame) (after : List SmootherFrame) → smoothing lag q calls .given ≡ before ++ (o ∷ after) → (later : List Emitted) × Smoothed c lag q first later (length before) o
+  pub every :
+      (before : List SmootherFrame) (o : SmootherFrame) (after : List SmootherFrame) → smoothing lag q calls .given ≡ before ++ (o ∷ after) →
+      (later : List Emitted) × Smoothed c lag q first later (length before) o
   -- what the last call put out is smoothed over all the frames accepted by then
-  pub last : (cs : List Call) (k : Call) (o : SmootherFrame) → calls ≡ cs ++ (k ∷ []) → smoothing lag q calls .given ≡ smoothing lag q cs .given ++ (o ∷ []) → Smoothed c lag q first [] (length (smoothing lag q cs .given)) o
+  pub last :
+      (cs : List Call) (k : Call) (o : SmootherFrame) → calls ≡ cs ++ (k ∷ []) → smoothing lag q calls .given ≡ smoothing lag q cs .given ++ (o ∷ []) →
+      Smoothed c lag q first [] (length (smoothing lag q cs .given)) o
   -- "After it the state and the lent buffers hold what they held before the call": a call that is refused changes nothing
   pub refusals : (k : Call) (n : ℕ) → answer (smoothing lag q calls .state) k .0 ≡ refused n → smoothing lag q (calls ++ (k ∷ [])) ≡ smoothing lag q calls
-  -- with lag and density in bounds and buffers of document 01's lengths, no emitted frame is refused, and no take but for 13
-  pub pushes : lag ≤ 16 → finite q ≡ true → (b : Lent) → Fitting lag b → (past : List Emitted) (e : Emitted) (later : List Emitted) → run c ops .emitted ≡ past ++ (e ∷ later) → push (smoothing lag q calls .state) b (handed e) ≡ settle (held (smoothing lag q calls .state) (handed e))
-  pub takes : lag ≤ 16 → finite q ≡ true → (b : Lent) → Fitting lag b → takes (smoothing lag q calls .state) b ≡ release (smoothing lag q calls .state) (smoothing lag q calls .state .frames)
+  -- with settings in bounds and buffers of document 01's lengths, no push of an emitted frame is refused, and no take but for 13
+  pub pushes :
+      lag ≤ 16 → finite q ≡ true → (b : Lent) → Fitting lag b → (past : List Emitted) (e : Emitted) (later : List Emitted) →
+      run c ops .emitted ≡ past ++ (e ∷ later) → push (smoothing lag q calls .state) b (handed e) ≡ settle (held (smoothing lag q calls .state) (handed e))
+  pub takes :
+      lag ≤ 16 → finite q ≡ true → (b : Lent) → Fitting lag b →
+      takes (smoothing lag q calls .state) b ≡ release (smoothing lag q calls .state) (smoothing lag q calls .state .frames)
 
 -- every frame that a refiner emits passes the smoother's 5 at C 128
 abbrev pub Passes : FgoConfig → List Op → Type 0
-Passes c ops = (past : List Emitted) (e : Emitted) (later : List Emitted) → run c ops .emitted ≡ past ++ (e ∷ later) → wellFormed 128 (handed e) ≡ true
+Passes c ops =
+    (past : List Emitted) (e : Emitted) (later : List Emitted) → run c ops .emitted ≡ past ++ (e ∷ later) → wellFormed 128 (handed e) ≡ true
 
--- the theorems, in proofs/:
+-- the theorems, in proofs/, over every list of operations that push bytes:
 --   passes : (c : FgoConfig) (ops : List Op) → All Sent ops → Passes c ops
---   both : (c : FgoConfig) (ops : List Op) → All Sent ops → (lag : ℕ) (q : Float) (calls : List Call) (first rest : List Emitted) →
+--   both :
+--     (c : FgoConfig) (ops : List Op) → All Sent ops → (lag : ℕ) (q : Float) (calls : List Call) (first rest : List Emitted) →
 --     run c ops .emitted ≡ first ++ rest → smoothing lag q calls .accepted ≡ map handed first → Both c ops lag q calls first
