@@ -95,7 +95,7 @@ unfolding presentOk
 cost-present Absent = (lit< tt, refl)
 cost-present (Paid x) = (lit< tt, refl)
 
-time-fits : (t : ℤ) → timeOk t ≡ true → SFits w64 t
+pub time-fits : (t : ℤ) → timeOk t ≡ true → SFits w64 t
 unfolding timeOk
 time-fits (pos n) h = record { sfits = omega (arith, ltb-true n 4611686018427387904 h) }
 time-fits (negsuc n) h = record { sfits = omega (arith, ltb-true (suc n) 4611686018427387904 h) }

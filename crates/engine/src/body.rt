@@ -42,7 +42,7 @@ fn present_refusal(b: u8, v: u64) -> u8
     }
 }
 
-fn time_ok(t: i64) -> bool
+pub fn time_ok(t: i64) -> bool
     ensures { λ r. ⌜ r ≡ timeOk t ⌝ }
 {
     if t < -4611686018427387903 {

@@ -27,7 +27,7 @@ use Rattle.model.proofs.Ruled.{used, ruled}
 module _ (c : FgoConfig) where
   -- ---- what is told of each emitted frame, in order
 
-  unfoldable ToldFrom : List Emitted → List Emitted → Type 0
+  unfoldable pub ToldFrom : List Emitted → List Emitted → Type 0
   ToldFrom past [] = Unit {0}
   ToldFrom past (e ∷ es) = Told c past e × ToldFrom (past ++ (e ∷ [])) es
 
@@ -88,10 +88,10 @@ module _ (c : FgoConfig) where
 
   -- ---- what it leaves
 
-  record Ran (r : Run) : Type 0 where
-    inv : Inv c (r .emitted) (r .accepted) (r .state)
-    lagged : length (r .state .scans) ≤ lag c
-    told-all : ToldFrom [] (r .emitted)
+  pub record Ran (r : Run) : Type 0 where
+    pub inv : Inv c (r .emitted) (r .accepted) (r .state)
+    pub lagged : length (r .state .scans) ≤ lag c
+    pub told-all : ToldFrom [] (r .emitted)
 
   -- acc is what has been accepted after each answer
   module _ (r : Run) (i : Ran r) (acc : Answer → List Frame) where
@@ -135,7 +135,7 @@ module _ (c : FgoConfig) where
       ran-does r i (λ a. r .accepted) (r .state) (Unit {0}) (takes c (r .state)) (take-does (r .state)) (λ n. refl) (λ e. refl)
       (λ k. (i .inv, le-trans (i .lagged) (omega arith)))
 
-  ran : (ops : List Op) → Ran (run c ops)
+  pub ran : (ops : List Op) → Ran (run c ops)
   unfolding run ToldFrom
   ran ops =
       foldl-keeps Ran (λ o. Unit {0}) (step c) (λ r o i u. ran-step r o i) begin ops (record { inv = inv-new c; lagged = omega arith; told-all = tt })
@@ -199,7 +199,7 @@ module _ (c : FgoConfig) where
       go (holds k l q) = subst S (sym q) ((s, h, k .0, refl), tt)
       go (leaves k b ss p q) = subst S (sym q) ((s, h, k .0, refl), tt)
 
-  spoken : (ops : List Op) → All Sent ops → All Spoken (run c ops .accepted)
+  pub spoken : (ops : List Op) → All Sent ops → All Spoken (run c ops .accepted)
   unfolding run
   spoken ops h = foldl-keeps (λ r. All Spoken (r .accepted)) Sent (step c) spoken-step begin ops tt h
 

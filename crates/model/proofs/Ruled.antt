@@ -24,7 +24,7 @@ use Rattle.model.proofs.Arrival.{Column, column-weaken}
 use Rattle.model.proofs.Invariant.{Good, Inv}
 
 -- a body that passes says a time in bounds
-spoken-time : (f : Frame) → Spoken f → timeOk (f .time) ≡ true
+pub spoken-time : (f : Frame) → Spoken f → timeOk (f .time) ≡ true
 spoken-time f p = subst (λ g. timeOk (g .time) ≡ true) (p .3) (unfold frameOf in (sized-body narrow (p .0) (p .2) .time))
 
 -- ---- the rule
@@ -49,7 +49,7 @@ module _ (c : FgoConfig) (es : List Emitted) (acc : List Frame) (t : State) (i :
     frames-spoken : All Spoken (map (λ e. e .scan .frame) es ++ map (λ s. s .frame) (t .scans))
     frames-spoken = subst (All Spoken) (sym (i .order)) sp
 
-    emitted-spoken : All (λ s. Spoken (s .frame)) (scansOf es)
+    pub emitted-spoken : All (λ s. Spoken (s .frame)) (scansOf es)
     emitted-spoken =
         All-map (λ s. Spoken (s .frame)) (λ e. e .scan) es
         (map-All Spoken (λ e. e .scan .frame) es (All-left Spoken (map (λ e. e .scan .frame) es) (map (λ s. s .frame) (t .scans)) frames-spoken))

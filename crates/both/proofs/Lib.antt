@@ -1,0 +1,6 @@
+pub mod Calling
+pub mod Reading
+pub mod Fresh
+pub mod Formed
+pub mod Bodies
+pub mod Theorem

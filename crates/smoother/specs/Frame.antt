@@ -1,0 +1,138 @@
+-- Document 01, "Emitted words" and "Numbers": a frame as the smoother takes and gives it. Definitions only.
+use Prim.Native.Nat.{ℕ, zero, suc, _+_, _*_, _^_}
+use mathlib.Core.Bool.{Bool, cond, _&&_}
+use mathlib.Core.List.{List}
+use mathlib.Core.Option.{Option, none, some}
+use lib.ListN.{length, getD, take, drop}
+use lib.Dec.{leb, ltb, eqb}
+use lib.IntN.{ℤ}
+use lib.Ieee.{Float, nan}
+use Rattle.scalar.specs.Scalar.{bitsOf, signed}
+use Rattle.engine.specs.Body.{all, codeOk, presentOk, timeOk}
+use Rattle.rts.specs.Smoothing.{Estimate, estimate}
+
+-- "A smoother frame is these two lists at their exact length"
+pub record SmootherFrame : Type 0 where
+  pub words : List ℕ
+  pub numbers : List Float
+
+abbrev pub frame : List ℕ → List Float → SmootherFrame
+frame w x = record { words = w; numbers = x }
+
+-- ---- what stands where in the words
+
+module _ (w : List ℕ) where
+  -- "time, mode, tracks, associations, sensors, smoothed"
+  abbrev pub time : ℤ
+  time = signed (getD w 0 0)
+
+  abbrev pub modeWord : ℕ
+  modeWord = getD w 1 0
+
+  abbrev pub trackCount : ℕ
+  trackCount = getD w 2 0
+
+  abbrev pub associationCount : ℕ
+  associationCount = getD w 3 0
+
+  abbrev pub sensorCount : ℕ
+  sensorCount = getD w 4 0
+
+  abbrev pub smoothedWord : ℕ
+  smoothedWord = getD w 5 0
+
+  -- "per track id, lifecycle (0 tentative, 1 confirmed), last time, age, class (2^32 if none), count": last time and age are free
+  abbrev pub idWord : ℕ → ℕ
+  idWord i = getD w (6 + 6 * i) 0
+
+  abbrev pub lifecycleWord : ℕ → ℕ
+  lifecycleWord i = getD w (6 + 6 * i + 1) 0
+
+  abbrev pub classWord : ℕ → ℕ
+  classWord i = getD w (6 + 6 * i + 4) 0
+
+  abbrev pub countWord : ℕ → ℕ
+  countWord i = getD w (6 + 6 * i + 5) 0
+
+  -- "per association index, id (0 none), outcome, cost present": index and id are free
+  abbrev pub associationsFrom : ℕ
+  associationsFrom = 6 + 6 * trackCount
+
+  abbrev pub outcomeWord : ℕ → ℕ
+  outcomeWord j = getD w (associationsFrom + 4 * j + 2) 0
+
+  abbrev pub costPresentWord : ℕ → ℕ
+  costPresentWord j = getD w (associationsFrom + 4 * j + 3) 0
+
+  -- "then the frame's sensors"
+  abbrev pub sensorsFrom : ℕ
+  sensorsFrom = associationsFrom + 4 * associationCount
+
+  abbrev pub sensorWord : ℕ → ℕ
+  sensorWord k = getD w (sensorsFrom + k) 0
+
+  -- how many words and numbers the counts ask for
+  abbrev pub wordsLong : ℕ
+  wordsLong = sensorsFrom + sensorCount
+
+  -- "Numbers: per track position 3, velocity 3, covariance 36 by rows; then one cost per association"
+  abbrev pub costsFrom : ℕ
+  costsFrom = 42 * trackCount
+
+  abbrev pub numbersLong : ℕ
+  numbersLong = costsFrom + associationCount
+
+-- ---- 5: "frame malformed, or a count, code or time out of bounds"
+
+-- "the same counts, codes and bound on the time (smoothed 0 or 1)", "at most C tracks"
+unfoldable pub headOk : ℕ → List ℕ → Bool
+headOk most w =
+    leb 6 (length w)
+    && (timeOk (time w)
+    && (codeOk (modeWord w)
+    && (leb (trackCount w) most
+    && (leb (associationCount w) 32 && (leb (sensorCount w) 8 && leb (smoothedWord w) 1)))))
+
+-- lifecycle 0 or 1, "class at most 2^32, count .. below 2^32"
+unfoldable pub trackOk : List ℕ → ℕ → Bool
+trackOk w i = leb (lifecycleWord w i) 1 && (leb (classWord w i) (2 ^ 32) && ltb (countWord w i) (2 ^ 32))
+
+-- the outcome has three codes; "absent costs 0", with all bits zero
+unfoldable pub associationOk : List ℕ → List Float → ℕ → Bool
+associationOk w x j = codeOk (outcomeWord w j) && presentOk (costPresentWord w j) (bitsOf (getD x (costsFrom w + j) nan))
+
+-- "sensors below 2^32"
+unfoldable pub sensorOk : List ℕ → ℕ → Bool
+sensorOk w k = ltb (sensorWord w k) (2 ^ 32)
+
+-- "at their exact length"
+unfoldable pub exact : List ℕ → List Float → Bool
+exact w x = eqb (length w) (wordsLong w) && eqb (length x) (numbersLong w)
+
+-- each track, association and sensor is in bounds
+unfoldable pub rowsOk : List ℕ → List Float → Bool
+rowsOk w x =
+    all (trackOk w) (trackCount w) && (all (associationOk w x) (associationCount w) && all (sensorOk w) (sensorCount w))
+
+-- "all else is free"
+unfoldable pub wellFormed : ℕ → SmootherFrame → Bool
+wellFormed most f = headOk most (f .words) && (exact (f .words) (f .numbers) && rowsOk (f .words) (f .numbers))
+
+-- ---- the state of a track
+
+-- position, velocity and covariance of track i
+unfoldable pub stateAt : List Float → ℕ → Estimate Float
+stateAt x i = estimate (take 6 (drop (42 * i) x)) (take 36 (drop (42 * i + 6) x))
+
+-- the last of the first n tracks that has the id
+unfoldable pub lastAt : ℕ → List ℕ → ℕ → Option ℕ
+lastAt id w zero = none
+lastAt id w (suc n) = cond (eqb (idWord w n) id) (some n) (lastAt id w n)
+
+abbrev pub stateIf : List Float → Option ℕ → Option (Estimate Float)
+stateIf x none = none
+stateIf x (some i) = some (stateAt x i)
+
+-- the state of an id in a frame; "a repeated id: its last record"
+unfoldable pub stateOf : ℕ → SmootherFrame → Option (Estimate Float)
+stateOf id f = stateIf (f .numbers) (lastAt id (f .words) (trackCount (f .words)))

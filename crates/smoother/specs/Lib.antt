@@ -1,0 +1,5 @@
+pub mod Frame
+pub mod Pass
+pub mod Smoother
+pub mod Window
+pub mod Promise

@@ -1,0 +1,84 @@
+-- Document 01, "smoother.rs": the backward pass over held frames. Definitions only.
+use Prim.Native.Nat.{ℕ, zero, suc, _*_}
+use mathlib.Core.Bool.{cond}
+use mathlib.Core.List.{List, [], _∷_, _++_}
+use mathlib.Core.Option.{Option, none, some}
+use lib.ListN.{set, drop}
+use lib.Dec.{ltb}
+use lib.IntN.{ℤ}
+use lib.Ieee.{Float, binary64, sub}
+use Rattle.scalar.specs.Scalar.{secondsOf}
+use Rattle.scalar.specs.F64.{f64}
+use Rattle.rts.specs.declared.Step.{Step}
+use Rattle.rts.specs.declared.Step.the-variants.{Smoothed, Skipped, Failed}
+use Rattle.rts.specs.Smoothing.{Estimate, Answer, back}
+use Rattle.smoother.specs.Frame.{SmootherFrame, time, trackCount, idWord, stateAt, stateOf}
+
+-- ---- choosing the chain
+
+-- a state of a track, and the time of its frame
+pub record Timed : Type 0 where
+  pub time : ℤ
+  pub state : Estimate Float
+
+abbrev pub chainOn : ℤ → Option (Estimate Float) → List Timed → List Timed
+chainOn t none r = []
+chainOn t (some a) r = record { time = t; state = a } ∷ r
+
+-- the states of an id in the frames from the oldest on, up to "the last consecutive held frame with the id"
+unfoldable pub chain : ℕ → List SmootherFrame → List Timed
+chain id [] = []
+chain id (f ∷ fs) = chainOn (time (f .words)) (stateOf id f) (chain id fs)
+
+-- ---- running back over it
+
+-- what a step leaves: "A failed Cholesky leaves the track unchanged"
+abbrev pub leftBy : Step → Estimate Float → Option (Estimate Float)
+leftBy Smoothed s = some s
+leftBy Skipped s = some s
+leftBy Failed s = none
+
+abbrev pub left : Answer Float → Option (Estimate Float)
+left r = leftBy (r .step) (r .state)
+
+-- from time t′ back to time t, at which the state is a; nothing where a later step has failed
+abbrev pub backOne : Float → ℤ → ℤ → Estimate Float → Option (Estimate Float) → Option (Estimate Float)
+backOne q t t′ a none = none
+backOne q t t′ a (some s) = left (back f64 q (sub binary64 (secondsOf t′) (secondsOf t)) a s)
+
+-- from the chain's last state "back to the oldest"
+unfoldable pub runBack : Float → List Timed → Option (Estimate Float)
+runBack q [] = none
+runBack q (a ∷ []) = some (a .state)
+runBack q (a ∷ b ∷ r) = backOne q (a .time) (b .time) (a .state) (runBack q (b ∷ r))
+
+-- ---- the oldest frame, smoothed
+
+abbrev pub replaced : Estimate Float → Option (Estimate Float) → Estimate Float
+replaced a none = a
+replaced a (some s) = s
+
+-- track i of the frame f, the oldest of the frames fs
+unfoldable pub smoothedAt : Float → List SmootherFrame → SmootherFrame → ℕ → Estimate Float
+smoothedAt q fs f i = replaced (stateAt (f .numbers) i) (runBack q (chain (idWord (f .words) i) fs))
+
+-- its 42 numbers
+abbrev pub flat : Estimate Float → List Float
+flat a = a .x ++ a .p
+
+-- the numbers of the first n tracks
+unfoldable pub statesTo : Float → List SmootherFrame → SmootherFrame → ℕ → List Float
+statesTo q fs f zero = []
+statesTo q fs f (suc n) = statesTo q fs f n ++ flat (smoothedAt q fs f n)
+
+-- "smoothed = lag > 0"
+abbrev pub smoothedFlag : ℕ → ℕ
+smoothedFlag lag = cond (ltb 0 lag) 1 0
+
+-- the words with the flag; the numbers of each track, smoothed, and the costs as they were
+unfoldable pub emitted : ℕ → Float → List SmootherFrame → SmootherFrame → SmootherFrame
+emitted lag q fs f =
+    record {
+      words = set (f .words) 5 (smoothedFlag lag);
+      numbers = statesTo q fs f (trackCount (f .words)) ++ drop (42 * trackCount (f .words)) (f .numbers);
+    }
