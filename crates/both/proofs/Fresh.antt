@@ -62,8 +62,8 @@ module _ (e : Emitted) where
             let m : ids (suc n) ≡ ids n ++ (l .id ∷ []) = ap (map (λ l. l .id)) (a .up) ∙ map-append (λ l. l .id) (take n (e .tracks)) (l ∷ []) in
             let k : has x (ids (suc n)) ≡ (has x (ids n) || (eqb x (l .id) || false)) = ap (has x) m ∙ any-append (eqb x) (ids n) (l .id ∷ []) in
             elim (ℕ-discrete (l .id) x) [
-              yes p ↦ rw (d, eq-eqb (l .id) x p, k, eq-eqb x (l .id) (sym p), or-true (has x (ids n))) (ap some (state-is e n h a) ∙ ap estimateIf (sym (only l (a .among) p)))
-            | no p ↦ rw (d, ne-eqb (l .id) x p, k, ne-eqb x (l .id) (λ q. p (sym q)), or-false (has x (ids n))) r
+              | yes p ↦ rw (d, eq-eqb (l .id) x p, k, eq-eqb x (l .id) (sym p), or-true (has x (ids n))) (ap some (state-is e n h a) ∙ ap estimateIf (sym (only l (a .among) p)))
+              | no p ↦ rw (d, ne-eqb (l .id) x p, k, ne-eqb x (l .id) (λ q. p (sym q)), or-false (has x (ids n))) r
             ]
 
 -- ---- the chain

@@ -4,3 +4,4 @@ pub mod Fresh
 pub mod Formed
 pub mod Bodies
 pub mod Theorem
+pub mod Examples
