@@ -18,8 +18,9 @@ use Rattle.engine.specs.declared.types.Cost.the-variants.{Absent, Paid}
 use Rattle.engine.specs.Frame.{Frame, modeNumber}
 use Rattle.engine.specs.Body.{codeOk, presentOk, timeOk}
 use Rattle.engine.proofs.Every.{all-true}
+use Rattle.engine.specs.Encode.{costPresent}
 use Rattle.model.specs.Rule.{All}
-use Rattle.model.specs.Emitting.{Listed, Emitted, lifecycle, classWord, outcomeWord, costPresent, costNumber, wordsOf, numbersOf}
+use Rattle.model.specs.Emitting.{Listed, Emitted, lifecycle, classWord, outcomeWord, costNumber, wordsOf, numbersOf}
 use Rattle.smoother.specs.Frame as Form
 use Rattle.smoother.specs.Frame.{trackOk, associationOk, sensorOk, headOk, exact, rowsOk, wellFormed}
 use Rattle.both.specs.Smoothed.{handed}
