@@ -80,7 +80,7 @@ body-bounded s b z =
       classes = rows-All (λ t. Classed (t .class)) _ (λ i. track-class s b _) 0 (trackCount narrow s);
     }
 
-pub spoken-bounded : (f : Frame) → Spoken f → Bounded f
+spoken-bounded : (f : Frame) → Spoken f → Bounded f
 spoken-bounded f p = subst Bounded (p .3) (body-bounded (p .0) (p .1) (p .2))
 
 -- ---- the class of a track

@@ -1,11 +1,11 @@
--- A run that the checker computes, from the bytes of the bodies to the smoothed words and numbers. Assumes nothing.
+-- Runs that the checker computes, from the bytes of the bodies to the smoothed words and numbers. What these should give was worked out apart from the
+-- definitions, in f64 by document 01's steps. Assumes nothing.
 use Prim.Native.Nat.{ℕ}
 use mathlib.Core.Path.{_≡_, refl}
 use mathlib.Core.List.{List, [], _∷_, _++_, map, flatMap}
 use lib.Count.{trailingZeros}
-use lib.ListN.{length}
 use lib.IntN.{pos}
-use lib.Ieee.{Float, binary64, add, sub, mul, div, lt, le, round, ofInt, ofBits, toBits, neg, sum, units, odd, size, span, climb, ofFields}
+use lib.Ieee.{binary64, add, sub, mul, div, lt, le, round, ofInt, ofBits, toBits, neg, sum, units, odd, size, span, climb, ofFields}
 use Rattle.scalar.specs.Scalar.{finite, bitsOf}
 use Rattle.scalar.specs.Ln.{lnOf}
 use Rattle.engine.specs.declared.types.TrackingMode.the-variants.{LidarOnly}
@@ -18,7 +18,12 @@ use Rattle.engine.specs.Frame.{Frame}
 use Rattle.engine.specs.Body.{all, codeOk, presentOk, timeOk, trackOk, associationOk, observationOk, indexOk, headOk, tracksOk, associationsOk, observationsOk, indicesOk, refusal, rows, trackAt, observationAt, associationAt, frameOf, decode}
 use Rattle.engine.specs.Encode.{bytesOf, laid, encode}
 use Rattle.kf.specs.Cost.{added, step as costStep, run as costRun, closed}
-use Rattle.rts.specs.Smoothing.{back}
+use Rattle.scalar.specs.Root.{floorRoot, nearRoot, rootOf}
+use Rattle.linalg.specs.Grown.{tabulate, grown, backed}
+use Rattle.linalg.specs.Matrix.{mul as matMul, mulVec, transpose, add as matAdd, sub as matSub, scale, halfSum}
+use Rattle.linalg.specs.Cholesky.{less, column, columns, cholesky, positive, forward, backward, inverse}
+use Rattle.models.specs.Motion.{cvF, cvQ}
+use Rattle.rts.specs.Smoothing.{xPred, pPred, gain, smoothedX, smoothedP, smoothed, back}
 use Rattle.model.specs.Lists.{keep, any, upFrom, insert, find, put, assign}
 use Rattle.model.specs.Windows.{classAmong, dotOf, under, window, present, price}
 use Rattle.model.specs.Placing.{place}
@@ -32,23 +37,23 @@ use Rattle.model.proofs.Examples.{lagging}
 use Rattle.smoother.specs.Frame.{SmootherFrame, headOk as formHead, trackOk as formTrack, associationOk as formAssociation, sensorOk, exact, rowsOk, wellFormed, stateAt, lastAt, stateOf}
 use Rattle.smoother.specs.Pass.{chain, runBack, smoothedAt, statesTo, emitted}
 use Rattle.smoother.specs.Smoother.{Lent, bounded, windowFits, allFormed, ruleOk, outFits, laterRefusal, settle as settleFrame, release as releaseFrame, push as pushSmoother, takes as takeSmoother}
-use Rattle.both.specs.Smoothed.{handed, Call, pushed as handOver, taken, Smoothing, step as callStep, smoothing}
+use Rattle.both.specs.Smoothed.{handed, Call, pushed as handOver, taken, step as callStep, smoothing}
 
--- a dot at (x, 2, 0.5) at time 0, of engine id 7
-dotted : ℕ → Frame
-dotted x =
+-- a dot at (x, 2, 0.5) at time t, of engine id 7
+dotted : ℕ → ℕ → Frame
+dotted t x =
     record {
       mode = LidarOnly;
-      time = pos 0;
+      time = pos t;
       tracks = [];
       sensors = [];
       observations = record { x = ofBits binary64 x; y = ofBits binary64 0x4000_0000_0000_0000; z = ofBits binary64 0x3fe0_0000_0000_0000 } ∷ [];
       associations = record { index = record { 0 = 0 }; track = Track (record { 0 = 7 }); outcome = Spawned; cost = Absent } ∷ [];
     }
 
--- it stands at x 1, then, with no time gone by, at 1.25
-twice : List Op
-twice = pushed (encode (dotted 0x3ff0_0000_0000_0000)) ∷ pushed (encode (dotted 0x3ff4_0000_0000_0000)) ∷ []
+-- it stands at x 1 at time 0, then at 1.25 at time t
+twice : ℕ → List Op
+twice t = pushed (encode (dotted 0 0x3ff0_0000_0000_0000)) ∷ pushed (encode (dotted t 0x3ff4_0000_0000_0000)) ∷ []
 
 -- buffers of document 01's lengths for lag 1, and output buffers one word short
 abbrev fitting : Lent
@@ -57,7 +62,7 @@ fitting = record { windowWords = 1820; windowNumbers = 10816; outWords = 910; ou
 abbrev short : Lent
 short = record { windowWords = 1820; windowNumbers = 10816; outWords = 909; outNumbers = 5408 }
 
--- each emitted frame is pushed, first in vain, and then two takes ask for one frame more than there is
+-- each emitted frame is pushed, first in vain, and then two takes ask for one frame more than is held
 calls : List Emitted → List Call
 calls es = flatMap (λ e. handOver short (handed e) ∷ handOver fitting (handed e) ∷ []) es ++ (taken fitting ∷ taken fitting ∷ [])
 
@@ -65,12 +70,16 @@ calls es = flatMap (λ e. handOver short (handed e) ∷ handOver fitting (handed
 pub shown : List SmootherFrame → List (List ℕ)
 shown os = flatMap (λ o. o .words ∷ map bitsOf (o .numbers) ∷ []) os
 
-pub smoothedTwice : Smoothing
-smoothedTwice = smoothing 1 (density defaults) (calls (run (lagging 0) twice .emitted))
+-- What has to be computed for that is opened here.
+pub smoothedTwice : ℕ → List (List ℕ)
+unfolding shown calls twice dotted run step push takes decode refusal headOk tracksOk associationsOk observationsOk indicesOk all codeOk presentOk timeOk trackOk associationOk observationOk indexOk rows trackAt observationAt associationAt frameOf little bytesOf laid encode flatMap finite pushFrame arrive emit leave release settle full8 full9 full10 report listing associationsWords wordsOf numbersOf mean freeze freezeAll remember holderIn latest reown recolumn shared rest costOf close isCut cuts pairsWith pairs trySwap tryMerge pairCandidates bestOfPair trySplit tryDrop trackCandidates bestOfTrack pairStep trackStep pass passes improve place classAmong dotOf under window present price keep any upFrom insert find put assign added costStep costRun closed lnOf add sub mul div lt le round ofInt ofBits toBits neg sum units odd size span climb ofFields trailingZeros formHead formTrack formAssociation sensorOk exact rowsOk wellFormed stateAt lastAt stateOf chain runBack smoothedAt statesTo emitted bounded windowFits allFormed ruleOk outFits laterRefusal settleFrame releaseFrame pushSmoother takeSmoother callStep smoothing back smoothed xPred pPred gain smoothedX smoothedP matMul mulVec transpose matAdd matSub scale halfSum less column columns cholesky positive forward backward inverse tabulate grown backed cvF cvQ floorRoot nearRoot rootOf
+smoothedTwice t = shown (smoothing 1 (density defaults) (calls (run (lagging 0) (twice t) .emitted)) .given)
+
+-- ---- no time goes by
 
 -- 1.125, 2, 0.5, no speed; p00 0.03125, r 0.0625, p11 1; no cost
-abbrev latest-state : List ℕ
-latest-state =
+abbrev pub lastState : List ℕ
+lastState =
     0x3ff2_0000_0000_0000 ∷ 0x4000_0000_0000_0000 ∷ 0x3fe0_0000_0000_0000 ∷ 0 ∷ 0 ∷ 0
     ∷ 0x3fa0_0000_0000_0000 ∷ 0 ∷ 0 ∷ 0 ∷ 0 ∷ 0
     ∷ 0 ∷ 0x3fa0_0000_0000_0000 ∷ 0 ∷ 0 ∷ 0 ∷ 0
@@ -82,11 +91,47 @@ latest-state =
 
 -- "dt ≤ 0.0 skips, keeping the later state": both frames come out with it, each with its own words but the flag
 pub skipped :
-    shown (smoothedTwice .given)
+    smoothedTwice 0
     ≡ (0 ∷ 0 ∷ 1 ∷ 1 ∷ 0 ∷ 1 ∷ 1 ∷ 0 ∷ 0 ∷ 0 ∷ 4294967296 ∷ 1 ∷ 0 ∷ 1 ∷ 1 ∷ 0 ∷ [])
-    ∷ latest-state
+    ∷ lastState
     ∷ (0 ∷ 0 ∷ 1 ∷ 1 ∷ 0 ∷ 1 ∷ 1 ∷ 1 ∷ 0 ∷ 0 ∷ 4294967296 ∷ 2 ∷ 0 ∷ 1 ∷ 1 ∷ 0 ∷ [])
-    ∷ latest-state
+    ∷ lastState
     ∷ []
-unfolding shown smoothedTwice calls twice dotted run step push takes decode refusal headOk tracksOk associationsOk observationsOk indicesOk all codeOk presentOk timeOk trackOk associationOk observationOk indexOk rows trackAt observationAt associationAt frameOf little bytesOf laid encode flatMap finite pushFrame arrive emit leave release settle full8 full9 full10 report listing associationsWords wordsOf numbersOf mean freeze freezeAll remember holderIn latest reown recolumn shared rest costOf close isCut cuts pairsWith pairs trySwap tryMerge pairCandidates bestOfPair trySplit tryDrop trackCandidates bestOfTrack pairStep trackStep pass passes improve place classAmong dotOf under window present price keep any upFrom insert find put assign added costStep costRun closed lnOf add sub mul div lt le round ofInt ofBits toBits neg sum units odd size span climb ofFields trailingZeros formHead formTrack formAssociation sensorOk exact rowsOk wellFormed stateAt lastAt stateOf chain runBack smoothedAt statesTo emitted bounded windowFits allFormed ruleOk outFits laterRefusal settleFrame releaseFrame pushSmoother takeSmoother callStep smoothing back
+unfolding smoothedTwice
 skipped = refl
+
+-- ---- one step back over 100 ms
+
+-- the first frame's state, smoothed
+abbrev pub steppedState : List ℕ
+steppedState =
+    0x3ff1_d97d_511f_e1b3 ∷ 0x4000_0000_0000_0000 ∷ 0x3fe0_0000_0000_0000 ∷ 0x3fc7_acaa_74cb_48ec ∷ 0 ∷ 0
+    ∷ 0x3fa1_3415_7700_f26e ∷ 0 ∷ 0 ∷ 0xbfa7_acaa_74cb_48ec ∷ 0 ∷ 0
+    ∷ 0 ∷ 0x3fa1_3415_7700_f26e ∷ 0 ∷ 0 ∷ 0xbfa7_acaa_74cb_48ec ∷ 0
+    ∷ 0 ∷ 0 ∷ 0x3fb0_116f_3816_4e08 ∷ 0 ∷ 0 ∷ 0xbf66_0928_0631_39b2
+    ∷ 0xbfa7_acaa_74cb_48ec ∷ 0 ∷ 0 ∷ 0x3fed_a1ee_f452_124f ∷ 0 ∷ 0
+    ∷ 0 ∷ 0xbfa7_acaa_74cb_48ec ∷ 0 ∷ 0 ∷ 0x3fed_a1ee_f452_124f ∷ 0
+    ∷ 0 ∷ 0 ∷ 0xbf66_0928_0631_39b2 ∷ 0 ∷ 0 ∷ 0x3fa8_0998_cb56_37b0
+    ∷ 0 ∷ []
+
+-- the second frame's own
+abbrev pub ownState : List ℕ
+ownState =
+    0x3ff2_2682_aee0_1e4e ∷ 0x4000_0000_0000_0000 ∷ 0x3fe0_0000_0000_0000 ∷ 0x3fc8_442e_b7b6_c458 ∷ 0 ∷ 0
+    ∷ 0x3fa1_3415_7700_f26d ∷ 0 ∷ 0 ∷ 0x3fa8_442e_b7b6_c456 ∷ 0 ∷ 0
+    ∷ 0 ∷ 0x3fa1_3415_7700_f26d ∷ 0 ∷ 0 ∷ 0x3fa8_442e_b7b6_c456 ∷ 0
+    ∷ 0 ∷ 0 ∷ 0x3fb0_0000_0000_0000 ∷ 0 ∷ 0 ∷ 0
+    ∷ 0x3fa8_442e_b7b6_c456 ∷ 0 ∷ 0 ∷ 0x3fef_1cd9_ee73_06c2 ∷ 0 ∷ 0
+    ∷ 0 ∷ 0x3fa8_442e_b7b6_c456 ∷ 0 ∷ 0 ∷ 0x3fef_1cd9_ee73_06c2 ∷ 0
+    ∷ 0 ∷ 0 ∷ 0 ∷ 0 ∷ 0 ∷ 0x3fb0_0000_0000_0000
+    ∷ 0 ∷ []
+
+pub stepped :
+    smoothedTwice 100000000
+    ≡ (0 ∷ 0 ∷ 1 ∷ 1 ∷ 0 ∷ 1 ∷ 1 ∷ 0 ∷ 0 ∷ 0 ∷ 4294967296 ∷ 1 ∷ 0 ∷ 1 ∷ 1 ∷ 0 ∷ [])
+    ∷ steppedState
+    ∷ (100000000 ∷ 0 ∷ 1 ∷ 1 ∷ 0 ∷ 1 ∷ 1 ∷ 1 ∷ 100000000 ∷ 0 ∷ 4294967296 ∷ 2 ∷ 0 ∷ 1 ∷ 1 ∷ 0 ∷ [])
+    ∷ ownState
+    ∷ []
+unfolding smoothedTwice
+stepped = refl

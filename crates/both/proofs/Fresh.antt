@@ -82,7 +82,7 @@ module _ (c : FgoConfig) where
   Known past [] = Unit {0}
   Known past (e ∷ es) = Told c past e × (timeOk (timeOf e) ≡ true) × Known (past ++ (e ∷ [])) es
 
-  pub chain-fresh : (x : ℕ) (past es : List Emitted) → Known past es → chain x (map handed es) ≡ freshChain c x past es
+  chain-fresh : (x : ℕ) (past es : List Emitted) → Known past es → chain x (map handed es) ≡ freshChain c x past es
   unfolding chain freshChain
   chain-fresh x past [] k = refl
   chain-fresh x past (e ∷ es) k =

@@ -24,7 +24,7 @@ use Rattle.model.proofs.Arrival.{Column, column-weaken}
 use Rattle.model.proofs.Invariant.{Good, Inv}
 
 -- a body that passes says a time in bounds
-pub spoken-time : (f : Frame) → Spoken f → timeOk (f .time) ≡ true
+spoken-time : (f : Frame) → Spoken f → timeOk (f .time) ≡ true
 spoken-time f p = subst (λ g. timeOk (g .time) ≡ true) (p .3) (unfold frameOf in (sized-body narrow (p .0) (p .2) .time))
 
 -- ---- the rule
