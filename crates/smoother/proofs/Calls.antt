@@ -5,18 +5,17 @@ use mathlib.Core.Bool.{true, false}
 use mathlib.Core.List.{List, [], _∷_, _++_}
 use native.Mathlib.Omega.{arith}
 use native.Mathlib.Nat.{sub-zero}
-use lib.ListN.{length}
 use lib.Ieee.{Float}
 use borrow.Author.Tests.{lt-ltb, le-ltb}
 use Rattle.smoother.specs.declared.FixedLagSmoother.{FixedLagSmoother}
-use Rattle.smoother.specs.declared.Answer.the-variants.{Refused, Held}
+use Rattle.smoother.specs.declared.Answer.the-variants.{Refused}
 use Rattle.smoother.specs.declared.Told.{Told}
 use Rattle.smoother.specs.Frame.{SmootherFrame, wellFormed}
 use Rattle.smoother.specs.Pass.{emitted}
 use Rattle.smoother.specs.Smoother as Smoother
-use Rattle.smoother.specs.Smoother.{State, Lent, Opening, unopened, opensBy, refused, waits, gives, holding, held, laterRefusal, release, settle, settleBy, pushBy, push, takesBy, takes}
+use Rattle.smoother.specs.Smoother.{State, Lent, unopened, opensBy, refused, waits, gives, held, laterRefusal, release, settle, pushBy, push, takesBy, takes}
 use Rattle.smoother.specs.Window.{frameIn, framesFrom, framesIn, fewer, more, stateIn, Fitting, AllCounted, Stored}
-use Rattle.smoother.specs.Promise.{Buffers, buffers, lengths, answerOf, wordsOut, numbersOut, over, oldest, Released, Promised}
+use Rattle.smoother.specs.Promise.{Buffers, buffers, lengths, answerOf, over, oldest, Released, Promised}
 use Rattle.smoother.proofs.Forms.{frames-long, formed-more}
 use Rattle.smoother.proofs.Chains.{one-more}
 use Rattle.smoother.proofs.Storing.{released}

@@ -7,7 +7,7 @@ use Prim.Native.Nat.{ℕ, zero, suc, _+_, _-_, _*_, _≤_, _<_}
 use native.Mathlib.Omega.{arith}
 use native.Mathlib.Numerals.{add-one}
 use native.Mathlib.Nat.{sub-zero}
-use lib.ListN.{length, getD}
+use lib.ListN.{length}
 use lib.Dec.{eqb}
 use lib.Seq.{getD-take}
 use lib.Ieee.{Float}

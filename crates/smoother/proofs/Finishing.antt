@@ -33,7 +33,7 @@ module _ (b : Lent) where
 
   passed-fewer : (s : State) (f : SmootherFrame) (fs : List SmootherFrame) → laterRefusal (holding s (f ∷ fs)) b ≡ 0 → laterRefusal (holding s fs) b ≡ 0
   unfolding laterRefusal
-  passed-fewer s f fs h = 
+  passed-fewer s f fs h =
       let p = bounded (s .lag) (s .most) && windowFits (s .lag) (s .most) (b .windowWords) (b .windowNumbers) in
       let a = none-of p (ruleOk (holding s (f ∷ fs))) (outFits b) h in
       rw (a .0, rule-fewer s f fs (a .1), a .2)

@@ -1,21 +1,21 @@
 -- What a well-formed frame keeps to, and frames in slots that are well formed. Assumes nothing.
-use Prim.Native.Nat.{ℕ, zero, suc, _+_, _*_, _≤_, _<_}
+use Prim.Native.Nat.{ℕ, zero, suc, _+_, _≤_}
 use mathlib.Core.Path.{_≡_, refl, sym, ap, _∙_}
 use mathlib.Core.Bool.{Bool, true, false, _&&_}
 use mathlib.Core.List.{List, [], _∷_, _++_}
 use native.Mathlib.Omega.{arith}
 use native.Mathlib.Nat.{zero-add, add-zero, suc-add, add-suc}
-use lib.ListN.{length, getD, take}
+use lib.ListN.{length, take}
 use lib.Seq.{length-take-le, take-all, getD-take}
 use lib.Dec.{leb}
 use lib.Ieee.{Float}
 use borrow.Author.Tests.{leb-true, leb-false, le-leb, eqb-true}
 use Rattle.engine.specs.Body.{all, codeOk, timeOk}
-use Rattle.engine.proofs.Every.{both, all-at}
+use Rattle.engine.proofs.Every.{both}
 use Rattle.smoother.specs.declared.FixedLagSmoother.{FixedLagSmoother}
 use Rattle.smoother.specs.Frame.{SmootherFrame, time, modeWord, smoothedWord, trackCount, associationCount, sensorCount, wordsLong, numbersLong, headOk, exact, wellFormed}
-use Rattle.smoother.specs.Smoother.{bounded, allFormed}
-use Rattle.smoother.specs.Window.{wide, slotWords, wordsIn, numbersIn, frameIn, framesFrom, framesIn, Counted}
+use Rattle.smoother.specs.Smoother.{allFormed}
+use Rattle.smoother.specs.Window.{slotWords, wordsIn, frameIn, framesFrom, framesIn, Counted}
 
 -- ---- a frame
 

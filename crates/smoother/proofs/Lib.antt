@@ -1,9 +1,9 @@
-pub mod Copying
+mod Copying
 pub mod Forms
-pub mod Slots
-pub mod Chains
-pub mod Writing
-pub mod Storing
+mod Slots
+mod Chains
+mod Writing
+mod Storing
 pub mod Refusals
 pub mod Calls
 pub mod Finishing

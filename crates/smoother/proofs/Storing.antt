@@ -6,7 +6,7 @@ use mathlib.Core.Bool.{Bool, true, false}
 use Prim.Native.Nat.{ℕ, zero, suc, _+_, _-_, _*_, _%_, _≤_, _<_}
 use native.Mathlib.Omega.{arith}
 use native.Mathlib.Nat.{mul-le-mul-right, suc-mul, add-zero, zero-add, mod-lt, mod-eq-of-lt, mod-eq-sub-mod, mod-add-mod}
-use lib.ListN.{length, getD, take, drop, take-append-drop, length-drop}
+use lib.ListN.{length, take, drop, take-append-drop, length-drop}
 use lib.Dec.{ltb}
 use lib.Seq.{paste, drop-at, take-append-le, drop-append-le, take-append-seam, drop-drop, take-all, length-take-le, drop-paste, take-take, getD-take}
 use borrow.Author.Tests.{ltb-true, ltb-false}

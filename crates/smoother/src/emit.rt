@@ -58,7 +58,12 @@ pub fn emit_words<'a, 'b>(words: &'a mut [u64], s: FixedLagSmoother, win: &'b [u
 }
 
 // Its numbers: the tracks smoothed, then the costs as they were; how many there are.
-pub fn emit_numbers<'a, 'b>(numbers: &'a mut [f64], s: FixedLagSmoother, win: &'b [u64], nums: &'b [f64]) -> usize
+pub fn emit_numbers<'a, 'b>(
+    numbers: &'a mut [f64],
+    s: FixedLagSmoother,
+    win: &'b [u64],
+    nums: &'b [f64],
+) -> usize
     requires { ⌜ Fitting s (now win) (now nums) × (s .held ≤ s .lag + 1) × (0 < s .held) × AllCounted s (now win) × (5408 ≤ length (now numbers)) ⌝ }
     ensures { λ r. ⌜ (r ≡ length (oldest s (now (win .entry)) (now (nums .entry)) .numbers)) × (now (numbers .exit) ≡ over (oldest s (now (win .entry)) (now (nums .entry)) .numbers) (now (numbers .entry))) ⌝ }
 {

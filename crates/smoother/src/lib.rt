@@ -1,10 +1,10 @@
 // Fixed-lag smoothing of refined frames, over window buffers that the caller lends.
-use scalar::bits;
 use crate::emit::emit_numbers;
 use crate::emit::emit_words;
 use crate::window::all_formed;
 use crate::window::dropped;
 use crate::window::store;
+use scalar::bits;
 ghost use mathlib.Core.Path.{_≡_};
 ghost use Prim.Native.Nat.{_+_, _<_, _≤_};
 ghost use lib.ListN.{length};
@@ -83,7 +83,11 @@ fn open_refusal(lag: usize, density: f64, most: usize, words: usize, numbers: us
     if !bits::is_finite(density) {
         return 1;
     }
-    if window_fits(lag, most, words, numbers) { 0 } else { 2 }
+    if window_fits(lag, most, words, numbers) {
+        0
+    } else {
+        2
+    }
 }
 
 // The state keeps its rule: density finite, at most lag frames held, each well formed.
@@ -101,7 +105,13 @@ fn rule_ok<'a>(s: FixedLagSmoother, win: &'a [u64], nums: &'a [f64]) -> bool
 }
 
 // The refusal that push and take get alike: 2, 3, 4, or 0 for none.
-fn later_refusal<'a>(s: FixedLagSmoother, win: &'a [u64], nums: &'a [f64], words: usize, numbers: usize) -> u8
+fn later_refusal<'a>(
+    s: FixedLagSmoother,
+    win: &'a [u64],
+    nums: &'a [f64],
+    words: usize,
+    numbers: usize,
+) -> u8
     ensures { λ r. ⌜ r ≡ laterRefusal (stateIn s (now (win .entry)) (now (nums .entry))) (record { windowWords = length (now (win .entry)); windowNumbers = length (now (nums .entry)); outWords = words; outNumbers = numbers }) ⌝ }
 {
     if !bounded(s.lag, s.most) {
@@ -123,7 +133,13 @@ fn later_refusal<'a>(s: FixedLagSmoother, win: &'a [u64], nums: &'a [f64], words
 }
 
 // The oldest frame leaves, smoothed.
-fn release<'a, 'b, 'c>(s: FixedLagSmoother, win: &'c [u64], nums: &'c [f64], words: &'a mut [u64], numbers: &'b mut [f64]) -> Told
+fn release<'a, 'b, 'c>(
+    s: FixedLagSmoother,
+    win: &'c [u64],
+    nums: &'c [f64],
+    words: &'a mut [u64],
+    numbers: &'b mut [f64],
+) -> Told
     requires { ⌜ Fitting s (now win) (now nums) × (s .held ≤ s .lag + 1) × (0 < s .held) × AllCounted s (now win) × (910 ≤ length (now words)) × (5408 ≤ length (now numbers)) ⌝ }
     ensures { λ r. ⌜ Released s (buffers (now (win .entry)) (now (nums .entry)) (now (words .entry)) (now (numbers .entry))) r (now (words .exit)) (now (numbers .exit)) ⌝ }
 {
@@ -141,7 +157,13 @@ fn release<'a, 'b, 'c>(s: FixedLagSmoother, win: &'c [u64], nums: &'c [f64], wor
 
 impl FixedLagSmoother {
     // A smoother that holds nothing, over these window buffers, into which it writes nothing yet. The density must be the tracker's.
-    pub fn open<'a>(lag: usize, density: f64, most: usize, window: &'a [u64], values: &'a [f64]) -> Opened
+    pub fn open<'a>(
+        lag: usize,
+        density: f64,
+        most: usize,
+        window: &'a [u64],
+        values: &'a [f64],
+    ) -> Opened
         ensures { λ r. ⌜ openingOf r (now (window .entry)) (now (values .entry)) ≡ Smoother.opens lag density most (length (now (window .entry))) (length (now (values .entry))) ⌝ }
     {
         let n = open_refusal(lag, density, most, window.len(), values.len());
@@ -171,28 +193,49 @@ impl FixedLagSmoother {
     {
         let n = later_refusal(self, window, values, words.len(), numbers.len());
         if n != 0 {
-            return Told { answer: Answer::Refused(n), state: self };
+            return Told {
+                answer: Answer::Refused(n),
+                state: self,
+            };
         }
         if !frame::well_formed(self.most, fw, fx) {
-            return Told { answer: Answer::Refused(5), state: self };
+            return Told {
+                answer: Answer::Refused(5),
+                state: self,
+            };
         }
         let s = store(self, window, values, fw, fx);
         if s.held <= s.lag {
-            return Told { answer: Answer::Held, state: s };
+            return Told {
+                answer: Answer::Held,
+                state: s,
+            };
         }
         release(s, window, values, words, numbers)
     }
 
     // The oldest held frame.
-    pub fn take<'a, 'b, 'c>(self, window: &'c [u64], values: &'c [f64], words: &'a mut [u64], numbers: &'b mut [f64]) -> Told
+    pub fn take<'a, 'b, 'c>(
+        self,
+        window: &'c [u64],
+        values: &'c [f64],
+        words: &'a mut [u64],
+        numbers: &'b mut [f64],
+    ) -> Told
         ensures { λ r. ⌜ Promised self (buffers (now (window .entry)) (now (values .entry)) (now (words .entry)) (now (numbers .entry))) (Smoother.takes (stateIn self (now (window .entry)) (now (values .entry))) (lengths (buffers (now (window .entry)) (now (values .entry)) (now (words .entry)) (now (numbers .entry))))) r (buffers (now (window .entry)) (now (values .entry)) (now (words .exit)) (now (numbers .exit))) ⌝ }
     {
         let n = later_refusal(self, window, values, words.len(), numbers.len());
         if n != 0 {
-            return Told { answer: Answer::Refused(n), state: self };
+            return Told {
+                answer: Answer::Refused(n),
+                state: self,
+            };
         }
         if self.held == 0 {
-            return Told { answer: Answer::Refused(13), state: self };
+            return Told {
+                answer: Answer::Refused(13),
+                state: self,
+            };
         }
         release(self, window, values, words, numbers)
     }

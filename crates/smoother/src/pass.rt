@@ -1,7 +1,7 @@
 // The backward pass over held frames.
 use crate::FixedLagSmoother;
-use crate::copy::numbers36;
 use crate::copy::numbers6;
+use crate::copy::numbers36;
 use crate::window::frame_numbers;
 use crate::window::frame_words;
 use rts::Step;
@@ -97,7 +97,14 @@ fn joined(q: f64, from: u64, to: u64, a: TrackState, later: Passed) -> Passed
 }
 
 // The pass over the held frames from the k-th on, which has the id at track i.
-fn pass<'a>(s: FixedLagSmoother, win: &'a [u64], nums: &'a [f64], id: u64, k: usize, i: usize) -> Passed
+fn pass<'a>(
+    s: FixedLagSmoother,
+    win: &'a [u64],
+    nums: &'a [f64],
+    id: u64,
+    k: usize,
+    i: usize,
+) -> Passed
     requires { ⌜ Fitting s (now win) (now nums) × (s .held ≤ s .lag + 1) × (k < s .held) × AllCounted s (now win) × (lastAt id (wordsIn s (now win) k) (trackCount (wordsIn s (now win) k)) ≡ some i) ⌝ }
     ensures { λ r. ⌜ passedOf r ≡ runBack (s .density) (chain id (framesFrom s (now (win .entry)) (now (nums .entry)) k (s .held - k))) ⌝ }
 {

@@ -4,7 +4,7 @@ use crate::copy::put_numbers;
 use crate::copy::put_words;
 use crate::frame;
 ghost use mathlib.Core.Path.{_≡_};
-ghost use Prim.Native.Nat.{_+_, _-_, _*_, _<_, _≤_};
+ghost use Prim.Native.Nat.{_+_, _*_, _<_, _≤_};
 ghost use lib.ListN.{length, take};
 ghost use Rattle.smoother.specs.Frame.{frame as frameOf, trackCount, associationCount, sensorCount, wordsLong, numbersLong, wellFormed};
 ghost use Rattle.smoother.specs.Smoother.{allFormed};
@@ -72,7 +72,12 @@ pub fn frame_words(s: FixedLagSmoother, win: &[u64], k: usize) -> &[u64]
 }
 
 // Its numbers.
-pub fn frame_numbers<'a>(s: FixedLagSmoother, win: &'a [u64], nums: &'a [f64], k: usize) -> &'a [f64]
+pub fn frame_numbers<'a>(
+    s: FixedLagSmoother,
+    win: &'a [u64],
+    nums: &'a [f64],
+    k: usize,
+) -> &'a [f64]
     requires { ⌜ Fitting s (now win) (now nums) × (k ≤ s .lag) × Counted s (now win) k ⌝ }
     ensures { λ r. ⌜ (now r ≡ numbersIn s (now (win .entry)) (now (nums .entry)) k) × (length (now r) ≡ numbersLong (slotWords s (now (win .entry)) k)) ⌝ }
 {

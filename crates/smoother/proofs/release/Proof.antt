@@ -1,6 +1,5 @@
 -- `smoother::release` meets its contract. Assumes nothing.
 use mathlib.Core.Path.{sym, _∙_}
-use native.Mathlib.Omega.{arith}
 use lib.ListN.{length-set}
 use Rattle.smoother.specs.declared.Answer.the-variants.{Frame}
 use Rattle.smoother.specs.Pass.{smoothedFlag, emitted}
@@ -15,7 +14,7 @@ emit-words-requires c κs = let p = c .before .before .before .before .before .p
 
 returns : tie.Need-returns
 unfolding emitted oldest
-returns c = 
+returns c =
     let a = c .before .before .before .before .before .before .before .emit-words .ensures .0 ∙ sym (length-set (wordsIn (c .before .before .before .before .before .before .before .before .before .before .before .before .before .args .s) (c .before .before .before .before .before .before .before .before .before .before .before .before .before .args .win .now) 0) 5 (smoothedFlag (c .before .before .before .before .before .before .before .before .before .before .before .before .before .args .s .lag))) in
     let b = c .before .before .before .emit-numbers .ensures .0 in
     record {

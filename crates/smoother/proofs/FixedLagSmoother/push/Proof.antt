@@ -16,7 +16,7 @@ use Rattle.smoother.proofs.FixedLagSmoother.push.Statement.{statement}
 use Rattle.smoother.proofs.FixedLagSmoother.push.Tie as tie
 
 returns : tie.Need-returns
-returns c = 
+returns c =
     let g = c .before .before .before .before .before .before .before .before .before .before .args in
     let b = buffers (g .window .now) (g .values .now) (g .words .now) (g .numbers .now) in
     let st = stateIn (g .self) (g .window .now) (g .values .now) in
@@ -25,7 +25,7 @@ returns c =
     subst (λ p. Promised (g .self) b p (record { answer = Refused n; state = g .self }) b) (push-refused st (lengths b) n (c .before .later-refusal .ensures) f (c .if1 .taken)) (refuses (g .self) b n)
 
 well-formed-requires : tie.Need-well-formed-requires
-well-formed-requires c κs = 
+well-formed-requires c κs =
     let g = c .before .before .before .before .before .before .before .before .before .before .args in
     let b = buffers (g .window .now) (g .values .now) (g .words .now) (g .numbers .now) in
     let st = stateIn (g .self) (g .window .now) (g .values .now) in
@@ -34,7 +34,7 @@ well-formed-requires c κs =
 
 returns-2 : tie.Need-returns-2
 unfolding stateIn
-returns-2 c = 
+returns-2 c =
     let g = c .before .before .before .before .before .before .before .before .before .before .before .before .args in
     let b = buffers (g .window .now) (g .values .now) (g .words .now) (g .numbers .now) in
     let st = stateIn (g .self) (g .window .now) (g .values .now) in
@@ -44,7 +44,7 @@ returns-2 c =
     subst (λ p. Promised (g .self) b p (record { answer = Refused 5; state = g .self }) b) (push-malformed st (lengths b) e f h) (refuses (g .self) b 5)
 
 store-requires : tie.Need-store-requires
-store-requires c κs = 
+store-requires c κs =
     let g = c .before .before .before .before .before .before .before .before .before .before .before .before .before .before .args in
     let b = buffers (g .window .now) (g .values .now) (g .words .now) (g .numbers .now) in
     let st = stateIn (g .self) (g .window .now) (g .values .now) in
@@ -57,7 +57,7 @@ store-requires c κs =
 
 returns-3 : tie.Need-returns-3
 unfolding stateIn
-returns-3 c = 
+returns-3 c =
     let g = c .before .before .before .before .before .before .before .before .before .before .before .before .before .before .before .before .before .before .before .before .before .args in
     let b = buffers (g .window .now) (g .values .now) (g .words .now) (g .numbers .now) in
     let st = stateIn (g .self) (g .window .now) (g .values .now) in
@@ -81,7 +81,7 @@ returns-3 c =
     })
 
 release-requires : tie.Need-release-requires
-release-requires c κs = 
+release-requires c κs =
     let g = c .before .before .before .before .before .before .before .before .before .before .before .before .before .before .before .before .before .before .before .before .before .before .before .before .before .args in
     let b = buffers (g .window .now) (g .values .now) (g .words .now) (g .numbers .now) in
     let st = stateIn (g .self) (g .window .now) (g .values .now) in
@@ -99,7 +99,7 @@ release-requires c κs =
 
 returns-4 : tie.Need-returns-4
 unfolding stateIn
-returns-4 c = 
+returns-4 c =
     let g = c .before .before .before .before .before .before .before .before .before .before .before .before .before .before .before .before .before .before .before .before .before .before .before .before .before .before .before .before .before .before .args in
     let b = buffers (g .window .now) (g .values .now) (g .words .now) (g .numbers .now) in
     let st = stateIn (g .self) (g .window .now) (g .values .now) in

@@ -1,5 +1,4 @@
 -- `smoother::FixedLagSmoother::take` meets its contract. Assumes nothing.
-use Prim.Native.Nat.{_≤_}
 use mathlib.Core.Path.{_≡_, sym, _∙_, subst}
 use lib.ListN.{length}
 use native.Mathlib.Omega.{arith}
@@ -14,7 +13,7 @@ use Rattle.smoother.proofs.FixedLagSmoother.take.Statement.{statement}
 use Rattle.smoother.proofs.FixedLagSmoother.take.Tie as tie
 
 returns : tie.Need-returns
-returns c = 
+returns c =
     let g = c .before .before .before .before .before .before .args in
     let b = buffers (g .window .now) (g .values .now) (g .words .now) (g .numbers .now) in
     let st = stateIn (g .self) (g .window .now) (g .values .now) in
@@ -22,7 +21,7 @@ returns c =
     subst (λ p. Promised (g .self) b p (record { answer = Refused n; state = g .self }) b) (take-refused st (lengths b) n (c .before .later-refusal .ensures) (c .if1 .taken)) (refuses (g .self) b n)
 
 returns-2 : tie.Need-returns-2
-returns-2 c = 
+returns-2 c =
     let g = c .before .before .before .before .before .before .before .before .args in
     let b = buffers (g .window .now) (g .values .now) (g .words .now) (g .numbers .now) in
     let st = stateIn (g .self) (g .window .now) (g .values .now) in
@@ -30,7 +29,7 @@ returns-2 c =
     subst (λ p. Promised (g .self) b p (record { answer = Refused 13; state = g .self }) b) (none-held (g .self) (g .window .now) (g .values .now) (c .if2 .taken) ∙ take-passed st (lengths b) e) (refuses (g .self) b 13)
 
 release-requires : tie.Need-release-requires
-release-requires c κs = 
+release-requires c κs =
     let g = c .before .before .before .before .before .before .before .before .before .before .args in
     let b = buffers (g .window .now) (g .values .now) (g .words .now) (g .numbers .now) in
     let st = stateIn (g .self) (g .window .now) (g .values .now) in
@@ -40,7 +39,7 @@ release-requires c κs =
 
 returns-3 : tie.Need-returns-3
 unfolding stateIn
-returns-3 c = 
+returns-3 c =
     let g = c .before .before .before .before .before .before .before .before .before .before .before .before .before .before .before .args in
     let b = buffers (g .window .now) (g .values .now) (g .words .now) (g .numbers .now) in
     let st = stateIn (g .self) (g .window .now) (g .values .now) in

@@ -34,7 +34,7 @@ part-put-numbers-start : tie.Need-part-put-numbers-start
 part-put-numbers-start c = let p = c .before .before .before .before .before .before .before .before .before .before .before .pre in let d = p .3 0 (p .2) in omega (arith, ap trackCount (c .before .before .before .frame-words .ensures .0), tracks-of (c .before .before .before .before .before .before .before .before .before .before .before .args .s) (c .before .before .before .before .before .before .before .before .before .before .before .args .win .now) 0, d .tracks, d .associations, p .0 .most, c .before .before .frame-numbers .ensures .1)
 
 put-numbers-requires : tie.Need-put-numbers-requires
-put-numbers-requires c κs = 
+put-numbers-requires c κs =
     let p = c .before .before .before .before .before .before .before .before .before .before .before .before .pre in
     let d = p .3 0 (p .2) in
     let x = c .before .before .before .frame-numbers .result .now in
@@ -44,7 +44,7 @@ put-numbers-requires c κs =
 
 returns : tie.Need-returns
 unfolding emitted oldest
-returns c = 
+returns c =
     let g = c .before .before .before .before .before .before .before .before .before .before .before .before .before .before .before .args in
     let w = c .before .before .before .before .before .before .before .frame-words in
     let x = c .before .before .before .before .before .before .frame-numbers in
@@ -53,10 +53,11 @@ returns c =
     let e = c .before .before .before .before .before .before .before .before .before .before .put-states .last .0 in
     let s = statesTo (g .s .density) (framesIn (g .s) (g .win .now) (g .nums .now)) (frameIn (g .s) (g .win .now) (g .nums .now) 0) T in
     let X = numbersIn (g .s) (g .win .now) (g .nums .now) 0 in
-    let r = c .before .before .put-numbers .ensures ∙ ap (λ m. paste e (42 * m) (take (length (x .result .now) - 42 * m) (drop (42 * m) (x .result .now))) (length (take (length (x .result .now) - 42 * m) (drop (42 * m) (x .result .now))))) t in
-    (omega (arith, length-append s (drop (42 * T) X), length-drop (42 * T) X, c .before .before .before .before .before .before .before .before .before .before .put-states .ensures .1, ap length (x .ensures .0), x .ensures .1, tracks-of (g .s) (g .win .now) 0),
-    costs (g .numbers .now) (x .result .now) e (c .before .before .put-numbers .last .0) s (42 * T) (c .before .before .before .before .before .before .before .before .before .before .put-states .ensures .0) (c .before .before .before .before .before .before .before .before .before .before .put-states .ensures .1) r
-    ∙ ap (λ x. over (s ++ drop (42 * T) x) (g .numbers .now)) (x .ensures .0))
+    let r = c .before .before .put-numbers .ensures ∙ ap (λ m. paste e (42 * m) (take (length (x .result .now) - 42 * m) (drop (42 * m) (x .result .now))) (length (take (length (x .result .now) - 42 * m) (drop (42 * m) (x .result .now))))) t in (
+      omega (arith, length-append s (drop (42 * T) X), length-drop (42 * T) X, c .before .before .before .before .before .before .before .before .before .before .put-states .ensures .1, ap length (x .ensures .0), x .ensures .1, tracks-of (g .s) (g .win .now) 0),
+      costs (g .numbers .now) (x .result .now) e (c .before .before .put-numbers .last .0) s (42 * T) (c .before .before .before .before .before .before .before .before .before .before .put-states .ensures .0) (c .before .before .before .before .before .before .before .before .before .before .put-states .ensures .1) r
+          ∙ ap (λ x. over (s ++ drop (42 * T) x) (g .numbers .now)) (x .ensures .0),
+    )
 
 pub emit-numbers-spec : {M : Type 1} → statement M
 emit-numbers-spec =

@@ -1,5 +1,5 @@
 -- `smoother::emit::emit_words` meets its contract. Assumes nothing.
-use mathlib.Core.Path.{sym, ap, _∙_}
+use mathlib.Core.Path.{ap, _∙_}
 use native.Mathlib.Omega.{arith}
 use lib.ListN.{length, set}
 use Rattle.smoother.specs.Promise.{over}
@@ -9,12 +9,13 @@ use Rattle.smoother.proofs.emit.emit_words.Statement.{statement}
 use Rattle.smoother.proofs.emit.emit_words.Tie as tie
 
 returns : tie.Need-returns
-returns c = 
+returns c =
     let g = c .before .before .before .before .before .before .before .before .args in
-    let w = c .before .before .before .before .before .frame-words in
-    (ap length (w .ensures .0),
-    flagged (g .words .now) (w .result .now) (c .before .before .before .put-words .last .0) _ (c .before .before .before .put-words .ensures) (omega (arith, w .ensures .1))
-    ∙ (λ i. over (set (w .ensures .0 i) 5 (c .smoothed-flag .ensures i)) (g .words .now)))
+    let w = c .before .before .before .before .before .frame-words in (
+      ap length (w .ensures .0),
+      flagged (g .words .now) (w .result .now) (c .before .before .before .put-words .last .0) _ (c .before .before .before .put-words .ensures) (omega (arith, w .ensures .1))
+          ∙ (λ i. over (set (w .ensures .0 i) 5 (c .smoothed-flag .ensures i)) (g .words .now)),
+    )
 
 pub emit-words-spec : {M : Type 1} → statement M
 emit-words-spec =

@@ -30,14 +30,14 @@ find-requires : tie.Need-find-requires
 find-requires c κs = let g = c .before .before .before .before .before .args in enough (g .s) (g .win .now) (c .before .before .frame-words .result .now) 0 (c .before .before .frame-words .ensures .0) (c .before .before .frame-words .ensures .1)
 
 pass-requires : tie.Need-pass-requires
-pass-requires c κs = 
+pass-requires c κs =
     let g = c .before .before .before .before .before .before .before .before .before .args in
     let p = c .before .before .before .before .before .before .before .before .before .pre in
     let w = c .before .before .before .before .before .before .frame-words in
     (p .0, p .1, p .2, p .3, found (g .s) (g .win .now) (w .result .now) 0 (w .ensures .0) (idWord (w .result .now) (g .i)) (sym (c .before .before .before .find .ensures) ∙ ap foundOf (c .before .j .given .1)))
 
 returns : tie.Need-returns
-returns c = 
+returns c =
     let g = c .before .before .before .before .before .before .before .before .before .before .before .before .args in
     let w = c .before .before .before .before .before .before .before .before .before .frame-words in
     gave (g .s) (g .win .now) (g .nums .now) (g .i) (w .result .now) (w .ensures .0) (c .before .before .pass .result) (c .before .if1 .taken) (c .before .before .pass .ensures)
@@ -49,14 +49,14 @@ state-at-requires-2 : tie.Need-state-at-requires-2
 state-at-requires-2 c κs = let p = c .before .before .before .before .before .before .before .before .pre in omega (arith, c .before .before .before .before .frame-numbers .ensures .1, p .4, tracks-of (c .before .before .before .before .before .before .before .before .args .s) (c .before .before .before .before .before .before .before .before .args .win .now) 0)
 
 returns-2 : tie.Need-returns-2
-returns-2 c = 
+returns-2 c =
     let g = c .before .before .before .before .before .before .before .before .before .before .before .before .args in
     let w = c .before .before .before .before .before .before .before .before .before .frame-words in
     c .state-at .ensures ∙ ap (λ x. stateAt x (g .i)) (c .before .before .before .before .before .before .before .before .frame-numbers .ensures .0)
     ∙ failed (g .s) (g .win .now) (g .nums .now) (g .i) (w .result .now) (w .ensures .0) (c .before .before .pass .result) (c .before .if1 .left) (c .before .before .pass .ensures)
 
 returns-3 : tie.Need-returns-3
-returns-3 c = 
+returns-3 c =
     let g = c .before .before .before .before .before .before .before .before .before .args in
     let w = c .before .before .before .before .before .before .frame-words in
     c .state-at2 .ensures ∙ ap (λ x. stateAt x (g .i)) (c .before .before .before .before .before .frame-numbers .ensures .0)

@@ -1,9 +1,8 @@
 -- `smoother::window::slot` meets its contract. Assumes nothing.
 use native.Mathlib.Omega.{arith}
 use native.Mathlib.Nat.{mod-lt}
-use Prim.Native.Nat.{_+_}
 use mathlib.Core.Path.{subst, sym}
-use Prim.Native.Nat.{_≤_}
+use Prim.Native.Nat.{_+_, _≤_}
 use Rattle.smoother.proofs.Slots.{turned, slot-within}
 use borrow.Author.Needs.{needs}
 use Rattle.smoother.proofs.window.slot.Statement.{statement}

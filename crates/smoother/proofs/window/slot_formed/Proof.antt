@@ -1,11 +1,10 @@
 -- `smoother::window::slot_formed` meets its contract. Assumes nothing.
-use mathlib.Core.Path.{_≡_, sym, ap, _∙_}
-use Prim.Native.Nat.{_+_, _*_, _≤_}
+use mathlib.Core.Path.{sym, ap, _∙_}
 use native.Mathlib.Omega.{arith}
 use lib.ListN.{length, take}
 use borrow.Author.Tests.{not-true, not-false}
 use Rattle.smoother.specs.Frame.{frame, wordsLong, numbersLong, headOk, wellFormed}
-use Rattle.smoother.specs.Window.{slotWords, wordsIn, numbersIn}
+use Rattle.smoother.specs.Window.{wordsIn, numbersIn}
 use Rattle.smoother.proofs.Forms.{headed, malformed}
 use borrow.Author.Needs.{needs}
 use Rattle.smoother.proofs.window.slot_formed.Statement.{statement}

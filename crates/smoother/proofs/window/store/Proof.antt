@@ -38,7 +38,7 @@ put-numbers-requires : tie.Need-put-numbers-requires
 put-numbers-requires c κs = let g = c .before .before .before .before .before .before .before .before .before .before .before .before .args in let p = c .before .before .before .before .before .before .before .before .before .before .before .before .pre in omega (arith, room (c .before .before .before .before .before .before .before .slot .result) (g .s .lag) (32 + 42 * g .s .most) (length (g .nums .now)) (c .before .before .before .before .before .before .before .slot .ensures .1) (p .0 .numbers), p .3, p .4, p .5)
 
 returns : tie.Need-returns
-returns c = 
+returns c =
     let g = c .before .before .before .before .before .before .before .before .before .before .before .before .before .before .before .before .args in
     let p = c .before .before .before .before .before .before .before .before .before .before .before .before .before .before .before .before .pre in
     let b = c .before .before .before .before .before .before .before .before .put-words in
