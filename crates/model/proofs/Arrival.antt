@@ -19,10 +19,10 @@ use Rattle.model.specs.Faithful.{Regular}
 use Rattle.model.proofs.All.{All-append, All-both}
 use Rattle.model.proofs.Counting.{no-longer}
 use Rattle.model.proofs.Tables.{keys, Distinct}
-use Rattle.model.proofs.Renaming.{exchange-is, exchange-zero, clear-zero, times-exchange, times-clear, fewer-map}
+use Rattle.model.proofs.Renaming.{exchange-zero, clear-zero, fewer-map}
 use Rattle.model.proofs.Presence.{Names}
 use Rattle.model.proofs.Windows.{detections-cons, detections-snoc}
-use Rattle.model.proofs.Keeping.{withIds, Beside, beside-All, beside-same, Known, known-up, Kept, search-keeps}
+use Rattle.model.proofs.Keeping.{withIds, regular-exchange, regular-clear, Beside, beside-All, beside-same, Known, known-up, Kept, search-keeps}
 use Rattle.model.proofs.Ties.{Tied, TiedScan, tied-map, tied-weaken}
 use Rattle.model.proofs.Placement.{Has, Placed, placed-all, joinedIds, joinedIds-old, joinedIds-new}
 
@@ -48,11 +48,7 @@ module _ (K : ℕ → Type 0) where
   sound-exchange s t a b ha hb h =
       record {
         frame = h .frame;
-        regular =
-            record {
-              complete = length-map (t .ids) (exchange a b) ∙ h .regular .complete;
-              apart = λ x z. rw (times-exchange a b x (t .ids)) (h .regular .apart (exchange a b x) (exchange-is (λ y. 0 < y) a b x ha hb z));
-            };
+        regular = regular-exchange t a b ha hb (h .regular);
         tied = tied-map K (exchange a b) (exchange-zero a b ha hb) (t .frame .associations) (t .ids) (h .tied);
         few = le-trans (fewer-map (exchange a b) (exchange-zero a b ha hb) (t .ids)) (h .few);
       }
@@ -61,11 +57,7 @@ module _ (K : ℕ → Type 0) where
   sound-clear s t a h =
       record {
         frame = h .frame;
-        regular =
-            record {
-              complete = length-map (t .ids) (clear a) ∙ h .regular .complete;
-              apart = λ x z. le-trans (times-clear a x (t .ids) z) (h .regular .apart x z);
-            };
+        regular = regular-clear t a (h .regular);
         tied = tied-map K (clear a) (clear-zero a) (t .frame .associations) (t .ids) (h .tied);
         few = le-trans (fewer-map (clear a) (clear-zero a) (t .ids)) (h .few);
       }

@@ -142,7 +142,7 @@ module _ (c : FgoConfig) where
       (mem-All (λ o. Unit {0}) ops (λ o m. tt))
 
   -- one more operation
-  run-snoc : (ops : List Op) (o : Op) → run c (ops ++ (o ∷ [])) ≡ step c (run c ops) o
+  pub run-snoc : (ops : List Op) (o : Op) → run c (ops ++ (o ∷ [])) ≡ step c (run c ops) o
   unfolding run
   run-snoc ops o = foldl-append (step c) begin ops (o ∷ [])
 

@@ -5,10 +5,11 @@ use Prim.Native.Nat.{ℕ, zero, suc, _≤_, _<_}
 use native.Mathlib.Nat.{le-refl, le-trans}
 use native.Mathlib.Decide.{ℕ-discrete}
 use native.Mathlib.Omega.{arith}
-use mathlib.Core.Path.{_≡_, refl, sym, subst}
+use mathlib.Core.Path.{_≡_, refl, sym, _∙_, subst}
 use mathlib.Core.Logic.{_⊎_, inl, inr}
 use mathlib.Core.Bool.{Bool, true, false, cond}
 use mathlib.Core.List.{List, [], _∷_, map, foldl}
+use lib.ListN.{length-map}
 use lib.Dec.{eqb, leb}
 use Rattle.engine.specs.declared.config.FgoConfig.{FgoConfig}
 use Rattle.engine.specs.Config.{maxPasses}
@@ -21,13 +22,25 @@ use Rattle.model.specs.Lists.{has, times}
 use Rattle.model.specs.Windows.{Scan, Prefix, present}
 use Rattle.model.specs.Searching.{exchange, clear, recolumn, absorb, swapColumn, dropColumn, otherOf, wins, pairGain, betterPair, nextAfter, Search, Pair, consPair, afterPair, afterTrack, cuts, pairsWith, pairs, trySwap, tryMerge, pairCandidates, bestOfPair, bestOfTrack, pairStep, trackStep, pass, passes, improve}
 use Rattle.model.specs.Rule.{All}
+use Rattle.model.specs.Faithful.{Regular}
 use Rattle.model.proofs.All.{All-append, All-map, mem-All, foldl-keeps}
 use Rattle.model.proofs.Counting.{has-All}
-use Rattle.model.proofs.Renaming.{exchange-other, times-exchange, times-clear}
+use Rattle.model.proofs.Renaming.{exchange-is, exchange-other, times-exchange, times-clear}
 use Rattle.model.proofs.Presence.{Names, present-is}
 
 abbrev pub withIds : Scan → List ℕ → Scan
 withIds s is = record { frame = s .frame; ids = is }
+
+-- an exchange of two ids and the clearing of one leave a regular scan regular
+pub regular-exchange : (s : Scan) (a b : ℕ) → 0 < a → 0 < b → Regular s → Regular (withIds s (map (exchange a b) (s .ids)))
+regular-exchange s a b ha hb h =
+    record {
+      complete = length-map (s .ids) (exchange a b) ∙ h .complete;
+      apart = λ x z. rw (times-exchange a b x (s .ids)) (h .apart (exchange a b x) (exchange-is (λ y. 0 < y) a b x ha hb z));
+    }
+
+pub regular-clear : (s : Scan) (a : ℕ) → Regular s → Regular (withIds s (map (clear a) (s .ids)))
+regular-clear s a h = record { complete = length-map (s .ids) (clear a) ∙ h .complete; apart = λ x z. le-trans (times-clear a x (s .ids) z) (h .apart x z) }
 
 -- two lists of scans, scan beside scan
 module _ (P : Scan → Scan → Type 0) where
@@ -169,7 +182,7 @@ module _ (Old : ℕ → Type 0) (start : ℕ) (begun : 0 < start) (P : Scan → 
         beside-recolumn (Kept′ n) (swapColumn a b f)
         (λ i s t k. kept-cond n s t (leb f i) (map (exchange a b) (t .ids)) (t .ids) (kept-exchange n a b u v s t k) k) first ss ts h
 
-    kept-pair :
+    pub kept-pair :
         (n a b : ℕ) → Use n a → Use n b → (m : PairMove) → Fit a b m → (ts : List Scan) → Beside (Kept′ n) ss ts →
         Beside (Kept′ n) ss (afterPair c first ps a b ts m)
     kept-pair n a b u v Stay h ts k = k
@@ -186,7 +199,7 @@ module _ (Old : ℕ → Type 0) (start : ℕ) (begun : 0 < start) (P : Scan → 
         other true = v
         other false = u
 
-    kept-track :
+    pub kept-track :
         (n a : ℕ) → start ≤ n → Use n a → (m : TrackMove) (ts : List Scan) → Beside (Kept′ n) ss ts →
         Beside (Kept′ (nextAfter m n)) ss (afterTrack c first ps a n ts m)
     kept-track n a h u Rest ts k = k
