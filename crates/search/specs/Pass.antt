@@ -1,0 +1,147 @@
+-- The passes of the search over the gathered ids: the pairs, then the tracks. Definitions only.
+use Prim.Native.Nat.{ℕ, zero, suc, _+_, _≤_, _<_}
+use mathlib.Core.Path.{_≡_}
+use mathlib.Core.Bool.{Bool, true, false, cond}
+use mathlib.Core.List.{List, [], _∷_}
+use lib.ListN.{length, getD}
+use lib.Ieee.{Float, nan, binary64, add}
+use Rattle.engine.specs.declared.types.RefinedId.{RefinedId}
+use Rattle.engine.specs.Config.{radius}
+use Rattle.kf.specs.declared.cost.Fold.{Fold}
+use Rattle.kf.specs.Cost.{View, Kept}
+use Rattle.model.specs.declared.moves.PairMove.{PairMove}
+use Rattle.model.specs.declared.moves.TrackMove.{TrackMove}
+use Rattle.search.specs.declared.price.Hall.{Hall}
+use Rattle.search.specs.declared.moves.Tally.{Tally}
+use Rattle.search.specs.Rows.{Starts, rowOf, presentIn}
+use Rattle.search.specs.Near.{square, closeScans, anyClose}
+use Rattle.search.specs.Price.{viewIn, partAmong, rowCost, bestPairRow, bestTrackRow}
+use Rattle.search.specs.Moves.{pairIds, trackIds, pairStays, trackStays, begun, pairTally, trackTally}
+
+-- what a search changes
+pub record Search : Type 0 where
+  pub ids : List ℕ
+  pub tally : Tally
+
+abbrev pub idOf : ℕ → RefinedId
+idOf x = record { 0 = x }
+
+-- what does not change during a search
+pub record Scene : Type 0 where
+  pub hall : Hall
+  pub starts : List ℕ
+  pub dots : List Float
+  pub tracks : List ℕ
+  pub filters : List Float
+
+abbrev pub sceneOf : Hall → List ℕ → List Float → List ℕ → List Float → Scene
+sceneOf h starts dots ts fs = record { hall = h; starts = starts; dots = dots; tracks = ts; filters = fs }
+
+abbrev pub viewOn : Scene → View
+viewOn e = viewIn (e .hall) (e .dots)
+
+-- what the window of x goes on from
+abbrev pub partOn : Scene → ℕ → Fold
+partOn e x = partAmong (e .tracks) (e .filters) (e .hall .frozen) x
+
+abbrev pub rowOn : Scene → List ℕ → ℕ → List ℕ
+rowOn e ids x = rowOf (e .starts) ids x
+
+-- "the old cost"
+abbrev pub costOn : Scene → List ℕ → ℕ → Float
+costOn e ids x = rowCost (e .hall .config) (viewOn e) (partOn e x) (rowOn e ids x)
+
+-- the scans in which two rows are close
+abbrev pub closeOn : Scene → List ℕ → List ℕ → List Bool
+closeOn e a b = closeScans (square (radius (e .hall .config))) (e .dots) a b
+
+-- ---- a pair
+
+abbrev pub pairBest : Scene → List Bool → ℕ → ℕ → List ℕ → PairMove
+pairBest e close a b ids =
+    bestPairRow (e .hall .config) (viewOn e) (idOf a) (idOf b) (partOn e a) (partOn e b) close (rowOn e ids a) (rowOn e ids b)
+    (add binary64 (costOn e ids a) (costOn e ids b))
+
+abbrev pub pairMoved : Scene → PairMove → ℕ → ℕ → Search → Search
+pairMoved e m a b s =
+    cond (pairStays m) s
+    (record {
+      ids = pairIds (e .hall .first .0) (e .starts) m a b (rowOn e (s .ids) a) (rowOn e (s .ids) b) (s .ids);
+      tally = pairTally m (s .tally);
+    })
+
+unfoldable pub pairStep : Scene → List Bool → ℕ → ℕ → Search → Search
+pairStep e close a b s = pairMoved e (pairBest e close a b (s .ids)) a b s
+
+-- only a pair that is close somewhere is listed
+abbrev pub pairIf : Scene → List Bool → ℕ → ℕ → Search → Search
+pairIf e close a b s = cond (anyClose close) (pairStep e close a b s) s
+
+-- a with each of a list, by the rows at the beginning of the pass, where the ids were those of is
+unfoldable pub sweepOne : Scene → List ℕ → ℕ → List ℕ → Search → Search
+sweepOne e is a [] s = s
+sweepOne e is a (b ∷ l) s = sweepOne e is a l (pairIf e (closeOn e (rowOn e is a) (rowOn e is b)) a b s)
+
+unfoldable pub sweep : Scene → List ℕ → List ℕ → Search → Search
+sweep e is [] s = s
+sweep e is (a ∷ l) s = sweep e is l (sweepOne e is a l s)
+
+-- ---- a track
+
+abbrev pub trackBest : Scene → ℕ → List ℕ → TrackMove
+trackBest e a ids = bestTrackRow (e .hall .config) (viewOn e) (partOn e a) (rowOn e ids a) (costOn e ids a)
+
+abbrev pub trackMoved : Scene → TrackMove → ℕ → Search → Search
+trackMoved e m a s =
+    cond (trackStays m) s
+    (record { ids = trackIds (e .hall .first .0) (e .starts) m a (s .tally .next) (s .ids); tally = trackTally m (s .tally) })
+
+unfoldable pub trackStep : Scene → ℕ → Search → Search
+trackStep e a s = trackMoved e (trackBest e a (s .ids)) a s
+
+-- each id that was present when the pass began; one that has no window any more has no move
+unfoldable pub visit : Scene → List ℕ → Search → Search
+visit e [] s = s
+visit e (a ∷ l) s = visit e l (trackStep e a s)
+
+-- ---- passes
+
+unfoldable pub passOver : Scene → Search → Search
+passOver e s =
+    let l = presentIn (e .hall .detections) (s .ids) in
+    visit e l (sweep e (s .ids) l (record { ids = s .ids; tally = begun (s .tally) }))
+
+-- "The passes end when max_passes have run or when one made no move"
+unfoldable pub passesOver : Scene → ℕ → Search → Bool → Search
+passesOver e zero s moved = s
+passesOver e (suc n) s false = s
+passesOver e (suc n) s true = let t = passOver e s in passesOver e n t (t .tally .moved)
+
+-- ---- what the inner functions ask
+
+-- lent arrays of their lengths, and numbers in bounds
+pub record Able (e : Scene) : Type 0 where
+  pub early : e .hall .first .0 < 8589934592
+  pub gathered : e .hall .detections ≤ 128
+  pub frozen : e .hall .frozen ≤ 128
+  pub starts : Starts (e .starts)
+
+-- n ids above 0, ascending
+pub record Listed (n : ℕ) (table : List ℕ) : Type 0 where
+  pub within : n ≤ 128
+  pub long : length table ≡ 128
+  pub above : (i : ℕ) → i < n → 0 < getD table i 0
+  pub rises : (i j : ℕ) → i < j → j < n → getD table i 0 < getD table j 0
+
+-- the costs kept are those of the rows as they are
+pub record Costed (e : Scene) (n : ℕ) (table ids : List ℕ) (costs : List Float) : Type 0 where
+  pub all : length ids ≡ 128
+  pub long : length costs ≡ 128
+  pub each : (i : ℕ) → i < n → getD costs i nan ≡ costOn e ids (getD table i 0)
+
+-- the tables that a pass writes anew, of their lengths, and logarithms kept
+pub record Tables (table rows : List ℕ) (costs logs : List Float) : Type 0 where
+  pub table-long : length table ≡ 128
+  pub rows-long : length rows ≡ 2432
+  pub costs-long : length costs ≡ 128
+  pub kept : Kept logs
