@@ -37,7 +37,10 @@ opening-suc n a₀ a i o =
     let size : length b ≡ 128 = length-set a (suc i) y ∙ o .size in
     let old : y ≡ getD a₀ i 0 = sym (getD-take (suc i) a i 0 (omega arith)) ∙ ap (λ (l : List ℕ). getD l i 0) (o .low) ∙ getD-take (suc i) a₀ i 0 (omega arith) in
     record {
-      room = o .room; size₀ = o .size₀; size = size; within = omega arith;
+      room = o .room;
+      size₀ = o .size₀;
+      size = size;
+      within = omega arith;
       low =
           take-set-le i a (suc i) y (omega arith)
           ∙ sym (take-take i (suc i) a (omega arith))
@@ -54,14 +57,14 @@ opening-step n a₀ a zero h o = absurd (not-suc-le-zero h)
 opening-step n a₀ a (suc i) h o = let q : suc i - 1 ≡ i = omega arith in rw q (opening-suc n a₀ a i o)
 
 -- a number written into the place that is free then
-pub laid : (n p x : ℕ) (a₀ a : List ℕ) → p ≤ n → n < 128 → length a ≡ 128 → take p a ≡ take p a₀ → segment (p + 1) (n + 1) a ≡ segment p n a₀ →
+laid : (n p x : ℕ) (a₀ a : List ℕ) → p ≤ n → n < 128 → length a ≡ 128 → take p a ≡ take p a₀ → segment (p + 1) (n + 1) a ≡ segment p n a₀ →
     take (n + 1) (set a p x) ≡ take p (take n a₀) ++ (x ∷ drop p (take n a₀))
 laid n p x a₀ a h g e low high =
     let t = take (n + 1) a in
     take-set-lt (n + 1) a p x (omega arith)
     ∙ set-split t p x (omega (arith, length-take-le (n + 1) a (omega arith)))
     ∙ (λ m. (take-take p (n + 1) a (omega arith) ∙ low ∙ sym (take-take p n a₀ h)) m ++
-      (x ∷ (ap (λ (k : ℕ). drop k t) (sym (add-one p)) ∙ sym (segment-cut (p + 1) (n + 1) a) ∙ high ∙ segment-cut p n a₀) m))
+    (x ∷ (ap (λ (k : ℕ). drop k t) (sym (add-one p)) ∙ sym (segment-cut (p + 1) (n + 1) a) ∙ high ∙ segment-cut p n a₀) m))
 
 -- ---- inserting by the place
 
@@ -95,14 +98,14 @@ place-suc x y l p = go (ltb y x) refl
     go true q e = (ltb-true y x q, omega arith)
     go false q e = absurd (omega arith)
 
-pub place-within : (x : ℕ) (l : List ℕ) (p : ℕ) → p ≡ placeIn x l → p ≤ length l
+place-within : (x : ℕ) (l : List ℕ) (p : ℕ) → p ≡ placeIn x l → p ≤ length l
 unfolding placeIn
 place-within x [] p e = omega arith
 place-within x (y ∷ l) zero e = omega arith
 place-within x (y ∷ l) (suc p) e = suc-le-suc (place-within x l p (place-suc x y l p e .1))
 
 -- where x does not stand at its place, it is put there; where it does, nothing changes
-pub insert-new : (x : ℕ) (l : List ℕ) (p : ℕ) → p ≡ placeIn x l → (p < length l → getD l p 0 ≡ x → ⊥) → insert x l ≡ take p l ++ (x ∷ drop p l)
+insert-new : (x : ℕ) (l : List ℕ) (p : ℕ) → p ≡ placeIn x l → (p < length l → getD l p 0 ≡ x → ⊥) → insert x l ≡ take p l ++ (x ∷ drop p l)
 unfolding insert placeIn
 insert-new x [] zero e n = refl
 insert-new x [] (suc p) e n = absurd (omega arith)
@@ -111,7 +114,7 @@ insert-new x (y ∷ l) (suc p) e n =
     let h = place-suc x y l p e in
     insert-past x y l (h .0) ∙ ap (λ (r : List ℕ). y ∷ r) (insert-new x l p (h .1) (λ g. n (suc-le-suc g)))
 
-pub insert-old : (x : ℕ) (l : List ℕ) (p : ℕ) → p ≡ placeIn x l → p < length l → getD l p 0 ≡ x → insert x l ≡ l
+insert-old : (x : ℕ) (l : List ℕ) (p : ℕ) → p ≡ placeIn x l → p < length l → getD l p 0 ≡ x → insert x l ≡ l
 insert-old x [] p e h q = absurd (not-suc-le-zero h)
 insert-old x (y ∷ l) zero e h q = insert-same x y l (sym q)
 insert-old x (y ∷ l) (suc p) e h q =
@@ -167,7 +170,10 @@ module _ (n : ℕ) (ids : List ℕ) where
   unfolding keep
   presenting-start table h e f =
       record {
-        whole = h; size = e; within = omega arith; few = omega arith;
+        whole = h;
+        size = e;
+        within = omega arith;
+        few = omega arith;
         begins = record { within = omega arith; long = f; is = sym (ap sorted (segment-none n n ids (omega arith))) };
       }
 
@@ -184,9 +190,11 @@ module _ (n : ℕ) (ids : List ℕ) where
       let lk : length (take k r) ≡ k = length-take-le k r (omega (arith, b .within, b .long)) in
       let lm : length (take m table) ≡ m = length-take-le m table (omega (arith, o .begins .within, o .begins .long)) in
       let s : insert x (take m table) ≡ sorted (segment (i - 1) n ids) =
-          ap (insert x) (o .begins .is) ∙ sym (ap sorted (next o h) ∙ ap (λ (t : Bool). foldr insert [] (consIf t x (keep (ltb 0) (segment i n ids)))) (lt-ltb 0 x g)) in
+      ap (insert x) (o .begins .is) ∙ sym (ap sorted (next o h) ∙ ap (λ (t : Bool). foldr insert [] (consIf t x (keep (ltb 0) (segment i n ids)))) (lt-ltb 0 x g)) in
       record {
-        whole = o .whole; size = o .size; within = omega (arith, o .within);
+        whole = o .whole;
+        size = o .size;
+        within = omega (arith, o .within);
         few = omega (arith, insert-length x (take m table), ap length (b .is), o .few, o .within);
         begins = record { within = b .within; long = b .long; is = b .is ∙ s };
       }
@@ -196,9 +204,12 @@ module _ (n : ℕ) (ids : List ℕ) where
   presenting-none {table} {m} {i} o h g =
       let x = getD ids (i - 1) 0 in
       let s : sorted (segment i n ids) ≡ sorted (segment (i - 1) n ids) =
-          sym (ap sorted (next o h) ∙ ap (λ (t : Bool). foldr insert [] (consIf t x (keep (ltb 0) (segment i n ids)))) (le-ltb 0 x g)) in
+      sym (ap sorted (next o h) ∙ ap (λ (t : Bool). foldr insert [] (consIf t x (keep (ltb 0) (segment i n ids)))) (le-ltb 0 x g)) in
       record {
-        whole = o .whole; size = o .size; within = omega (arith, o .within); few = omega (arith, o .few, o .within);
+        whole = o .whole;
+        size = o .size;
+        within = omega (arith, o .within);
+        few = omega (arith, o .few, o .within);
         begins = record { within = o .begins .within; long = o .begins .long; is = o .begins .is ∙ s };
       }
 

@@ -10,8 +10,10 @@ use lib.Ieee.{Float}
 use Rattle.model.specs.Lists.{keep, consIf, any, upFrom}
 use Rattle.model.proofs.All.{mem-All}
 use Rattle.model.proofs.Counting.{any-All, or-right}
-use Rattle.search.specs.Near.{closeScans, anyClose}
+use Rattle.search.specs.Near.{closeAt, closeScans, anyClose}
 use Rattle.search.specs.Price.{cutAt, cutsOf}
+use Rattle.search.proofs.Filled.{map-up-length}
+use Rattle.search.proofs.CutTests.{or-left, same-answer}
 
 -- a list has an element
 abbrev pub filled : {A : Type 0} → List A → Bool
@@ -31,10 +33,6 @@ pub filled-map : {A B : Type 0} (f : A → B) (l : List A) → filled (map f l) 
 filled-map f [] = refl
 filled-map f (a ∷ l) = refl
 
-or-left : (a b : Bool) → T a → T (a || b)
-or-left true b t = tt
-or-left false b t = absurd t
-
 any-at : (close : List Bool) (k : ℕ) → T (getD close k false) → T (anyClose close)
 unfolding any
 any-at [] k t = absurd t
@@ -53,17 +51,11 @@ any-upFrom f n (suc m) (b ∷ l) h g t =
     go true e u r = or-left (f n) (any f (upFrom (suc n) m)) (subst (λ j. T (f j)) (let e : n + 0 ≡ n = omega arith in e) (g 0 (subst T (sym e) tt)))
     go false e u r = or-right (f n) (any f (upFrom (suc n) m)) (r u)
 
-either : (a b : Bool) → (T a → T b) → (T b → T a) → a ≡ b
-either true true f g = refl
-either true false f g = absurd (f tt)
-either false true f g = absurd (g tt)
-either false false f g = refl
-
 pub filled-cuts : (close : List Bool) → length close ≤ 18 → filled (cutsOf close) ≡ anyClose close
 unfolding cutsOf
 filled-cuts close h =
     filled-keep (cutAt close) (upFrom 0 18)
-    ∙ either (any (cutAt close) (upFrom 0 18)) (anyClose close)
+    ∙ same-answer (any (cutAt close) (upFrom 0 18)) (anyClose close)
     (any-All (cutAt close) (λ g. Unit {0}) (λ g u t. noted g (getD close g false) refl (eqb g 0) t) (upFrom 0 18) (mem-All (λ g. Unit {0}) (upFrom 0 18) (λ g m. tt)))
     (any-upFrom (cutAt close) 0 18 close h (λ k t. subst (λ j. T (cutAt close j)) (let e : k ≡ 0 + k = omega arith in e) (cut (getD close k false) (cond (eqb k 0) false (getD close (k - 1) false)) t)))
   where
@@ -77,6 +69,6 @@ filled-cuts close h =
     cut false d t = absurd t
 
 -- a note for each of 17 scans
-pub close-long : (q : Float) (dots : List Float) (a b : List ℕ) → length (closeScans q dots a b) ≤ 18
-unfolding closeScans upFrom
-close-long q dots a b = omega arith
+pub close-long : (q : Float) (dots : List Float) (a b : List ℕ) → length (closeScans q dots a b) ≡ 17
+unfolding closeScans
+close-long q dots a b = map-up-length (closeAt q dots a b) 0 17

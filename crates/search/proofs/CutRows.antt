@@ -11,19 +11,20 @@ use lib.Ieee.{Float}
 use borrow.Author.Tests.{ne-eqb}
 use Rattle.engine.specs.declared.config.FgoConfig.{FgoConfig}
 use Rattle.engine.specs.Config.{radius}
-use Rattle.model.specs.Lists.{keep, consIf, any, upFrom}
+use Rattle.model.specs.Lists.{keep, any, upFrom}
 use Rattle.model.specs.Windows.{Scan, Prefix, Dot, detOf, window}
 use Rattle.model.specs.Searching.{close, isCut, cuts}
 use Rattle.model.specs.Rule.{All}
 use Rattle.model.proofs.Counting.{keep-append, keep-const}
-use Rattle.search.specs.Rows.{slotAt, rowOf}
 use Rattle.search.specs.Near.{square, nearSlots, closeAt, closeScans}
 use Rattle.search.specs.Price.{cutAt, cutsOf}
 use Rattle.search.specs.Pass.{Scene, viewOn, rowOn, closeOn}
 use Rattle.search.specs.Gathered.{putBack}
 use Rattle.search.proofs.Filled.{map-up-length, map-up-at}
 use Rattle.search.proofs.Standing.{Held, scansNow, Standing, CutRows}
-use Rattle.search.proofs.WindowRows.{row-slot, slot-empty, window-rows}
+use Rattle.search.proofs.RowSlots.{row-length, row-at}
+use Rattle.search.proofs.WindowRows.{slot-empty, window-rows}
+use Rattle.search.proofs.WindowDets.{map-keep}
 use Rattle.search.proofs.CutTests.{cutBy, cut-tests}
 
 -- ---- lists of numbers
@@ -47,15 +48,6 @@ up-All : (P : ℕ → Type 0) (k m : ℕ) → ((j : ℕ) → k ≤ j → P j) �
 unfolding upFrom
 up-All P k zero f = tt
 up-All P k (suc m) f = (f k (omega arith), up-All P (suc k) m (λ j h. f j (omega arith)))
-
-keep-map : {A B : Type 0} (p : B → Bool) (f : A → B) (l : List A) → keep p (map f l) ≡ map f (keep (λ a. p (f a)) l)
-unfolding keep
-keep-map p f [] = refl
-keep-map p f (a ∷ l) = go (p (f a)) (keep-map p f l)
-  where
-    go : (b : Bool) → keep p (map f l) ≡ map f (keep (λ a. p (f a)) l) → consIf b (f a) (keep p (map f l)) ≡ map f (consIf b a (keep (λ a. p (f a)) l))
-    go true r = ap (λ m. f a ∷ m) r
-    go false r = r
 
 any-map : {A B : Type 0} (p : B → Bool) (f : A → B) (l : List A) → any (λ a. p (f a)) l ≡ any p (map f l)
 unfolding any
@@ -87,15 +79,14 @@ back-length starts ids k [] = refl
 back-length starts ids k (s ∷ ss) = ap suc (back-length starts ids (suc k) ss)
 
 row-past : (e : Scene) (ids : List ℕ) (x k : ℕ) → 17 ≤ k → getD (rowOn e ids x) k 0 ≡ 0
-unfolding rowOf
-row-past e ids x k h = List·getD-eq-default (map (slotAt (e .starts) ids x) (upFrom 0 17)) 0 {n = k} (omega (arith, map-up-length (slotAt (e .starts) ids x) 0 17))
+row-past e ids x k h = List·getD-eq-default (rowOn e ids x) 0 {n = k} (omega (arith, row-length (e .starts) ids x))
 
 module _ (e : Scene) (ss : List Scan) (ids : List ℕ) (held : Held e ss) where
   row-none : (x k : ℕ) → length ss ≤ k → getD (rowOn e ids x) k 0 ≡ 0
   row-none x k h = go (decLt k 17)
     where
       go : Dec (k < 17) → getD (rowOn e ids x) k 0 ≡ 0
-      go (yes l) = row-slot e ids x k l ∙ slot-empty (e .starts) ids x k (held .empty k h l)
+      go (yes l) = row-at (e .starts) ids x k l ∙ slot-empty (e .starts) ids x k (held .empty k h l)
       go (no l) = row-past e ids x k (omega (arith, l))
 
   module _ (a b : ℕ) where
@@ -143,7 +134,7 @@ unfolding cuts
 cut-rows e next ps ss ids s a b ha hb =
     ap (λ (n : ℕ). keep test (upFrom first (suc n))) (back-length (e .starts) ids 0 ss)
     ∙ ap (keep test) ((let q : first ≡ first + 0 = omega arith in ap (λ (n : ℕ). upFrom n (suc (length ss))) q) ∙ up-from first 0 (suc (length ss)))
-    ∙ keep-map test (λ (k : ℕ). first + k) (upFrom 0 (suc (length ss)))
+    ∙ sym (map-keep (λ (k : ℕ). first + k) test (upFrom 0 (suc (length ss))))
     ∙ ap (map (λ (k : ℕ). first + k)) ((λ i. keep (λ g. tests g i) (upFrom 0 (suc (length ss)))) ∙ all-cuts e ss ids (s .held) a b)
   where
     first : ℕ

@@ -17,7 +17,7 @@ use Rattle.model.proofs.Counting.{or-right}
 use Rattle.search.specs.Near.{square, apart2, nearSlots, closeAt}
 use Rattle.search.specs.Price.{cutAt}
 
-or-left : (a b : Bool) → T a → T (a || b)
+pub or-left : (a b : Bool) → T a → T (a || b)
 or-left true b t = tt
 or-left false b t = absurd t
 
@@ -25,7 +25,7 @@ cond-or : (a b : Bool) → cond a true b ≡ (a || b)
 cond-or true b = refl
 cond-or false b = refl
 
-same-answer : (a b : Bool) → (T a → T b) → (T b → T a) → a ≡ b
+pub same-answer : (a b : Bool) → (T a → T b) → (T b → T a) → a ≡ b
 same-answer true true f g = refl
 same-answer true false f g = absurd (f tt)
 same-answer false true f g = absurd (g tt)
@@ -88,33 +88,33 @@ module _ (q : Float) (dots : List Float) where
       let r : suc b - 1 ≡ b = omega arith in
       rw (ne-eqb (suc a) 0 (λ e. omega arith), ne-eqb (suc b) 0 (λ e. omega arith), p, r)
 
-  near-some : (i j : ℕ) → T (nearSlots q dots i j) → (a : ℕ) × (b : ℕ) × (i ≡ suc a) × (j ≡ suc b) × T (lt (apart2 dots a b) q)
+  pub near-some : (i j : ℕ) → T (nearSlots q dots i j) → (a : ℕ) × (b : ℕ) × (i ≡ suc a) × (j ≡ suc b) × T (lt (apart2 dots a b) q)
   unfolding nearSlots
   near-some zero j t = absurd t
   near-some (suc a) zero t = absurd (rw (ne-eqb (suc a) 0 (λ e. omega arith)) at t)
   near-some (suc a) (suc b) t = (a, b, refl, refl, subst T (near-is a b) t)
 
-module _ (v : View) (q : Float) (ra rb : List ℕ) where
+module _ (dots : List Float) (q : Float) (ra rb : List ℕ) where
   abbrev near : ℕ → ℕ → Bool
-  near i j = nearSlots q (v .dots) (getD ra i 0) (getD rb j 0)
+  near i j = nearSlots q dots (getD ra i 0) (getD rb j 0)
 
   abbrev closes : ℕ → Bool
-  closes k = closeAt q (v .dots) ra rb k
+  closes k = closeAt q dots ra rb k
 
   -- two detections that are near, in one scan or in consecutive ones, of which k is the earlier
-  record Meet (k : ℕ) : Type 0 where
-    i : ℕ
-    j : ℕ
-    low : min i j ≡ k
-    left : i ≤ suc j
-    right : j ≤ suc i
-    by : T (near i j)
+  pub record Meet (k : ℕ) : Type 0 where
+    pub i : ℕ
+    pub j : ℕ
+    pub low : min i j ≡ k
+    pub left : i ≤ suc j
+    pub right : j ≤ suc i
+    pub by : T (near i j)
 
   close-or : (k : ℕ) → closes k ≡ (near k k || (near k (k + 1) || near (k + 1) k))
   unfolding closeAt
   close-or k = cond-or (near k k) _ ∙ ap (λ (b : Bool). near k k || b) (cond-or (near k (k + 1)) (near (k + 1) k))
 
-  close-meet : (k : ℕ) → T (closes k) → Meet k
+  pub close-meet : (k : ℕ) → T (closes k) → Meet k
   close-meet k t = go (or-yes (near k k) (near k (k + 1) || near (k + 1) k) (subst T (close-or k) t))
     where
       later : T (near k (k + 1)) ⊎ T (near (k + 1) k) → Meet k
@@ -171,15 +171,16 @@ module _ (v : View) (q : Float) (ra rb : List ℕ) where
         go (inl e) = or-left (getD close g false) _ (found g (sym e))
         go (inr e) = or-right (getD close g false) _ (rw (ne-eqb g 0 (λ z. omega arith)) (found (g - 1) (omega arith)))
 
-  -- ---- by the detections of the rows
+-- ---- by the detections of the rows
 
+module _ (v : View) (q : Float) (ra rb : List ℕ) where
   abbrev number : ℕ → ℕ
   number i = v .first + (0 + i)
 
   abbrev early : ℕ → ℕ → ℕ → Bool
   early g i j = eqb (v .first + g) (min (number i) (number j)) || eqb (v .first + g) (suc (min (number i) (number j)))
 
-  seen-cut : (g : ℕ) → T (any (λ d. any (cutBy q (v .first + g) d) (dets v 0 rb)) (dets v 0 ra)) → Cut g
+  seen-cut : (g : ℕ) → T (any (λ d. any (cutBy q (v .first + g) d) (dets v 0 rb)) (dets v 0 ra)) → Cut (v .dots) q ra rb g
   seen-cut g t =
       let s = some-in (λ d. any (cutBy q (v .first + g) d) (dets v 0 rb)) v 0 ra t in
       let r = some-in (cutBy q (v .first + g) (detAt v (0 + s .0) (s .1))) v 0 rb (s .3) in
@@ -189,7 +190,7 @@ module _ (v : View) (q : Float) (ra rb : List ℕ) where
       side i j (inl h) = inl (let z : v .first + g ≡ min (number i) (number j) = eqb-yes h in omega arith)
       side i j (inr h) = inr (let z : v .first + g ≡ suc (min (number i) (number j)) = eqb-yes h in omega arith)
 
-      go : (i a j b : ℕ) → getD ra i 0 ≡ suc a → getD rb j 0 ≡ suc b → T (cutBy q (v .first + g) (detAt v (0 + i) a) (detAt v (0 + j) b)) → Cut g
+      go : (i a j b : ℕ) → getD ra i 0 ≡ suc a → getD rb j 0 ≡ suc b → T (cutBy q (v .first + g) (detAt v (0 + i) a) (detAt v (0 + j) b)) → Cut (v .dots) q ra rb g
       go i a j b e f t =
           let l = leb (number i) (suc (number j)) in
           let r = leb (number j) (suc (number i)) in
@@ -212,7 +213,7 @@ module _ (v : View) (q : Float) (ra rb : List ℕ) where
             which = side i j (or-yes (eqb (v .first + g) (min (number i) (number j))) (eqb (v .first + g) (suc (min (number i) (number j)))) (c .0));
           }
 
-  cut-seen : (g : ℕ) → Cut g → T (any (λ d. any (cutBy q (v .first + g) d) (dets v 0 rb)) (dets v 0 ra))
+  cut-seen : (g : ℕ) → Cut (v .dots) q ra rb g → T (any (λ d. any (cutBy q (v .first + g) d) (dets v 0 rb)) (dets v 0 ra))
   cut-seen g c =
       let i = c .meet .i in
       let j = c .meet .j in
@@ -236,4 +237,4 @@ module _ (v : View) (q : Float) (ra rb : List ℕ) where
 
   pub cut-tests : (close : List Bool) → ((k : ℕ) → getD close k false ≡ closeAt q (v .dots) ra rb k) → (g : ℕ) →
       any (λ d. any (cutBy q (v .first + g) d) (dets v 0 rb)) (dets v 0 ra) ≡ cutAt close g
-  cut-tests close noted g = same-answer _ (cutAt close g) (λ t. cut-noted close noted g (seen-cut g t)) (λ t. cut-seen g (noted-cut close noted g t))
+  cut-tests close noted g = same-answer _ (cutAt close g) (λ t. cut-noted (v .dots) q ra rb close noted g (seen-cut g t)) (λ t. cut-seen g (noted-cut (v .dots) q ra rb close noted g t))

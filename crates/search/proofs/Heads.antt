@@ -13,25 +13,23 @@ use Rattle.kf.specs.declared.cost.Fold.{Fold}
 use Rattle.kf.specs.Cost.{View, viewOf, dets, run, closed, cost, missesOf, Kept, Asks}
 use Rattle.kf.proofs.Steps.{run-append, dets-append, misses-run}
 use Rattle.search.specs.Rows.{segment}
+use Rattle.search.proofs.Segments.{length-segment}
 use Rattle.search.specs.Price.{Fit, Until, rowCost, headOf, crossed, onTo}
 
 -- a part of a row from its start on, as the code lends it
-pub rest-of : (k : ℕ) (r : List ℕ) → take (length r - k) (drop k r) ≡ drop k r
+rest-of : (k : ℕ) (r : List ℕ) → take (length r - k) (drop k r) ≡ drop k r
 rest-of k r = take-all (length r - k) (drop k r) (omega (arith, length-drop k r))
-
-pub segment-length : (k g : ℕ) (r : List ℕ) → g ≤ length r → length (segment k g r) ≤ g - k
-segment-length k g r h = omega (arith, length-take (g - k) (drop k r), length-drop k r)
 
 module _ (c : FgoConfig) (v : View) (p : Fold) (r : List ℕ) where
   -- what follows the scans before k goes on from the head
-  pub goes-on : (k : ℕ) (q : List ℕ) → k ≤ length r → run c p (dets v 0 (take k r ++ q)) ≡ run c (headOf c v p r k) (dets v k q)
+  goes-on : (k : ℕ) (q : List ℕ) → k ≤ length r → run c p (dets v 0 (take k r ++ q)) ≡ run c (headOf c v p r k) (dets v k q)
   goes-on k q h =
       ap (run c p) (dets-append v 0 (take k r) q)
       ∙ run-append c p (dets v 0 (take k r)) (dets v (0 + length (take k r)) q)
       ∙ ap (λ (n : ℕ). run c (headOf c v p r k) (dets v n q)) (zero-add (length (take k r)) ∙ length-take-le k r h)
 
   -- the head goes on to the next cut
-  pub head-on : (k g : ℕ) → k ≤ g → g ≤ length r → onTo c v k g r (headOf c v p r k) ≡ headOf c v p r g
+  head-on : (k g : ℕ) → k ≤ g → g ≤ length r → onTo c v k g r (headOf c v p r k) ≡ headOf c v p r g
   head-on k g h l =
       let e : k + (g - k) ≡ g = omega arith in
       sym (goes-on k (segment k g r) (omega arith)) ∙ ap (λ (q : List ℕ). run c p (dets v 0 q)) (sym (take-add k (g - k) r) ∙ ap (λ (n : ℕ). take n r) e)
@@ -41,7 +39,7 @@ module _ (c : FgoConfig) (v : View) (p : Fold) (r : List ℕ) where
   crossed-cost k q h = sym (ap (closed c) (goes-on k (drop k q) h))
 
   -- few misses
-  pub head-few : (k : ℕ) → v .first < 8589934592 → length r ≡ 17 → missesOf p ≡ 0 → missesOf (headOf c v p r k) < 288230376151711744
+  head-few : (k : ℕ) → v .first < 8589934592 → length r ≡ 17 → missesOf p ≡ 0 → missesOf (headOf c v p r k) < 288230376151711744
   head-few k e l z =
       let m : length (take k r) ≤ 17 = omega (arith, length-take k r) in
       omega (arith, misses-run c v p 0 (take k r) (omega arith))
@@ -51,12 +49,12 @@ module _ (c : FgoConfig) (v : View) (p : Fold) (r : List ℕ) where
 module _ {k g : ℕ} {f : Fold} {r : List ℕ} (u : Until g k f r) (first : ScanIndex) (early : first .0 < 8589934592) (end : g ≤ 17) where
   -- on to the cut
   pub asks-part : {logs : List Float} → Kept logs → Asks (segment k g r) k first f logs
-  asks-part kept = record { short = omega (arith, segment-length k g r (omega arith)); early = early; few = omega arith; kept = kept }
+  asks-part kept = record { short = omega (arith, length-segment k g r (omega arith)); early = early; few = omega arith; kept = kept }
 
   -- and from n on to the end of a row
   pub asks-rest : {logs : List Float} {h : Fold} (c : FgoConfig) (dots : List Float) → h ≡ onTo c (viewOf first dots) k g r f → (n : ℕ) (q : List ℕ) → n ≤ 17 → length q ≡ 17 → Kept logs → Asks (take (length q - n) (drop n q)) n first h logs
   asks-rest c dots e n q l t kept =
-      let s = segment-length k g r (omega arith) in
+      let s = length-segment k g r (omega arith) in
       let m = misses-run c (viewOf first dots) f k (segment k g r) (omega arith) in
       record {
         short = omega (arith, length-take (length q - n) (drop n q), length-drop n q);

@@ -16,6 +16,7 @@ use Rattle.model.proofs.All.{All-keep, mem-All}
 use Rattle.model.proofs.Counting.{count-le, compare-lt, compare-gt}
 use Rattle.search.specs.Rows.{presentIn, Begins}
 use Rattle.search.specs.Pass.{Listed}
+use Rattle.search.proofs.Ascending.{insert-length}
 
 -- a list that ascends from above k on
 abbrev pub Ascends : ℕ → List ℕ → Type 0
@@ -42,16 +43,6 @@ ascends-sort : (l : List ℕ) → All (λ x. 0 < x) l → Ascends 0 (foldr inser
 ascends-sort [] h = tt
 ascends-sort (x ∷ l) h = ascends-insert 0 x (foldr insert [] l) (h .0) (ascends-sort l (h .1))
 
-insert-length : (x : ℕ) (l : List ℕ) → length (insert x l) ≤ suc (length l)
-unfolding insert
-insert-length x [] = le-refl 1
-insert-length x (y ∷ l) = go (compare x y) (insert-length x l)
-  where
-    go : (o : Ordering) → length (insert x l) ≤ suc (length l) → length (insertBy o x y l (insert x l)) ≤ suc (suc (length l))
-    go Ordering·lt r = le-refl (suc (suc (length l)))
-    go Ordering·eq r = omega arith
-    go Ordering·gt r = omega arith
-
 sort-length : (l : List ℕ) → length (foldr insert [] l) ≤ length l
 sort-length [] = le-refl 0
 sort-length (x ∷ l) = le-trans (insert-length x (foldr insert [] l)) (let r = sort-length l in omega arith)
@@ -69,12 +60,12 @@ module _ (n : ℕ) (ids : List ℕ) where
 
 -- ---- entry by entry
 
-pub ascends-above : (k : ℕ) (l : List ℕ) → Ascends k l → (i : ℕ) → i < length l → k < getD l i 0
+ascends-above : (k : ℕ) (l : List ℕ) → Ascends k l → (i : ℕ) → i < length l → k < getD l i 0
 ascends-above k [] a i h = absurd (omega arith)
 ascends-above k (x ∷ l) a zero h = a .0
 ascends-above k (x ∷ l) a (suc i) h = let r : x < getD l i 0 = ascends-above x l (a .1) i (omega arith) in let q = a .0 in omega arith
 
-pub ascends-rises : (k : ℕ) (l : List ℕ) → Ascends k l → (i j : ℕ) → i < j → j < length l → getD l i 0 < getD l j 0
+ascends-rises : (k : ℕ) (l : List ℕ) → Ascends k l → (i j : ℕ) → i < j → j < length l → getD l i 0 < getD l j 0
 ascends-rises k [] a i j h g = absurd (omega arith)
 ascends-rises k (x ∷ l) a i zero h g = absurd (omega arith)
 ascends-rises k (x ∷ l) a zero (suc j) h g = ascends-above x l (a .1) j (omega arith)

@@ -1,5 +1,4 @@
 pub mod Segments
-pub mod Arrays
 pub mod Filled
 pub mod Left
 pub mod Ascending

@@ -2,18 +2,21 @@
 use Prim.Native.Nat.{ℕ, zero, suc, _+_, _-_, _*_, _≤_, _<_}
 use native.Mathlib.Nat.{le-refl, le-trans}
 use native.Mathlib.Omega.{arith}
-use mathlib.Core.Path.{_≡_, refl, sym, ap, _∙_}
-use mathlib.Core.Bool.{Bool, true, false, cond, _&&_, _||_}
+use mathlib.Core.Path.{_≡_, refl, sym, ap, _∙_, subst}
+use mathlib.Core.Logic.{_⊎_, inl, inr}
+use mathlib.Core.Bool.{Bool, true, false, cond, _&&_}
 use mathlib.Core.List.{List, [], _∷_, map}
-use lib.ListN.{length, getD, take, drop}
-use lib.Seq.{getD-take, getD-drop, getD-append-add, take-at, take-take}
-use lib.Dec.{eqb, leb, ltb}
-use lib.Ieee.{Float, lt}
-use borrow.Author.Tests.{eqb-false, lt-ltb, le-leb}
+use lib.ListN.{getD, take, drop}
+use lib.Seq.{getD-take, getD-drop, take-at, take-take}
+use lib.Dec.{T, leb, ltb}
+use lib.Ieee.{Float}
+use mir.Facts.{or-yes}
+use borrow.Author.Tests.{lt-ltb, le-leb}
 use Rattle.model.specs.Lists.{any, upFrom}
 use Rattle.search.specs.Rows.{rowOf, firstIn, endFrom, entryOf, Tabled}
-use Rattle.search.proofs.Filled.{map-up-length}
-use Rattle.search.specs.Near.{apart2, nearSlots, closeAt, closeScans, anyClose, meets, rowAt, CloseRows}
+use Rattle.search.specs.Near.{closeAt, closeScans, anyClose, meets, rowAt, CloseRows}
+use Rattle.search.proofs.RowSlots.{row-length, entry-first, entry-end}
+use Rattle.search.proofs.CutTests.{Meet, close-meet, near-some}
 
 -- ---- where a row begins and ends
 
@@ -48,72 +51,31 @@ end-past n e (x ∷ r) (suc k) h g = go (ltb 0 x) (λ d l. end-past (suc n) d r 
 
 -- ---- two rows that are close in a scan
 
--- detections in one scan or in two consecutive ones
-record Near (a b : List ℕ) : Type 0 where
-  i : ℕ
-  j : ℕ
-  mine : 0 < getD a i 0
-  theirs : 0 < getD b j 0
-  after : i ≤ suc j
-  before : j ≤ suc i
-
-near-has : (q : Float) (dots : List Float) (x y : ℕ) → nearSlots q dots x y ≡ true → (0 < x) × (0 < y)
-unfolding nearSlots
-near-has q dots x y h = go (eqb x 0) refl (eqb y 0) refl h
-  where
-    go : (u : Bool) → eqb x 0 ≡ u → (v : Bool) → eqb y 0 ≡ v → cond u false (cond v false (lt (apart2 dots (x - 1) (y - 1)) q)) ≡ true → (0 < x) × (0 < y)
-    go true d v e k = let z : _≡_ {A = ℕ} 0 1 = cc in absurd (omega arith)
-    go false d true e k = let z : _≡_ {A = ℕ} 0 1 = cc in absurd (omega arith)
-    go false d false e k = (omega (arith, eqb-false x 0 d), omega (arith, eqb-false y 0 e))
-
 module _ (q : Float) (dots : List Float) (a b : List ℕ) where
-  close-near : (k : ℕ) → closeAt q dots a b k ≡ true → Near a b
-  unfolding closeAt
-  close-near k h = go (near? k k) refl (near? k (k + 1)) refl h
-    where
-      near? : ℕ → ℕ → Bool
-      near? i j = nearSlots q dots (getD a i 0) (getD b j 0)
-
-      found : (i j : ℕ) → nearSlots q dots (getD a i 0) (getD b j 0) ≡ true → i ≤ suc j → j ≤ suc i → Near a b
-      found i j e f g =
-          let p = near-has q dots (getD a i 0) (getD b j 0) e in
-          record { i = i; j = j; mine = p .0; theirs = p .1; after = f; before = g }
-
-      go :
-          (u : Bool) → nearSlots q dots (getD a k 0) (getD b k 0) ≡ u → (v : Bool) → nearSlots q dots (getD a k 0) (getD b (k + 1) 0) ≡ v →
-          cond u true (cond v true (nearSlots q dots (getD a (k + 1) 0) (getD b k 0))) ≡ true → Near a b
-      go true d v e t = found k k d (omega arith) (omega arith)
-      go false d true e t = found k (k + 1) e (omega arith) (omega arith)
-      go false d false e t = found (k + 1) k t (omega arith) (omega arith)
-
-  any-near : (l : List ℕ) → anyClose (map (closeAt q dots a b) l) ≡ true → Near a b
+  any-meet : (l : List ℕ) → T (anyClose (map (closeAt q dots a b) l)) → (k : ℕ) × Meet dots q a b k
   unfolding any
-  any-near [] h = let z : _≡_ {A = ℕ} 0 1 = cc in absurd (omega arith)
-  any-near (k ∷ l) h = go (closeAt q dots a b k) refl h (any-near l)
+  any-meet [] t = absurd t
+  any-meet (k ∷ l) t = go (or-yes (closeAt q dots a b k) (anyClose (map (closeAt q dots a b) l)) t) (any-meet l)
     where
-      go :
-          (c : Bool) → closeAt q dots a b k ≡ c → (c || anyClose (map (closeAt q dots a b) l)) ≡ true →
-          (anyClose (map (closeAt q dots a b) l) ≡ true → Near a b) → Near a b
-      go true e t r = close-near k e
-      go false e t r = r t
+      go : T (closeAt q dots a b k) ⊎ T (anyClose (map (closeAt q dots a b) l)) → (T (anyClose (map (closeAt q dots a b) l)) → (k : ℕ) × Meet dots q a b k) → (k : ℕ) × Meet dots q a b k
+      go (inl h) r = (k, close-meet dots q a b k h)
+      go (inr h) r = r h
 
   -- the rows meet where they are close
   close-meets : anyClose (closeScans q dots a b) ≡ true → (leb (firstIn a) (endFrom 0 0 b) && leb (firstIn b) (endFrom 0 0 a)) ≡ true
   unfolding closeScans
   close-meets h =
-      let n = any-near (upFrom 0 17) h in
+      let m = any-meet (upFrom 0 17) (subst T (sym h) tt) .1 in
+      let s = near-some q dots (getD a (m .i) 0) (getD b (m .j) 0) (m .by) in
+      let mine : 0 < getD a (m .i) 0 = omega (arith, s .2) in
+      let theirs : 0 < getD b (m .j) 0 = omega (arith, s .3) in
       let f : firstIn a ≤ endFrom 0 0 b =
-      le-trans (first-by a (n .i) (n .mine)) (le-trans (n .after) (le-trans (omega arith) (end-past 0 0 b (n .j) (le-refl 0) (n .theirs)))) in
+      le-trans (first-by a (m .i) mine) (le-trans (m .left) (le-trans (omega arith) (end-past 0 0 b (m .j) (le-refl 0) theirs))) in
       let g : firstIn b ≤ endFrom 0 0 a =
-      le-trans (first-by b (n .j) (n .theirs)) (le-trans (n .before) (le-trans (omega arith) (end-past 0 0 a (n .i) (le-refl 0) (n .mine)))) in
+      le-trans (first-by b (m .j) theirs) (le-trans (m .right) (le-trans (omega arith) (end-past 0 0 a (m .i) (le-refl 0) mine))) in
       rw (le-leb (firstIn a) (endFrom 0 0 b) f, le-leb (firstIn b) (endFrom 0 0 a) g)
 
 -- ---- the entries of a table
-
--- a row has 17 scans
-pub row-long : (starts ids : List ℕ) (x : ℕ) → length (rowOf starts ids x) ≡ 17
-unfolding rowOf upFrom
-row-long starts ids x = refl
 
 module _ {starts ids table rows : List ℕ} {n : ℕ} (t : Tabled starts ids table n rows) (i : ℕ) (h : i < n) where
   row : List ℕ
@@ -129,24 +91,21 @@ module _ {starts ids table rows : List ℕ} {n : ℕ} (t : Tabled starts ids tab
       ap (λ m. take m (drop (19 * i) rows)) (let e : 19 * i + 17 - 19 * i ≡ 17 = omega arith in e)
       ∙ sym (take-take 17 19 (drop (19 * i) rows) (omega arith))
       ∙ ap (take 17) entry-take
-      ∙ take-at row (firstIn row ∷ endFrom 0 0 row ∷ []) 17 (row-long starts ids (getD table i 0))
+      ∙ take-at row (firstIn row ∷ endFrom 0 0 row ∷ []) 17 (row-length starts ids (getD table i 0))
 
-  entry-at : (k : ℕ) → k < 2 → getD rows (19 * i + (17 + k)) 0 ≡ getD (firstIn row ∷ endFrom 0 0 row ∷ []) k 0
-  unfolding row
-  entry-at k g =
-      sym (getD-drop (19 * i) rows (17 + k) 0)
-      ∙ sym (getD-take 19 (drop (19 * i) rows) (17 + k) 0 (omega arith))
-      ∙ ap (λ l. getD l (17 + k) 0) entry-take
-      ∙ ap (λ m. getD (entryOf row) (m + k) 0) (sym (row-long starts ids (getD table i 0)))
-      ∙ getD-append-add row (firstIn row ∷ endFrom 0 0 row ∷ []) k 0
+  entry-word : (k : ℕ) → k < 19 → getD rows (19 * i + k) 0 ≡ getD (entryOf row) k 0
+  entry-word k g =
+      sym (getD-drop (19 * i) rows k 0)
+      ∙ sym (getD-take 19 (drop (19 * i) rows) k 0 g)
+      ∙ ap (λ l. getD l k 0) entry-take
 
   table-first : getD rows (19 * i + 17) 0 ≡ firstIn (rowOf starts ids (getD table i 0))
   unfolding row
-  table-first = entry-at 0 (omega arith)
+  table-first = entry-word 17 (omega arith) ∙ entry-first row (row-length starts ids (getD table i 0))
 
   table-end : getD rows (19 * i + 18) 0 ≡ endFrom 0 0 (rowOf starts ids (getD table i 0))
   unfolding row
-  table-end = entry-at 1 (omega arith)
+  table-end = entry-word 18 (omega arith) ∙ entry-end row (row-length starts ids (getD table i 0))
 
 no-more : (m b : Bool) → (b ≡ true → m ≡ true) → (m && b) ≡ b
 no-more m true h = rw (h refl)
@@ -180,7 +139,3 @@ module _ (q : Float) (dots : List Float) (rows : List ℕ) (i j : ℕ) {m : Bool
         found = r ∙ ap anyClose c ∙ ap (λ (b : Bool). b && anyClose (closeScans q dots (rowAt rows i) (rowAt rows j))) (sym h ∙ meet);
         scans = λ z. c;
       }
-
-pub close-long : (q : Float) (dots : List Float) (a b : List ℕ) → length (closeScans q dots a b) ≡ 17
-unfolding closeScans
-close-long q dots a b = map-up-length (closeAt q dots a b) 0 17

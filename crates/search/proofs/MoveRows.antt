@@ -24,7 +24,8 @@ use Rattle.search.specs.Gathered.{spread, putBack}
 use Rattle.search.proofs.Renamed.{renamed-column}
 use Rattle.search.proofs.Standing.{HeldScan, HeldFrom, scansNow, Standing, Fits, PairIds, TrackIds}
 use Rattle.search.proofs.Spreads.{spread-map}
-use Rattle.search.proofs.WindowRows.{row-slot, slot-now}
+use Rattle.search.proofs.RowSlots.{row-at}
+use Rattle.search.proofs.WindowRows.{slot-now}
 
 -- ---- one id
 
@@ -201,7 +202,7 @@ module _ (e : Scene) (next : ℕ) (ps : List (ℕ × Prefix)) (ss : List Scan) (
       ∙ after m
     where
       has-now : (k : ℕ) (r : Scan) → k < 17 → HeldScan e k r → (x : ℕ) → 0 < x → hasSlot (rowOn e ids x) k ≡ has x (spread (r .ids) (columnAt (e .starts) ids k))
-      has-now k r h w x hx = ap (ltb 0) (row-slot e ids x k h) ∙ slot-now (s .held .starts) w ids (s .long) h x hx
+      has-now k r h w x hx = ap (ltb 0) (row-at (e .starts) ids x k h) ∙ slot-now (s .held .starts) w ids (s .long) h x hx
 
       after : (m : PairMove) → recolumn (pairColumn a b m) (e .hall .first .0) (scansNow e ss ids) ≡ afterPair (e .hall .config) (e .hall .first .0) ps a b (scansNow e ss ids) m
       after Stay = recolumn-same (e .hall .first .0) (scansNow e ss ids)

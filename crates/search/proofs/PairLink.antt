@@ -24,7 +24,8 @@ use Rattle.model.proofs.Merging.{merge-first-says, merge-second-says, shared-tu
 use Rattle.search.specs.Price.{cutsOf, sharedRows, trySwapRow, tryMergeRow, bestSwapRow, betterMerge, bestPairRow}
 use Rattle.search.specs.Pass.{Scene, idOf, viewOn, partOn, rowOn, pairBest}
 use Rattle.search.proofs.Standing.{Standing, PartsOk, Fits, WindowRow, SharedRows, PairBest, scansNow}
-use Rattle.search.proofs.RowCosts.{row-long, Stands, cost-dets}
+use Rattle.search.proofs.RowSlots.{row-length}
+use Rattle.search.proofs.RowCosts.{Stands, cost-dets}
 use Rattle.search.proofs.WindowDets.{Rowed, row-crossed, row-joined}
 
 -- ---- a merge keeps one of the two
@@ -132,7 +133,7 @@ pair-best e next ps ss ids stands parts rows shares a b ha hb apart close =
     let v = viewOn e in
     let now = scansNow e ss ids in
     let base = add binary64 (costOf c (v .first) ps a now) (costOf c (v .first) ps b now) in
-    tries-row c v ps now (stands .regular) a b ha hb apart (partOn e a) (partOn e b) (rowOn e ids a) (rowOn e ids b) (row-long e ids a ∙ sym (row-long e ids b))
+    tries-row c v ps now (stands .regular) a b ha hb apart (partOn e a) (partOn e b) (rowOn e ids a) (rowOn e ids b) (row-length (e .starts) ids a ∙ sym (row-length (e .starts) ids b))
     (record { part = parts a ha; row = rows a ha }) (record { part = parts b hb; row = rows b hb }) base (shares a b ha hb) (shares b a hb ha) close
     ∙ (λ i. bestPairRow c v (idOf a) (idOf b) (partOn e a) (partOn e b) close (rowOn e ids a) (rowOn e ids b)
     (add binary64 (cost-dets c (v .first) ps a (partOn e a) (parts a ha) now _ (rows a ha) i) (cost-dets c (v .first) ps b (partOn e b) (parts b hb) now _ (rows b hb) i)))

@@ -18,7 +18,7 @@ pub record PassLaws (e : Scene) (ps : List (ℕ × Prefix)) (ss : List Scan) : T
   pub track-ids : (next : ℕ) (ids : List ℕ) → Standing e next ss ids → TrackIds e next ps ss ids
   pub pair-best : (next : ℕ) (ids : List ℕ) → Standing e next ss ids → PairBest e next ps ss ids
   pub track-best : (next : ℕ) (ids : List ℕ) → Standing e next ss ids → TrackBest e next ps ss ids
-  pub fits : (close : List Bool) (a b : ℕ) (ids : List ℕ) → (a ≡ b → ⊥) → Fits a b (pairBest e close a b ids)
+  pub fits : (close : List Bool) (a b : ℕ) (ids : List ℕ) → Fits a b (pairBest e close a b ids)
   -- after a move of a pair the ids still stand for the scans
   pub pair-stands : (next : ℕ) (ids : List ℕ) → Standing e next ss ids → (a b : ℕ) → 0 < a → 0 < b → (a ≡ b → ⊥) → a < next → b < next → (m : PairMove) → Fits a b m → Standing e next ss (pairIds (e .hall .first .0) (e .starts) m a b (rowOn e ids a) (rowOn e ids b) ids)
   -- and after a move of a track

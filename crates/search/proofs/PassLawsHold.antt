@@ -23,7 +23,7 @@ laws-hold e ps ss parts =
       track-ids = λ next ids s. track-ids e next ps ss ids s;
       pair-best = λ next ids s. pair-best e next ps ss ids s parts (window-rows e next ps ss ids s) (shared-rows e next ps ss ids s);
       track-best = λ next ids s. track-best e next ps ss ids s parts (window-rows e next ps ss ids s);
-      fits = λ close a b ids d. pair-fits e close a b ids;
+      fits = pair-fits e;
       pair-stands = λ next ids s. pair-standing s;
       track-stands = λ next ids s. track-standing s;
     }

@@ -1,26 +1,14 @@
--- A row has 17 scans, and a window costs what its detections cost. Assumes nothing.
-use Prim.Native.Nat.{ℕ, zero, suc}
-use mathlib.Core.Path.{_≡_, refl, sym, ap, _∙_}
+-- A window costs what its detections cost. Assumes nothing.
+use Prim.Native.Nat.{ℕ}
+use mathlib.Core.Path.{_≡_, sym}
 use mathlib.Core.List.{List, map}
-use lib.ListN.{length, length-map}
 use Rattle.engine.specs.declared.config.FgoConfig.{FgoConfig}
 use Rattle.kf.specs.declared.cost.Fold.{Fold}
 use Rattle.kf.specs.Cost.{Det, View, cost}
-use Rattle.model.specs.Lists.{find, upFrom}
+use Rattle.model.specs.Lists.{find}
 use Rattle.model.specs.Windows.{Scan, Prefix, detOf, partOf, price, window}
 use Rattle.model.specs.Searching.{costOf}
-use Rattle.search.specs.Rows.{rowOf, slotAt}
-use Rattle.search.specs.Pass.{Scene, rowOn}
 use Rattle.search.proofs.WindowDets.{Rowed}
-
-up-length : (n m : ℕ) → length (upFrom n m) ≡ m
-unfolding upFrom
-up-length n zero = refl
-up-length n (suc m) = ap suc (up-length (suc n) m)
-
-pub row-long : (e : Scene) (ids : List ℕ) (x : ℕ) → length (rowOn e ids x) ≡ 17
-unfolding rowOf
-row-long e ids x = length-map (upFrom 0 17) (slotAt (e .starts) ids x) ∙ up-length 0 17
 
 -- p and r stand for the frozen part and the window of x
 pub record Stands (c : FgoConfig) (v : View) (ps : List (ℕ × Prefix)) (ss : List Scan) (x : ℕ) (p : Fold) (r : List ℕ) : Type 0 where

@@ -1,35 +1,24 @@
--- A row's entries.
-use mathlib.Core.Path.{_≡_, refl, sym, ap, _∙_}
-use mathlib.Core.List.{List, [], _∷_, _++_, map}
-use Prim.Native.Nat.{ℕ, zero, suc, _+_, _-_, _*_, _≤_, _<_}
-use native.Mathlib.Nat.{add-zero, zero-add, not-suc-le-zero, le-of-suc-le-suc}
+-- A row's entries, and the table of all rows. Assumes nothing.
+use mathlib.Core.Path.{_≡_, ap, _∙_}
+use mathlib.Core.List.{List, [], _∷_, _++_}
+use Prim.Native.Nat.{ℕ, _+_, _-_, _*_, _≤_, _<_}
+use native.Mathlib.Nat.{zero-add, not-suc-le-zero}
 use native.Mathlib.Omega.{arith}
-use lib.ListN.{length, getD, take, drop, length-map, length-append, List·getD-append}
+use lib.ListN.{length, getD, take, drop, length-append, List·getD-append}
 use lib.Seq.{getD-at, getD-append-add}
 use borrow.Author.Count.{below-more}
-use Rattle.model.specs.Lists.{upFrom}
 use Rattle.search.specs.Rows.{slotAt, rowOf, firstIn, endFrom, entryOf, entryAt, Tabled}
+use Rattle.search.proofs.Filled.{map-up-length, map-up-at}
 use Rattle.search.proofs.Segments.{splice-length, splice-before, splice-at}
-
-up-length : (n k : ℕ) → length (upFrom n k) ≡ k
-unfolding upFrom
-up-length n zero = refl
-up-length n (suc k) = ap suc (up-length (suc n) k)
-
-up-at : (f : ℕ → ℕ) (n k i : ℕ) → i < k → getD (map f (upFrom n k)) i 0 ≡ f (n + i)
-unfolding upFrom
-up-at f n zero i h = absurd (not-suc-le-zero h)
-up-at f n (suc k) zero h = ap f (sym (add-zero n))
-up-at f n (suc k) (suc i) h = let e : suc n + i ≡ n + suc i = omega arith in up-at f (suc n) k i (le-of-suc-le-suc h) ∙ ap f e
 
 module _ (starts ids : List ℕ) (x : ℕ) where
   pub row-length : length (rowOf starts ids x) ≡ 17
   unfolding rowOf
-  row-length = length-map (upFrom 0 17) (slotAt starts ids x) ∙ up-length 0 17
+  row-length = map-up-length (slotAt starts ids x) 0 17
 
   pub row-at : (k : ℕ) → k < 17 → getD (rowOf starts ids x) k 0 ≡ slotAt starts ids x k
   unfolding rowOf
-  row-at k h = up-at (slotAt starts ids x) 0 17 k h ∙ ap (slotAt starts ids x) (zero-add k)
+  row-at k h = map-up-at (slotAt starts ids x) 0 17 k 0 h ∙ ap (slotAt starts ids x) (zero-add k)
 
 -- ---- a row with its first scan and its end
 
@@ -60,9 +49,9 @@ tabled-more starts ids table rows row r i o h e f =
     let top : 19 * i + 19 ≤ length rows = omega (arith, o .long) in
     let l = take (19 * i) rows ++ (entryOf row ++ drop (19 * i + 19) rows) in
     let old : (j : ℕ) → j < i → entryAt l j ≡ entryOf (rowOf starts ids (getD table j 0)) =
-        λ j g. splice-before (19 * i) (19 * i + 19) (entryOf row) rows up top ln (19 * j) (19 * j + 19) (omega arith) ∙ o .each j g in
+    λ j g. splice-before (19 * i) (19 * i + 19) (entryOf row) rows up top ln (19 * j) (19 * j + 19) (omega arith) ∙ o .each j g in
     let new : entryAt l i ≡ entryOf (rowOf starts ids (getD table i 0)) =
-        splice-at (19 * i) (19 * i + 19) (entryOf row) rows up top ln ∙ ap entryOf e in
+    splice-at (19 * i) (19 * i + 19) (entryOf row) rows up top ln ∙ ap entryOf e in
     rw f
     record {
       long = splice-length (19 * i) (19 * i + 19) (entryOf row) rows up top ln ∙ o .long;

@@ -1,5 +1,5 @@
 -- How the gathered ids stand for the held scans during a search, and what is to be shown of them. Assumes nothing.
-use Prim.Native.Nat.{ℕ, zero, suc, _+_, _≤_, _<_}
+use Prim.Native.Nat.{ℕ, suc, _+_, _≤_, _<_}
 use mathlib.Core.Path.{_≡_}
 use mathlib.Core.Bool.{Bool}
 use mathlib.Core.Logic.{_⊎_}
@@ -12,7 +12,7 @@ use Rattle.model.specs.declared.moves.PairMove.the-variants.{Stay, Swap, Merge}
 use Rattle.model.specs.declared.moves.TrackMove.{TrackMove}
 use Rattle.model.specs.Lists.{times, find}
 use Rattle.model.specs.Windows.{Scan, Prefix, dotOf, detOf, partOf, window, present}
-use Rattle.model.specs.Searching.{afterPair, afterTrack, nextAfter, cuts, bestOfPair, bestOfTrack, shared}
+use Rattle.model.specs.Searching.{afterPair, afterTrack, cuts, bestOfPair, bestOfTrack, shared}
 use Rattle.model.specs.Faithful.{Regular}
 use Rattle.model.specs.Rule.{All}
 use Rattle.search.specs.Rows.{Starts, presentIn}

@@ -15,7 +15,7 @@ use Rattle.model.specs.declared.moves.TrackMove.the-variants.{Split, Drop, Stay
 use Rattle.search.specs.declared.moves.Tally.{Tally}
 use Rattle.search.specs.Rows.{Starts}
 use Rattle.search.specs.Price.{bestPairRow, bestTrackRow}
-use Rattle.search.specs.Moves.{pairIds, trackIds, pairStays, trackStays, pairTally, trackTally, nextId, oneMore}
+use Rattle.search.specs.Moves.{pairIds, trackIds, pairStays, trackStays, pairTally, trackTally, nextId}
 use Rattle.search.specs.Pass.{Scene, Search, idOf, viewOn, partOn, rowOn, costOn, pairBest, pairMoved, pairStep, trackBest, trackMoved, trackStep}
 use Rattle.search.proofs.OtherRows.{pair-other, track-other}
 use Rattle.search.proofs.Renamed.{renamed-length}
@@ -78,7 +78,8 @@ pub track-long :
 unfolding trackIds
 track-long e begins a x ids long m made = ap length made ∙ renamed-length begins a x _ ids long
 
-next-from : (m : TrackMove) (n : ℕ) → n ≤ nextId m n
+-- the next id does not fall
+pub next-from : (m : TrackMove) (n : ℕ) → n ≤ nextId m n
 next-from Rest n = le-refl n
 next-from (Split f g) n = go (ltb n 9223372036854775808)
   where

@@ -55,7 +55,7 @@ module _ (e : Scene) (ps : List (ℕ × Prefix)) (ss : List Scan) (laws : PassLa
         listed = laws .cut-rows next is st a b ha (omega arith)
 
         noted : filled those ≡ anyClose close
-        noted = filled-map (λ (k : ℕ). e .hall .first .0 + k) (cutsOf close) ∙ filled-cuts close (close-long (square (radius (e .hall .config))) (e .dots) (rowOn e is a) (rowOn e is b))
+        noted = filled-map (λ (k : ℕ). e .hall .first .0 + k) (cutsOf close) ∙ filled-cuts close (omega (arith, close-long (square (radius (e .hall .config))) (e .dots) (rowOn e is a) (rowOn e is b)))
 
         go : (d : Bool) → Tied e ss Out low p n (cond d (pairStep e close a b s) s) (cond d (moved those) q)
         go true = pair-tied e ps ss laws Out low p a b ha (omega arith) (λ d. omega arith) (ua .0) (ub .0) (ua .1) (ub .1) close n s q t

@@ -3,14 +3,14 @@ use Prim.Native.Nat.{ℕ, _+_, _≤_, _<_}
 use native.Mathlib.Omega.{arith}
 use mathlib.Core.Path.{_≡_, refl, sym, ap, _∙_}
 use mathlib.Core.Bool.{Bool, true, false, cond}
-use mathlib.Core.List.{List, [], _∷_}
+use mathlib.Core.List.{List}
 use lib.ListN.{length, getD, take, drop}
 use lib.Ieee.{Float}
 use Rattle.engine.specs.Config.{radius}
 use Rattle.kf.specs.Cost.{Kept}
 use Rattle.search.specs.declared.moves.Tally.{Tally}
 use Rattle.search.specs.Rows.{Tabled}
-use Rattle.search.specs.Near.{square, closeScans, anyClose, rowAt, CloseRows}
+use Rattle.search.specs.Near.{square, closeScans, anyClose, CloseRows}
 use Rattle.search.specs.Pass.{Scene, Search, rowOn, closeOn, pairStep, pairIf, sweepOne, sweep, Listed, Costed}
 use Rattle.search.proofs.Listing.{listed-next, listed-end}
 use Rattle.search.proofs.Meeting.{table-row, table-close}

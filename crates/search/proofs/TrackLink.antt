@@ -29,7 +29,8 @@ use Rattle.search.specs.Price.{marked, marks, frozenOne, trySplitRow, tr
 use Rattle.search.specs.Pass.{Scene, viewOn, partOn, rowOn}
 use Rattle.search.proofs.Standing.{Standing, PartsOk, WindowRow, TrackBest, scansNow}
 use Rattle.search.proofs.RowDets.{dets-scans, dets-at}
-use Rattle.search.proofs.RowCosts.{row-long, Stands, cost-dets}
+use Rattle.search.proofs.RowSlots.{row-length}
+use Rattle.search.proofs.RowCosts.{Stands, cost-dets}
 use Rattle.search.proofs.WindowDets.{row-before, row-from, unmap}
 
 -- ---- lists
@@ -168,6 +169,6 @@ track-best e next ps ss ids stands parts rows a ha below =
     let c = e .hall .config in
     let v = viewOn e in
     let now = scansNow e ss ids in
-    tries-row c v ps now a next (partOn e a) (rowOn e ids a) (record { part = parts a ha; row = rows a ha }) (costOf c (v .first) ps a now) (row-long e ids a) ha (stands .regular)
+    tries-row c v ps now a next (partOn e a) (rowOn e ids a) (record { part = parts a ha; row = rows a ha }) (costOf c (v .first) ps a now) (row-length (e .starts) ids a) ha (stands .regular)
     (λ q. omega arith) (next-empty next (v .first) now (stands .begun) (stands .known))
     ∙ (λ i. bestTrackRow c v (partOn e a) (rowOn e ids a) (cost-dets c (v .first) ps a (partOn e a) (parts a ha) now _ (rows a ha) i))

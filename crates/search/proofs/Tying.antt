@@ -1,6 +1,6 @@
 -- The search over the gathered ids beside the model's: what ties them, and that a step keeps it. Assumes nothing.
 use Prim.Native.Nat.{ℕ, suc, _+_, _≤_, _<_}
-use native.Mathlib.Nat.{le-refl, le-trans}
+use native.Mathlib.Nat.{le-trans}
 use native.Mathlib.Numerals.{add-one}
 use native.Mathlib.Omega.{arith}
 use mathlib.Core.Path.{_≡_, refl, sym, ap, _∙_, subst}
@@ -20,6 +20,7 @@ use Rattle.search.specs.Moves.{oneMore, pairStays, trackStays, pairTally
 use Rattle.search.specs.Pass.{Scene, Search, pairBest, pairMoved, pairStep, trackBest, trackMoved, trackStep}
 use Rattle.search.proofs.Standing.{Standing, scansNow, Fits}
 use Rattle.search.proofs.PassLaws.{PassLaws}
+use Rattle.search.proofs.Stepping.{next-from}
 use Rattle.search.proofs.Absence.{Absent, absent-pair, absent-track, absent-rests}
 
 pick : (Q : Search → Type 0) (b : Bool) {u v : Search} → Q u → Q v → Q (cond b u v)
@@ -118,11 +119,6 @@ module _ (n : ℕ) (t : Tally) (r : Room (suc n) (t .next) (t .counters)) where
   track-next Rest = refl
   track-next (Split f g) = counted n (t .next) (r .ids)
   track-next (Drop f g) = refl
-
-  next-up : (m : TrackMove) → t .next ≤ trackTally m t .next
-  next-up Rest = le-refl (t .next)
-  next-up (Split f g) = let h = r .ids in rw (one-more (t .next) (omega arith)) (omega arith)
-  next-up (Drop f g) = le-refl (t .next)
 
   room-next : Room n (t .next) (t .counters)
   room-next = room-less (suc n) n (t .next) (t .counters) (omega arith) r
@@ -230,7 +226,7 @@ module _ (e : Scene) (ps : List (ℕ × Prefix)) (ss : List Scan) (laws : PassLa
     unfolding pairStep onPair
     pair-tied a b ha hb apart la lb oa ob close n s q t =
         subst (λ m. Tied e ss Out low p n (pairMoved e (pairBest e close a b (s .ids)) a b s) (withPair e ps a b m q)) (sym best)
-        (pair-moved-tied a b ha hb apart la lb oa ob (pairBest e close a b (s .ids)) (laws .fits close a b (s .ids) apart) n s q t)
+        (pair-moved-tied a b ha hb apart la lb oa ob (pairBest e close a b (s .ids)) (laws .fits close a b (s .ids)) n s q t)
       where
         best : bestOfPair (e .hall .config) (e .hall .first .0) ps (q .scans) (record { a = a; b = b; cuts = map (λ (k : ℕ). e .hall .first .0 + k) (cutsOf close) }) ≡ pairBest e close a b (s .ids)
         best =
@@ -244,7 +240,7 @@ module _ (e : Scene) (ps : List (ℕ × Prefix)) (ss : List Scan) (laws : PassLa
         record {
           same = ap (withTrack e ps a m) (t .same) ∙ is;
           stands = track-keeps n s (t .stands) (t .room) a ha (le-trans la (t .from)) m;
-          from = pick (λ s. low ≤ s .tally .next) (trackStays m) (t .from) (le-trans (t .from) (next-up n (s .tally) (t .room) m));
+          from = pick (λ s. low ≤ s .tally .next) (trackStays m) (t .from) (le-trans (t .from) (next-from m (s .tally .next)));
           passes = pick (λ s. s .tally .passes ≡ p) (trackStays m) (t .passes) (t .passes);
           room = pick (λ s. Room n (s .tally .next) (s .tally .counters)) (trackStays m) (room-next n (s .tally) (t .room)) (track-room n (s .tally) (t .room) m);
           out =

@@ -22,7 +22,7 @@ use Rattle.search.proofs.RowDets.{dets-from, dets-before, dets-onward, 
 
 module _ {A B : Type 0} (f : A → B) where
   -- a test goes through a map
-  map-keep : (g : B → Bool) (l : List A) → map f (keep (λ a. g (f a)) l) ≡ keep g (map f l)
+  pub map-keep : (g : B → Bool) (l : List A) → map f (keep (λ a. g (f a)) l) ≡ keep g (map f l)
   unfolding keep
   map-keep g [] = refl
   map-keep g (a ∷ l) = go (g (f a)) (map-keep g l)

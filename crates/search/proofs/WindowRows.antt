@@ -19,9 +19,8 @@ use Rattle.model.specs.Rule.{All}
 use Rattle.model.proofs.Counting.{times-here, times-past}
 use Rattle.model.proofs.Windows.{under-absent}
 use Rattle.search.specs.Rows.{Starts, columnAt, slotIn, slotAt, rowOf}
-use Rattle.search.specs.Pass.{Scene, viewOn, rowOn}
+use Rattle.search.specs.Pass.{Scene, viewOn}
 use Rattle.search.specs.Gathered.{picked, spread, putBack}
-use Rattle.search.proofs.Filled.{map-up-at}
 use Rattle.search.proofs.Segments.{length-segment, segment-none}
 use Rattle.search.proofs.Renamed.{starts-within}
 use Rattle.search.proofs.Standing.{HeldScan, HeldFrom, Standing, WindowRow}
@@ -39,11 +38,6 @@ held-picked {e} {k} {s} b d ids l h = omega (arith, column-length b ids l k h, d
 
 pub held-fills : {e : Scene} {k : ℕ} {s : Scan} → Starts (e .starts) → HeldScan e k s → (ids : List ℕ) → length ids ≡ 128 → k < 17 → Fills (s .ids) (columnAt (e .starts) ids k)
 held-fills {e} {k} {s} b d ids l h = held-picked b d ids l h ∙ picked-length (s .ids) (s .frame .associations) (d .complete)
-
--- an entry of a row
-pub row-slot : (e : Scene) (ids : List ℕ) (x k : ℕ) → k < 17 → getD (rowOn e ids x) k 0 ≡ slotAt (e .starts) ids x k
-unfolding rowOf
-row-slot e ids x k h = let q : 0 + k ≡ k = omega arith in map-up-at (slotAt (e .starts) ids x) 0 17 k 0 h ∙ ap (slotAt (e .starts) ids x) q
 
 -- an id has a place in a scan just where it stands there
 pub slot-now : {e : Scene} {k : ℕ} {s : Scan} → Starts (e .starts) → HeldScan e k s → (ids : List ℕ) → length ids ≡ 128 → k < 17 →

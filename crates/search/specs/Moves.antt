@@ -1,11 +1,9 @@
 -- What a move does to the gathered ids, and what it counts. Definitions only.
-use Prim.Native.Nat.{ℕ, zero, suc, _+_, _<_, _≤_}
-use mathlib.Core.Path.{_≡_}
-use mathlib.Core.Bool.{Bool, true, false, cond, _||_}
-use mathlib.Core.List.{List, [], _∷_, _++_, map}
-use lib.ListN.{length, getD, take, drop}
+use Prim.Native.Nat.{ℕ, zero, suc, _+_}
+use mathlib.Core.Bool.{Bool, true, false, cond}
+use mathlib.Core.List.{List, _++_, map}
+use lib.ListN.{getD, take, drop}
 use lib.Dec.{eqb, leb, ltb}
-use Rattle.engine.specs.declared.types.ScanIndex.{ScanIndex}
 use Rattle.model.specs.declared.moves.FgoCounters.{FgoCounters}
 use Rattle.model.specs.declared.moves.PairMove.{PairMove}
 use Rattle.model.specs.declared.moves.PairMove.the-variants.{Stay, Swap, Merge}

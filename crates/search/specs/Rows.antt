@@ -1,7 +1,7 @@
 -- The detections of the held windows, gathered: their ids in one list, scan by scan, and where each scan's begin. Definitions only.
-use Prim.Native.Nat.{ℕ, zero, suc, _+_, _-_, _*_, _≤_, _<_}
+use Prim.Native.Nat.{ℕ, suc, _+_, _-_, _*_, _≤_, _<_}
 use mathlib.Core.Path.{_≡_}
-use mathlib.Core.Bool.{Bool, cond}
+use mathlib.Core.Bool.{cond}
 use mathlib.Core.List.{List, [], _∷_, _++_, map, foldr}
 use lib.ListN.{length, getD, take, drop}
 use lib.Dec.{eqb, ltb}

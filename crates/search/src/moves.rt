@@ -8,8 +8,8 @@ use model::moves::FgoCounters;
 use model::moves::PairMove;
 use model::moves::TrackMove;
 ghost use mathlib.Core.Path.{_≡_};
-ghost use Prim.Native.Nat.{ℕ, _+_, _≤_, _<_};
-ghost use lib.ListN.{length, getD};
+ghost use Prim.Native.Nat.{_+_, _≤_, _<_};
+ghost use lib.ListN.{length};
 ghost use Rattle.search.specs.Rows.{Starts};
 ghost use Rattle.search.specs.Moves.{retarget, keeperTarget, otherTarget, pairTargets, trackTargets, over, pairIds, trackIds, oneMore, pairStays, trackStays, begun, pairCounters, pairTally, trackCounters, nextId, trackTally};
 

@@ -2,11 +2,11 @@
 use kf::cost::DETECTIONS;
 use kf::cost::SCANS;
 ghost use mathlib.Core.Path.{_≡_};
-ghost use mathlib.Core.List.{List, _++_};
-ghost use Prim.Native.Nat.{ℕ, _+_, _*_, _≤_, _<_};
-ghost use lib.ListN.{length, getD, take, drop};
+ghost use mathlib.Core.List.{_++_};
+ghost use Prim.Native.Nat.{_+_, _*_, _≤_, _<_};
+ghost use lib.ListN.{length, take, drop};
 ghost use Rattle.model.specs.Lists.{insert as inserted};
-ghost use Rattle.search.specs.Rows.{segment, Starts, slotIn, slotAt, rowOf, presentIn, placeIn, firstIn, endFrom, entryOf, entryAt, Tabled, Begins};
+ghost use Rattle.search.specs.Rows.{segment, Starts, slotIn, rowOf, presentIn, placeIn, firstIn, endFrom, entryOf, Tabled, Begins};
 
 // Where the scans begin, and where the last one ends.
 pub const STARTS: usize = 18;

@@ -53,14 +53,18 @@ loop-again c =
     let f = retarget (s .a) (s .b) (s .t) in
     let turn = over-turn f (s .from) (l .i) (s .ids .now) (omega arith) (omega arith) (l .ids) in
     let skip = over-skip f (s .from) (l .i) (s .ids .now) (omega arith) (omega arith) (l .ids) (l .inv .4) in
-    let other : (x ≡ s .a → ⊥) → eqb (s .a) x ≡ false = λ n. ne-eqb (s .a) x (λ e. n (sym e)) in
-    (omega arith, omega arith, omega arith, omega arith,
-    ⊎-elim
-    (λ w. w .1 ∙ turn (s .t .a) (l .inv .4) (rw (eq-eqb (s .a) x (sym (w .0 .taken)))))
-    (⊎-elim
-    (λ w. w .2 ∙ turn (s .t .b) (l .inv .4) (rw (other (w .0 .left), eq-eqb (s .b) x (sym (w .1 .taken)))))
-    (λ w. w .2 ∙ skip (rw (other (w .0 .left), ne-eqb (s .b) x (λ e. w .1 .left (sym e))))))
-    (c .if1 .came))
+    let other : (x ≡ s .a → ⊥) → eqb (s .a) x ≡ false = λ n. ne-eqb (s .a) x (λ e. n (sym e)) in (
+      omega arith,
+      omega arith,
+      omega arith,
+      omega arith,
+      ⊎-elim
+          (λ w. w .1 ∙ turn (s .t .a) (l .inv .4) (rw (eq-eqb (s .a) x (sym (w .0 .taken)))))
+          (⊎-elim
+          (λ w. w .2 ∙ turn (s .t .b) (l .inv .4) (rw (other (w .0 .left), eq-eqb (s .b) x (sym (w .1 .taken)))))
+          (λ w. w .2 ∙ skip (rw (other (w .0 .left), ne-eqb (s .b) x (λ e. w .1 .left (sym e))))))
+          (c .if1 .came),
+    )
 
 returns : tie.Need-returns Inv-loop μ-loop
 returns c = let e : c .before .loop .i ≡ c .before .before .args .to = omega arith in rw (sym e) (c .before .loop .inv .4)

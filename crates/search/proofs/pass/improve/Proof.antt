@@ -14,9 +14,10 @@ returns : tie.Need-returns
 returns c =
     let s = c .before .before .args in
     let e = sceneOf (s .hall) (s .starts .now) (s .dots .now) (s .tracks .now) (s .filters .now) in
-    let able = c .before .before .pre .0 in
-    (c .run-passes .ensures .1,
-    λ ps ss g. finds e (s .next .0) (s .counters) (s .ids .now) ps ss (laws-hold e ps ss (g .parts)) (gathered-standing g (able .starts)) (gathered-now g) g able _ (c .run-passes .ensures .0))
+    let able = c .before .before .pre .0 in (
+      c .run-passes .ensures .1,
+      λ ps ss g. finds e (s .next .0) (s .counters) (s .ids .now) ps ss (laws-hold e ps ss (g .parts)) (gathered-standing g (able .starts)) (gathered-now g) g able _ (c .run-passes .ensures .0),
+    )
 
 pub improve-spec : {M : Type 1} → statement M
 improve-spec = tie.close (tie.spec run-passes-requires returns)

@@ -51,11 +51,12 @@ best-of-pair-requires c κs =
     let s = c .before .before .before .before .before .before .before .before .before .before .before .before .before .before .before .args in
     let e = sceneOf (s .hall) (s .starts .now) (s .dots .now) (s .tracks .now) (s .filters .now) in
     let a = getD (s .table .now) (s .i) 0 in
-    let b = getD (s .table .now) (s .j) 0 in
-    (record { early = c .before .before .before .before .before .before .before .before .before .before .before .before .before .before .before .pre .0 .early; kept = c .before .before .before .before .before .before .before .before .before .before .before .before .before .before .before .pre .7 },
-    row-fit e (s .ids .now) a (c .before .before .before .before .before .before .before .before .before .before .fill-row .ensures) (c .before .before .before .before .before .before .part-of .ensures),
-    row-fit e (s .ids .now) b (c .before .before .before .before .before .before .before .fill-row2 .ensures) (c .before .before .before .before .before .part-of2 .ensures),
-    c .before .before .before .before .before .before .before .before .before .before .before .before .before .before .before .pre .3)
+    let b = getD (s .table .now) (s .j) 0 in (
+      record { early = c .before .before .before .before .before .before .before .before .before .before .before .before .before .before .before .pre .0 .early; kept = c .before .before .before .before .before .before .before .before .before .before .before .before .before .before .before .pre .7 },
+      row-fit e (s .ids .now) a (c .before .before .before .before .before .before .before .before .before .before .fill-row .ensures) (c .before .before .before .before .before .before .part-of .ensures),
+      row-fit e (s .ids .now) b (c .before .before .before .before .before .before .before .fill-row2 .ensures) (c .before .before .before .before .before .part-of2 .ensures),
+      c .before .before .before .before .before .before .before .before .before .before .before .before .before .before .before .pre .3,
+    )
 
 pair-stays-requires : tie.Need-pair-stays-requires
 pair-stays-requires c κs = search needs
@@ -65,26 +66,28 @@ returns c =
     let s = c .before .before .before .before .before .before .before .before .before .before .before .before .before .before .before .before .before .before .args in
     let e = sceneOf (s .hall) (s .starts .now) (s .dots .now) (s .tracks .now) (s .filters .now) in
     let a = getD (s .table .now) (s .i) 0 in
-    let b = getD (s .table .now) (s .j) 0 in
-    ((λ n h l k.
-    let best = pair-best-is e (s .close .now) a b (s .ids .now) (c .before .before .before .before .before .before .before .before .before .part-of .ensures) (c .before .before .before .before .before .before .before .before .part-of2 .ensures) (c .before .before .before .before .before .before .before .before .before .before .before .before .before .fill-row .ensures) (c .before .before .before .before .before .before .before .before .before .before .fill-row2 .ensures)
-    (λ x. add binary64 (k .each (s .i) (omega (arith, h, c .before .before .before .before .before .before .before .before .before .before .before .before .before .before .before .before .before .before .pre .1)) x) (k .each (s .j) h x)) (c .before .before .best-of-pair .ensures .0) in
-    (pair-stays-is e (s .close .now) a b (s .ids .now) (s .t) best (sym (c .before .pair-stays .ensures) ∙ c .if1 .taken), k)),
-    c .before .before .before .before .before .before .before .before .before .before .before .before .before .before .before .before .before .before .pre .5,
-    c .before .before .before .before .before .before .before .before .before .before .before .before .before .before .before .before .before .before .pre .6,
-    c .before .before .best-of-pair .ensures .1)
+    let b = getD (s .table .now) (s .j) 0 in (
+      (λ n h l k.
+          let best = pair-best-is e (s .close .now) a b (s .ids .now) (c .before .before .before .before .before .before .before .before .before .part-of .ensures) (c .before .before .before .before .before .before .before .before .part-of2 .ensures) (c .before .before .before .before .before .before .before .before .before .before .before .before .before .fill-row .ensures) (c .before .before .before .before .before .before .before .before .before .before .fill-row2 .ensures)
+          (λ x. add binary64 (k .each (s .i) (omega (arith, h, c .before .before .before .before .before .before .before .before .before .before .before .before .before .before .before .before .before .before .pre .1)) x) (k .each (s .j) h x)) (c .before .before .best-of-pair .ensures .0) in
+          (pair-stays-is e (s .close .now) a b (s .ids .now) (s .t) best (sym (c .before .pair-stays .ensures) ∙ c .if1 .taken), k)),
+      c .before .before .before .before .before .before .before .before .before .before .before .before .before .before .before .before .before .before .pre .5,
+      c .before .before .before .before .before .before .before .before .before .before .before .before .before .before .before .before .before .before .pre .6,
+      c .before .before .best-of-pair .ensures .1,
+    )
 
 apply-pair-requires : tie.Need-apply-pair-requires
 apply-pair-requires c κs =
     let s = c .before .before .before .before .before .before .before .before .before .before .before .before .before .before .before .before .before .before .before .before .before .args in
     let e = sceneOf (s .hall) (s .starts .now) (s .dots .now) (s .tracks .now) (s .filters .now) in
     let a = getD (s .table .now) (s .i) 0 in
-    let b = getD (s .table .now) (s .j) 0 in
-    (c .before .before .before .before .before .before .before .before .before .before .before .before .before .before .before .before .before .before .before .before .before .pre .0 .early,
-    c .before .before .before .before .before .before .before .before .before .before .before .before .before .before .before .before .before .before .before .before .before .pre .0 .starts,
-    row-fit e (s .ids .now) a (c .before .before .before .before .before .before .before .before .before .before .before .before .before .before .before .before .fill-row .ensures) (c .before .before .before .before .before .before .before .before .before .before .before .before .part-of .ensures) .long,
-    row-fit e (s .ids .now) b (c .before .before .before .before .before .before .before .before .before .before .before .before .before .fill-row2 .ensures) (c .before .before .before .before .before .before .before .before .before .before .before .part-of2 .ensures) .long,
-    c .before .before .before .before .before .before .before .before .before .before .before .before .before .before .before .before .before .before .before .before .before .pre .5)
+    let b = getD (s .table .now) (s .j) 0 in (
+      c .before .before .before .before .before .before .before .before .before .before .before .before .before .before .before .before .before .before .before .before .before .pre .0 .early,
+      c .before .before .before .before .before .before .before .before .before .before .before .before .before .before .before .before .before .before .before .before .before .pre .0 .starts,
+      row-fit e (s .ids .now) a (c .before .before .before .before .before .before .before .before .before .before .before .before .before .before .before .before .fill-row .ensures) (c .before .before .before .before .before .before .before .before .before .before .before .before .part-of .ensures) .long,
+      row-fit e (s .ids .now) b (c .before .before .before .before .before .before .before .before .before .before .before .before .before .fill-row2 .ensures) (c .before .before .before .before .before .before .before .before .before .before .before .part-of2 .ensures) .long,
+      c .before .before .before .before .before .before .before .before .before .before .before .before .before .before .before .before .before .before .before .before .before .pre .5,
+    )
 
 track-cost-requires : tie.Need-track-cost-requires
 track-cost-requires c κs =
@@ -123,17 +126,19 @@ returns-2 c =
     let e = sceneOf (s .hall) (s .starts .now) (s .dots .now) (s .tracks .now) (s .filters .now) in
     let a = getD (s .table .now) (s .i) 0 in
     let b = getD (s .table .now) (s .j) 0 in
-    let long = pair-long e (c .before .before .before .before .before .before .before .before .before .before .before .before .before .before .before .before .before .before .before .before .before .before .before .before .before .before .before .before .before .pre .0 .starts) a b (s .ids .now) (c .before .before .before .before .before .before .before .before .before .before .before .before .before .before .before .before .before .before .before .before .before .before .before .before .before .before .before .before .before .pre .5) (c .before .before .before .before .before .before .before .before .before .before .before .before .before .best-of-pair .result) _ _ (c .before .before .before .before .before .before .before .apply-pair .ensures) in
-    ((λ n h l k.
-    let best = pair-best-is e (s .close .now) a b (s .ids .now) (c .before .before .before .before .before .before .before .before .before .before .before .before .before .before .before .before .before .before .before .before .part-of .ensures) (c .before .before .before .before .before .before .before .before .before .before .before .before .before .before .before .before .before .before .before .part-of2 .ensures) (c .before .before .before .before .before .before .before .before .before .before .before .before .before .before .before .before .before .before .before .before .before .before .before .before .fill-row .ensures) (c .before .before .before .before .before .before .before .before .before .before .before .before .before .before .before .before .before .before .before .before .before .fill-row2 .ensures)
-    (λ x. add binary64 (k .each (s .i) (omega (arith, h, c .before .before .before .before .before .before .before .before .before .before .before .before .before .before .before .before .before .before .before .before .before .before .before .before .before .before .before .before .before .pre .1)) x) (k .each (s .j) h x)) (c .before .before .before .before .before .before .before .before .before .before .before .before .before .best-of-pair .ensures .0) in
-    (pair-moves-is e (s .close .now) a b (s .ids .now) (s .t) best (sym (c .before .before .before .before .before .before .before .before .before .before .before .before .pair-stays .ensures) ∙ c .before .before .before .before .before .before .before .before .before .before .before .if1 .left) (c .before .before .before .before .before .before .before .before .before .before .before .before .before .before .before .before .before .before .before .before .before .before .before .before .fill-row .ensures) (c .before .before .before .before .before .before .before .before .before .before .before .before .before .before .before .before .before .before .before .before .before .fill-row2 .ensures) (c .before .before .before .before .before .before .before .apply-pair .ensures) (c .count-pair .ensures),
-    costed-anew l k (s .i) (s .j) (c .before .before .before .before .before .before .before .before .before .before .before .before .before .before .before .before .before .before .before .before .before .before .before .before .before .before .before .before .before .pre .1) h _ long
-    (pair-leaves e (c .before .before .before .before .before .before .before .before .before .before .before .before .before .before .before .before .before .before .before .before .before .before .before .before .before .before .before .before .before .pre .0 .starts) a b (s .ids .now) (c .before .before .before .before .before .before .before .before .before .before .before .before .before .before .before .before .before .before .before .before .before .before .before .before .before .before .before .before .before .pre .5) (c .before .before .before .before .before .before .before .before .before .before .before .before .before .best-of-pair .result) _ _ (c .before .before .before .before .before .before .before .apply-pair .ensures))
-    (c .before .before .before .before .track-cost .result) (c .before .track-cost2 .result) (c .before .before .before .before .track-cost .ensures .0) (c .before .track-cost2 .ensures .0))),
-    long,
-    length-set (set (s .costs .now) (s .i) (c .before .before .before .before .track-cost .result)) (s .j) (c .before .track-cost2 .result) ∙ length-set (s .costs .now) (s .i) (c .before .before .before .before .track-cost .result) ∙ c .before .before .before .before .before .before .before .before .before .before .before .before .before .before .before .before .before .before .before .before .before .before .before .before .before .before .before .before .before .pre .6,
-    c .before .track-cost2 .ensures .1)
+    let long = pair-long e (c .before .before .before .before .before .before .before .before .before .before .before .before .before .before .before .before .before .before .before .before .before .before .before .before .before .before .before .before .before .pre .0 .starts) a b (s .ids .now) (c .before .before .before .before .before .before .before .before .before .before .before .before .before .before .before .before .before .before .before .before .before .before .before .before .before .before .before .before .before .pre .5) (c .before .before .before .before .before .before .before .before .before .before .before .before .before .best-of-pair .result) _ _ (c .before .before .before .before .before .before .before .apply-pair .ensures) in (
+      (λ n h l k.
+          let best = pair-best-is e (s .close .now) a b (s .ids .now) (c .before .before .before .before .before .before .before .before .before .before .before .before .before .before .before .before .before .before .before .before .part-of .ensures) (c .before .before .before .before .before .before .before .before .before .before .before .before .before .before .before .before .before .before .before .part-of2 .ensures) (c .before .before .before .before .before .before .before .before .before .before .before .before .before .before .before .before .before .before .before .before .before .before .before .before .fill-row .ensures) (c .before .before .before .before .before .before .before .before .before .before .before .before .before .before .before .before .before .before .before .before .before .fill-row2 .ensures)
+          (λ x. add binary64 (k .each (s .i) (omega (arith, h, c .before .before .before .before .before .before .before .before .before .before .before .before .before .before .before .before .before .before .before .before .before .before .before .before .before .before .before .before .before .pre .1)) x) (k .each (s .j) h x)) (c .before .before .before .before .before .before .before .before .before .before .before .before .before .best-of-pair .ensures .0) in (
+            pair-moves-is e (s .close .now) a b (s .ids .now) (s .t) best (sym (c .before .before .before .before .before .before .before .before .before .before .before .before .pair-stays .ensures) ∙ c .before .before .before .before .before .before .before .before .before .before .before .if1 .left) (c .before .before .before .before .before .before .before .before .before .before .before .before .before .before .before .before .before .before .before .before .before .before .before .before .fill-row .ensures) (c .before .before .before .before .before .before .before .before .before .before .before .before .before .before .before .before .before .before .before .before .before .fill-row2 .ensures) (c .before .before .before .before .before .before .before .apply-pair .ensures) (c .count-pair .ensures),
+            costed-anew l k (s .i) (s .j) (c .before .before .before .before .before .before .before .before .before .before .before .before .before .before .before .before .before .before .before .before .before .before .before .before .before .before .before .before .before .pre .1) h _ long
+                (pair-leaves e (c .before .before .before .before .before .before .before .before .before .before .before .before .before .before .before .before .before .before .before .before .before .before .before .before .before .before .before .before .before .pre .0 .starts) a b (s .ids .now) (c .before .before .before .before .before .before .before .before .before .before .before .before .before .before .before .before .before .before .before .before .before .before .before .before .before .before .before .before .before .pre .5) (c .before .before .before .before .before .before .before .before .before .before .before .before .before .best-of-pair .result) _ _ (c .before .before .before .before .before .before .before .apply-pair .ensures))
+                (c .before .before .before .before .track-cost .result) (c .before .track-cost2 .result) (c .before .before .before .before .track-cost .ensures .0) (c .before .track-cost2 .ensures .0),
+          )),
+      long,
+      length-set (set (s .costs .now) (s .i) (c .before .before .before .before .track-cost .result)) (s .j) (c .before .track-cost2 .result) ∙ length-set (s .costs .now) (s .i) (c .before .before .before .before .track-cost .result) ∙ c .before .before .before .before .before .before .before .before .before .before .before .before .before .before .before .before .before .before .before .before .before .before .before .before .before .before .before .before .before .pre .6,
+      c .before .track-cost2 .ensures .1,
+    )
 
 pub pair-step-spec : {M : Type 1} → statement M
 pair-step-spec =

@@ -35,10 +35,11 @@ returns c =
     let b = c .before .before .before .before .before .before .before .before .before .before .before .before .before .before .before .before .before .before .before .before .before .present .ensures in
     let r = c .before .before .before .before .before .before .before .before .before .before .before .before .before .before .before .before .before .fill-rows .ensures in
     let w = c .before .before .before .before .before .sweep-pairs .ensures in
-    let v = c .visit-tracks .ensures in
-    (pass-is e (s .ids .now) (s .t0) (c .before .before .before .before .before .before .before .before .before .before .before .before .before .before .before .before .before .before .before .before .before .present .result) _ (b .is) (c .before .before .before .before .before .before .before .before .before .before .before .begin .ensures) (w .0 (s .ids .now) r) (v .0),
-    v .1,
-    record { table-long = b .long; rows-long = r .long; costs-long = w .1 .long; kept = v .2 })
+    let v = c .visit-tracks .ensures in (
+      pass-is e (s .ids .now) (s .t0) (c .before .before .before .before .before .before .before .before .before .before .before .before .before .before .before .before .before .before .before .before .before .present .result) _ (b .is) (c .before .before .before .before .before .before .before .before .before .before .before .begin .ensures) (w .0 (s .ids .now) r) (v .0),
+      v .1,
+      record { table-long = b .long; rows-long = r .long; costs-long = w .1 .long; kept = v .2 },
+    )
 
 pub run-pass-spec : {M : Type 1} → statement M
 run-pass-spec =

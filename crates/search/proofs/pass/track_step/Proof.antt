@@ -39,10 +39,11 @@ returns-2 : tie.Need-returns-2
 returns-2 c =
     let s = c .before .before .before .before .before .before .before .before .before .before .before .before .args in
     let e = sceneOf (s .hall) (s .starts .now) (s .dots .now) (s .tracks .now) (s .filters .now) in
-    let best = track-best-is e (s .a) (s .ids .now) (c .before .before .before .before .before .before .before .before .part-of .ensures) (c .before .before .before .before .before .before .before .before .before .fill-row .ensures) (c .before .before .before .before .before .before .before .before .before .before .before .before .pre .2) (c .before .before .before .before .before .best-of-track .ensures .0) in
-    (track-moves-is e (s .a) (s .ids .now) (s .t) best (sym (c .before .before .before .before .track-stays .ensures) ∙ c .before .before .before .if1 .left) (c .before .apply-track .ensures) (c .count-track .ensures),
-    track-long e (c .before .before .before .before .before .before .before .before .before .before .before .before .pre .0 .starts) (s .a) (s .t .next) (s .ids .now) (c .before .before .before .before .before .before .before .before .before .before .before .before .pre .1) (c .before .before .before .before .before .best-of-track .result) (c .before .apply-track .ensures),
-    c .before .before .before .before .before .best-of-track .ensures .1)
+    let best = track-best-is e (s .a) (s .ids .now) (c .before .before .before .before .before .before .before .before .part-of .ensures) (c .before .before .before .before .before .before .before .before .before .fill-row .ensures) (c .before .before .before .before .before .before .before .before .before .before .before .before .pre .2) (c .before .before .before .before .before .best-of-track .ensures .0) in (
+      track-moves-is e (s .a) (s .ids .now) (s .t) best (sym (c .before .before .before .before .track-stays .ensures) ∙ c .before .before .before .if1 .left) (c .before .apply-track .ensures) (c .count-track .ensures),
+      track-long e (c .before .before .before .before .before .before .before .before .before .before .before .before .pre .0 .starts) (s .a) (s .t .next) (s .ids .now) (c .before .before .before .before .before .before .before .before .before .before .before .before .pre .1) (c .before .before .before .before .before .best-of-track .result) (c .before .apply-track .ensures),
+      c .before .before .before .before .before .best-of-track .ensures .1,
+    )
 
 pub track-step-spec : {M : Type 1} → statement M
 track-step-spec =

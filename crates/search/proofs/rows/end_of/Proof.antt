@@ -51,12 +51,14 @@ loop-again : tie.Need-loop-again Inv-loop μ-loop
 loop-again c = let r = c .before .before .before .before .args .row .now in
     let o = c .before .before .before .loop in
     let next : Bool → ℕ = λ t. cond t (o .k + 1) (o .e) in
-    let x = getD r (o .k) 0 in
-    (omega arith, omega arith,
-    o .inv .2
-    ∙ turns r (o .k) (o .e) (omega arith)
-    ∙ ap (λ (v : ℕ). endFrom (o .k + 1) v (drop (o .k + 1) r))
-    (⊎-elim (λ w. ap next (lt-ltb 0 x (w .0 .taken)) ∙ sym (w .1)) (λ w. ap next (le-ltb 0 x (w .0 .left)) ∙ sym (w .1)) (c .if1 .came)))
+    let x = getD r (o .k) 0 in (
+      omega arith,
+      omega arith,
+      o .inv .2
+          ∙ turns r (o .k) (o .e) (omega arith)
+          ∙ ap (λ (v : ℕ). endFrom (o .k + 1) v (drop (o .k + 1) r))
+          (⊎-elim (λ w. ap next (lt-ltb 0 x (w .0 .taken)) ∙ sym (w .1)) (λ w. ap next (le-ltb 0 x (w .0 .left)) ∙ sym (w .1)) (c .if1 .came)),
+    )
 
 returns : tie.Need-returns Inv-loop μ-loop
 returns c = let r = c .before .before .args .row .now in

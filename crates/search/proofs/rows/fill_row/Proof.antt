@@ -1,14 +1,12 @@
 -- `search::rows::fill_row` meets its contract. Assumes nothing.
-use mathlib.Core.Path.{_≡_, sym, ap, _∙_}
+use mathlib.Core.Path.{_≡_, refl, sym, ap, _∙_}
 use mathlib.Core.List.{List}
-use Prim.Native.Nat.{ℕ, suc, _+_, _-_, _≤_, _<_}
-use native.Mathlib.Nat.{zero-add}
+use Prim.Native.Nat.{ℕ, suc, _+_, _-_, _<_}
 use native.Mathlib.Numerals.{add-one}
 use native.Mathlib.Omega.{arith}
-use lib.ListN.{length, getD}
-use lib.Seq.{paste, paste-zero}
-use Rattle.search.specs.Rows.{segment, slotIn, Starts, rowOf}
-use Rattle.search.proofs.Arrays.{paste-turn, paste-whole}
+use lib.ListN.{getD}
+use Rattle.search.specs.Rows.{segment, slotIn, rowOf}
+use Rattle.search.proofs.Filled.{Filling, fills, filled, filled-length}
 use Rattle.search.proofs.Renamed.{starts-within}
 use Rattle.search.proofs.RowSlots.{row-length, row-at}
 use Rattle.search.proofs.rows.fill_row.Statement.{statement}
@@ -20,13 +18,13 @@ slot-is starts ids x k v h e =
     e ∙ ap (λ (m : ℕ). slotIn x (getD starts k 0) (segment (getD starts k 0) (getD starts m 0) ids)) (add-one k) ∙ sym (row-at starts ids x k h)
 
 abbrev Inv-loop : tie.InvT-loop
-Inv-loop x starts ids row₀ k₀ row k = (k ≤ 17) × Starts starts × (length ids ≡ 128) × (length row₀ ≡ 17) × (row ≡ paste row₀ 0 (rowOf starts ids x) k)
+Inv-loop x starts ids row₀ k₀ row k = Filling 17 (rowOf starts ids x) row₀ row k
 
 abbrev μ-loop : tie.MeasureT-loop
 μ-loop x starts ids row₀ k₀ row k = 17 - k
 
 loop-holds : tie.Need-loop-holds Inv-loop μ-loop
-loop-holds c = (omega arith, c .pre .0, omega arith, omega arith, paste-zero (c .args .row .now) 0 (rowOf (c .args .starts .now) (c .args .ids .now) (c .args .x)))
+loop-holds c = record { within = omega arith; new = row-length (c .args .starts .now) (c .args .ids .now) (c .args .x); old = c .pre .2; is = refl }
 
 mul-slot-in : tie.Need-mul-slot-in Inv-loop μ-loop
 mul-slot-in c = omega arith
@@ -45,14 +43,15 @@ element-copy-out-slot-in-2 c = omega arith
 
 slot-in-requires : tie.Need-slot-in-requires Inv-loop μ-loop
 slot-in-requires c κs =
-    let o = c .before .before .before .loop in
-    (rw (add-one (o .k)) (starts-within (o .inv .1) (suc (o .k)) (omega arith)), o .inv .2)
+    let p = c .before .before .before .before .pre in
+    let k = c .before .before .before .loop .k in
+    (rw (add-one k) (starts-within (p .0) (suc k) (omega arith)), p .1)
 
 mul-row : tie.Need-mul-row Inv-loop μ-loop
 mul-row c = omega arith
 
 element-write-row : tie.Need-element-write-row Inv-loop μ-loop
-element-write-row c = omega arith
+element-write-row c = omega (arith, filled-length (c .before .before .before .before .loop .inv))
 
 add-k : tie.Need-add-k Inv-loop μ-loop
 add-k c = omega arith
@@ -64,18 +63,10 @@ loop-again : tie.Need-loop-again Inv-loop μ-loop
 loop-again c =
     let s = c .before .before .before .before .before .args in
     let o = c .before .before .before .before .loop in
-    let t = rowOf (s .starts .now) (s .ids .now) (s .x) in
-    let n = row-length (s .starts .now) (s .ids .now) (s .x) in
-    (omega arith, o .inv .1, o .inv .2, o .inv .3,
-    paste-turn (s .row .now) 0 t (o .k) 0 (o .row) (o .k) (c .slot-in .result) (omega arith) (omega arith) (o .inv .4) (sym (zero-add (o .k)))
-    (slot-is (s .starts .now) (s .ids .now) (s .x) (o .k) (c .slot-in .result) (omega arith) (c .slot-in .ensures)))
+    fills (o .inv) _ 0 (omega arith) (slot-is (s .starts .now) (s .ids .now) (s .x) (o .k) (c .slot-in .result) (omega arith) (c .slot-in .ensures))
 
 returns : tie.Need-returns Inv-loop μ-loop
-returns c = let s = c .before .before .args in
-    let o = c .before .loop in
-    let t = rowOf (s .starts .now) (s .ids .now) (s .x) in
-    let e : o .k ≡ 17 = omega arith in
-    o .inv .4 ∙ ap (paste (s .row .now) 0 t) e ∙ paste-whole (s .row .now) t 17 (omega arith) (row-length (s .starts .now) (s .ids .now) (s .x))
+returns c = filled (c .before .loop .inv) (omega arith)
 
 pub fill-row-spec : {M : Type 1} → statement M
 fill-row-spec =

@@ -42,9 +42,11 @@ loop-again : tie.Need-loop-again Inv-loop μ-loop
 loop-again c =
     let s = c .before .before .before .before .before .before .before .before .args in
     let o = c .before .before .before .before .before .before .before .loop in
-    let e = c .before .before .before .fill-row .ensures in
-    (omega arith, ap length e ∙ row-length (s .starts .now) (s .ids .now) (getD (s .table .now) (o .i) 0),
-    tabled-more (s .starts .now) (s .ids .now) (s .table .now) (o .rows) _ _ (o .i) (o .inv .2) (omega arith) e (c .put-entry .ensures))
+    let e = c .before .before .before .fill-row .ensures in (
+      omega arith,
+      ap length e ∙ row-length (s .starts .now) (s .ids .now) (getD (s .table .now) (o .i) 0),
+      tabled-more (s .starts .now) (s .ids .now) (s .table .now) (o .rows) _ _ (o .i) (o .inv .2) (omega arith) e (c .put-entry .ensures),
+    )
 
 returns : tie.Need-returns Inv-loop μ-loop
 returns c =
