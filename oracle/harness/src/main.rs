@@ -1,11 +1,14 @@
-//! Runs a recording through the published refiner and smoother and prints what refine, frames or smooth should print.
+//! Runs a recording through the published refiner and smoother and prints what refine, frames or smooth should print; or calls of a smoother, and prints what
+//! smoother_frames should print.
 //!
 //!     oracle refine|frames|smooth < RECORDING
+//!     oracle smoother_frames < CALLS
 //!
 //! The refusals are not the published code's: they are worked out here from document 01, so that the published code sees the accepted frames only.
 #![allow(dead_code)]
 
 mod arithmetic;
+mod calls;
 mod engine;
 mod fgo;
 mod models;
@@ -165,16 +168,23 @@ fn full(r: &FixedLagRefiner, f: &LidarFrameOutput) -> Option<u32> {
 }
 
 fn main() {
-    let program = match std::env::args().nth(1).as_deref() {
-        Some("refine") => Program::Refine,
-        Some("frames") => Program::Frames,
-        Some("smooth") => Program::Smooth,
-        _ => panic!("oracle refine|frames|smooth < RECORDING"),
-    };
+    let name = std::env::args().nth(1).unwrap_or_default();
     let mut bytes = Vec::new();
     std::io::stdin().read_to_end(&mut bytes).unwrap();
     let stdout = std::io::stdout();
     let mut out = std::io::BufWriter::new(stdout.lock());
+    if name == "smoother_frames" {
+        return calls::play(&bytes, |told| match told {
+            Ok(f) => print_frame(&mut out, Program::Frames, &f),
+            Err(n) => writeln!(out, "refused {n}").unwrap(),
+        });
+    }
+    let program = match name.as_str() {
+        "refine" => Program::Refine,
+        "frames" => Program::Frames,
+        "smooth" => Program::Smooth,
+        _ => panic!("oracle refine|frames|smooth < RECORDING, or oracle smoother_frames < CALLS"),
+    };
     let (config, bodies) = match reading::recording(&bytes) {
         Ok(r) => r,
         Err(n) => {

@@ -1,0 +1,100 @@
+// Text for standard output, gathered in a buffer and written when that is full. Each function takes how many bytes are gathered, and gives it back.
+use libc::STDOUT_FILENO;
+use scalar::bits;
+
+// The most bytes gathered.
+pub const ROOM: usize = 4096;
+
+// The first n bytes are written; nothing is left.
+pub fn flush(out: &[u8; ROOM], n: usize) -> usize {
+    let all = &out[..];
+    if n <= all.len() {
+        io::write_all(STDOUT_FILENO, &all[..n]);
+    }
+    0
+}
+
+pub fn put_byte(out: &mut [u8; ROOM], n: usize, b: u8) -> usize {
+    if n < ROOM {
+        out[n] = b;
+        return n + 1;
+    }
+    flush(out, ROOM);
+    out[0] = b;
+    1
+}
+
+pub fn put_bytes<'a>(out: &'a mut [u8; ROOM], n: usize, s: &[u8]) -> usize {
+    let mut at = n;
+    let mut i: usize = 0;
+    while i < s.len() {
+        at = put_byte(out, at, s[i]);
+        i += 1;
+    }
+    at
+}
+
+// A number in decimal, after a space.
+pub fn put_decimal(out: &mut [u8; ROOM], n: usize, x: u64) -> usize {
+    let mut text = [0u8; 20];
+    let k = io::decimal(x, &mut text);
+    let at = put_byte(out, n, b' ');
+    put_bytes(out, at, &text[..k])
+}
+
+// A number in two's complement, signed, in decimal, after a space.
+pub fn put_signed(out: &mut [u8; ROOM], n: usize, word: u64) -> usize {
+    if word < 0x8000_0000_0000_0000 {
+        return put_decimal(out, n, word);
+    }
+    let mut text = [0u8; 20];
+    let k = io::decimal(18446744073709551615 - word + 1, &mut text);
+    let at = put_bytes(out, n, b" -");
+    put_bytes(out, at, &text[..k])
+}
+
+// A number in 16 hexadecimal digits, after a space.
+pub fn put_hex(out: &mut [u8; ROOM], n: usize, x: u64) -> usize {
+    let mut text = [0u8; 16];
+    let k = io::hex(x, 16, &mut text);
+    let at = put_byte(out, n, b' ');
+    put_bytes(out, at, &text[..k])
+}
+
+fn put_words(out: &mut [u8; ROOM], n: usize, words: &[u64]) -> usize {
+    let mut at = put_bytes(out, n, b"words");
+    let mut i: usize = 0;
+    while i < words.len() {
+        at = put_decimal(out, at, words[i]);
+        i += 1;
+    }
+    put_byte(out, at, b'\n')
+}
+
+fn put_numbers(out: &mut [u8; ROOM], n: usize, numbers: &[f64]) -> usize {
+    let mut at = put_bytes(out, n, b"numbers");
+    let mut i: usize = 0;
+    while i < numbers.len() {
+        at = put_hex(out, at, bits::to_bits(numbers[i]));
+        i += 1;
+    }
+    put_byte(out, at, b'\n')
+}
+
+// A frame in full: a line of its words, and a line of its numbers.
+pub fn put_frame<'a>(
+    out: &mut [u8; ROOM],
+    n: usize,
+    words: &'a [u64],
+    numbers: &'a [f64],
+) -> usize {
+    let at = put_words(out, n, words);
+    put_numbers(out, at, numbers)
+}
+
+// The line of a refusal.
+pub fn put_refused(out: &mut [u8; ROOM], n: usize, code: u8) -> usize {
+    let mut at = put_bytes(out, n, b"refused");
+    at = put_decimal(out, at, code as u64);
+    put_byte(out, at, b'\n')
+}

@@ -1,0 +1,2 @@
+// Plays a recording through the refiner and prints what comes out.
+pub mod print;

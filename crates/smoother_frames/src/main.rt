@@ -1,0 +1,268 @@
+// Plays calls of a smoother from standard input and prints each answer: `refused N`; nothing where a frame is held; or a frame, its words in decimal and
+// its numbers in hexadecimal.
+//
+// The input is of 64-bit words, little-endian: lag, density, C; then one call after the other: 0 takes; 1, a number of words, a number of numbers, those
+// words and those numbers push a frame. It ends with the input, or with anything else. In `stdin` there are ids that stand twice, dense and broken
+// covariances, NaN and infinities, times that are equal or go back, takes in between, and frames malformed in each way.
+use engine::little;
+use libc::STDIN_FILENO;
+use lines::ROOM;
+use scalar::bits;
+use smoother::Answer;
+use smoother::FixedLagSmoother;
+use smoother::Opened;
+ghost use mathlib.Core.Path.{_≡_};
+ghost use Prim.Native.Nat.{_+_, _<_, _≤_};
+
+// The words and numbers of the longest frame.
+const WORDS: usize = 910;
+
+const NUMBERS: usize = 5408;
+
+// Those of the longest window: 17 frames.
+const WINDOW: usize = 15470;
+
+const VALUES: usize = 91936;
+
+// Word i of the input, 0 past its end.
+fn word(s: &[u8], i: usize) -> u64 {
+    if i < s.len() / 8 {
+        return little::u64_at(s, 8 * i);
+    }
+    0
+}
+
+// As many words from word i on as fill the list.
+fn read_words(s: &[u8], i: usize, words: &mut [u64])
+    requires { ⌜ i < 4611686018427387904 ⌝ }
+{
+    let mut k: usize = 0;
+    while k < words.len() {
+        words[k] = word(s, i + k);
+        k += 1;
+    }
+}
+
+// The same, read as numbers.
+fn read_numbers(s: &[u8], i: usize, numbers: &mut [f64])
+    requires { ⌜ i < 4611686018427387904 ⌝ }
+{
+    let mut k: usize = 0;
+    while k < numbers.len() {
+        numbers[k] = bits::from_bits(word(s, i + k));
+        k += 1;
+    }
+}
+
+// The line of a refusal, or the lines of a frame.
+fn put_answer<'a>(
+    out: &mut [u8; ROOM],
+    n: usize,
+    a: Answer,
+    words: &'a [u64],
+    numbers: &'a [f64],
+) -> usize {
+    match a {
+        Answer::Refused(code) => lines::put_refused(out, n, code),
+        Answer::Held => n,
+        Answer::Frame {
+            words: w,
+            numbers: x,
+        } => {
+            if words.len() < w {
+                return n;
+            }
+            if numbers.len() < x {
+                return n;
+            }
+            lines::put_frame(out, n, &words[..w], &numbers[..x])
+        }
+    }
+}
+
+// Where a run stands: the smoother, the bytes gathered for output, and the next word of the input.
+struct Player {
+    state: FixedLagSmoother,
+    gathered: usize,
+    at: usize,
+}
+
+// The oldest frame, taken.
+fn take_one<'a, 'b, 'c, 'd>(
+    p: Player,
+    window: &'d [u64],
+    values: &'d [f64],
+    words: &'a mut [u64],
+    numbers: &'b mut [f64],
+    out: &'c mut [u8; ROOM],
+) -> Player
+    requires { ⌜ p .at < 4611686018427387904 ⌝ }
+    ensures { λ q. ⌜ q .at ≡ p .at + 1 ⌝ }
+{
+    let state = p.state;
+    let at = p.at + 1;
+    let gathered = p.gathered;
+    let t = state.take(window, values, words, numbers);
+    let answer = t.answer;
+    let next = t.state;
+    let n = put_answer(out, gathered, answer, words, numbers);
+    Player {
+        state: next,
+        gathered: n,
+        at,
+    }
+}
+
+// A run that is over.
+fn ended(p: Player) -> Player
+    requires { ⌜ p .at < 2305843009213693952 ⌝ }
+    ensures { λ q. ⌜ p .at < q .at ⌝ }
+{
+    let state = p.state;
+    Player {
+        state,
+        gathered: p.gathered,
+        at: 2305843009213693952,
+    }
+}
+
+// A frame, pushed; the run goes on after it.
+fn push_one<'a, 'b, 'c, 'd, 'e, 'f>(
+    p: Player,
+    fw: &'f [u64],
+    fx: &'f [f64],
+    window: &'a mut [u64],
+    values: &'b mut [f64],
+    words: &'c mut [u64],
+    numbers: &'d mut [f64],
+    out: &'e mut [u8; ROOM],
+) -> Player
+    requires { ⌜ p .at < 2305843009213693952 ⌝ }
+    ensures { λ q. ⌜ p .at < q .at ⌝ }
+{
+    let state = p.state;
+    let at = p.at + 3 + fw.len() + fx.len();
+    let gathered = p.gathered;
+    let t = state.push(window, values, fw, fx, words, numbers);
+    let answer = t.answer;
+    let next = t.state;
+    let n = put_answer(out, gathered, answer, words, numbers);
+    Player {
+        state: next,
+        gathered: n,
+        at,
+    }
+}
+
+// The call at a run's place.
+fn call<'a, 'b, 'c, 'd, 'e, 'f, 'g, 'h>(
+    p: Player,
+    s: &'h [u8],
+    window: &'a mut [u64],
+    values: &'b mut [f64],
+    frame: &'c mut [u64],
+    given: &'d mut [f64],
+    words: &'e mut [u64],
+    numbers: &'f mut [f64],
+    out: &'g mut [u8; ROOM],
+) -> Player
+    requires { ⌜ p .at < 2305843009213693952 ⌝ }
+    ensures { λ q. ⌜ p .at < q .at ⌝ }
+{
+    let at = p.at;
+    let kind = word(s, at);
+    let w = word(s, at + 1);
+    let x = word(s, at + 2);
+    if kind == 0 {
+        return take_one(p, window, values, words, numbers, out);
+    }
+    if kind != 1 {
+        return ended(p);
+    }
+    if (frame.len() as u64) < w {
+        return ended(p);
+    }
+    if (given.len() as u64) < x {
+        return ended(p);
+    }
+    let fw = &mut frame[..w as usize];
+    let fx = &mut given[..x as usize];
+    read_words(s, at + 3, fw);
+    read_numbers(s, at + 3 + w as usize, fx);
+    push_one(p, fw, fx, window, values, words, numbers, out)
+}
+
+// The calls, from the fourth word on.
+fn play<'a, 'b, 'c>(
+    s: &'c [u8],
+    state: FixedLagSmoother,
+    window: &'a mut [u64],
+    values: &'b mut [f64],
+) {
+    let mut frame_words = [0u64; WORDS];
+    let mut frame_numbers = [0.0; NUMBERS];
+    let mut out_words = [0u64; WORDS];
+    let mut out_numbers = [0.0; NUMBERS];
+    let fw: &mut [u64] = &mut frame_words;
+    let fx: &mut [f64] = &mut frame_numbers;
+    let words: &mut [u64] = &mut out_words;
+    let numbers: &mut [f64] = &mut out_numbers;
+    let mut out = [0u8; ROOM];
+    let mut p = Player {
+        state,
+        gathered: 0,
+        at: 3,
+    };
+    while p.at < s.len() / 8 {
+        p = call(p, s, window, values, fw, fx, words, numbers, &mut out);
+    }
+    lines::flush(&out, p.gathered);
+}
+
+// The calls, or the refusal that opening gets.
+fn open<'a, 'b, 'c>(s: &'c [u8], window: &'a mut [u64], values: &'b mut [f64]) {
+    let density = bits::from_bits(word(s, 1));
+    let lag = word(s, 0) as usize;
+    let most = word(s, 2) as usize;
+    let o = FixedLagSmoother::open(lag, density, most, window, values);
+    match o {
+        Opened::Refused(code) => {
+            let mut out = [0u8; ROOM];
+            let n = lines::put_refused(&mut out, 0, code);
+            lines::flush(&out, n);
+        }
+        Opened::Ready(state) => {
+            play(s, state, window, values);
+        }
+    }
+}
+
+// What so many slots of a window hold.
+fn room(slots: usize, each: usize) -> usize
+    requires { ⌜ (slots ≤ 17) × (each ≤ 5408) ⌝ }
+{
+    slots * each
+}
+
+// A run with a window of the length that lag and C ask for, where these are in bounds.
+fn begin<'a, 'b, 'c>(s: &'c [u8], window: &'a mut [u64], values: &'b mut [f64]) {
+    let slots = (word(s, 0) % 17 + 1) as usize;
+    let most = (word(s, 2) % 129) as usize;
+    let w = room(slots, 142 + 6 * most);
+    let x = room(slots, 32 + 42 * most);
+    if window.len() < w {
+        return;
+    }
+    if values.len() < x {
+        return;
+    }
+    open(s, &mut window[..w], &mut values[..x]);
+}
+
+fn main() {
+    let mut buffer = io::large_buffer();
+    let n = io::read_full(STDIN_FILENO, &mut buffer);
+    let mut window = [0u64; WINDOW];
+    let mut values = [0.0; VALUES];
+    begin(&buffer[..n], &mut window, &mut values);
+}
