@@ -1,32 +1,31 @@
 -- A frame that no number refuses, at a refiner that meets the rule: the rule and the room as the model has them, and what holding the frame asks.
 -- Assumes nothing.
-use Prim.Native.Nat.{ℕ, zero, suc, _+_, _-_, _*_, _^_, _≤_, _<_}
+use Prim.Native.Nat.{ℕ, zero, suc, _+_, _*_, _≤_, _<_}
 use native.Mathlib.Omega.{arith}
-use mathlib.Core.Path.{_≡_, refl, sym, ap, subst, _∙_}
+use mathlib.Core.Path.{_≡_, refl, _∙_}
 use mathlib.Core.Bool.{Bool, true, false, _||_}
-use mathlib.Core.List.{List, [], _∷_, _++_}
-use mathlib.Core.Option.{Option, none, some, Option·some-ne-none}
-use lib.ListN.{length, take, drop, getD}
-use lib.Dec.{leb, ltb}
+use mathlib.Core.List.{List, [], _∷_}
+use mathlib.Core.Option.{none, Option·some-ne-none}
+use lib.ListN.{take, drop, getD}
 use mir.Syntax.{w8}
 use mir.Val.{Fits}
 use borrow.Author.Tests.{ltb-false, leb-false}
-use Rattle.engine.specs.Frame.{Frame}
 use Rattle.engine.specs.Body.{narrow, refusal, frameOf}
 use Rattle.engine.proofs.Every.{both}
 use Rattle.engine.proofs.Settings.{legal-tells}
-use Rattle.model.specs.Refiner.{State, firstOf}
+use Rattle.model.specs.Refiner.{firstOf}
 use Rattle.model.specs.Rule.{All, Bytes, Spoken, Rule, ruleOk}
 use Rattle.model.proofs.RuleLaw.{rule-of}
 use Rattle.model.proofs.Accepting.{Room, has-room}
 use Rattle.fgo.specs.declared.state.FixedLagRefiner.{FixedLagRefiner}
-use Rattle.fgo.specs.Memory.{Memory, bodyAt, scanIn, scansIn, lengthAt, slotAt, stateOf}
+use Rattle.fgo.specs.Memory.{Memory, bodyAt, scanIn, lengthAt, slotAt, stateOf}
 use Rattle.fgo.specs.Sound.{bodiesOk, soundOk}
-use Rattle.fgo.specs.Refusing.{fullIn, pushRefusal}
+use Rattle.fgo.specs.Refusing.{fullIn}
 use Rattle.fgo.specs.Arriving.{Lent, Holds, Arrives}
-use Rattle.fgo.proofs.OwnedGathered.{rows-All}
-use Rattle.fgo.proofs.ReadyLaw.{sound-kept, bodies-pass}
-use Rattle.fgo.proofs.Refusals.{found, found-same, none-found}
+use Rattle.fgo.proofs.Rows.{rows-all}
+use Rattle.fgo.proofs.Counted.{body-passes}
+use Rattle.fgo.proofs.ReadyLaw.{sound-kept}
+use Rattle.fgo.proofs.Refusals.{found-same, none-found}
 
 -- ---- bytes
 
@@ -99,19 +98,14 @@ module _ (r : FixedLagRefiner) (m : Memory) (s : List ℕ) (a : Arrives r m s) w
 
   module _ (l : Lent (m .bodies) (m .columns) (m .owners)) where
     pub rule : Rule (r .config) (stateOf r m)
-    unfolding soundOk stateOf
+    unfolding soundOk stateOf scanIn
     rule =
         let h = both (bodiesOk (m .bodies) (m .columns) (r .first .0) (r .held)) (ruleOk (r .config) (stateOf r m)) (a .sound) in
         rule-of (r .config) (stateOf r m) (h .1)
-        (rows-All (λ x. Spoken (x .frame)) (scanIn (m .bodies) (m .columns)) (r .first .0) (r .held) (λ n p q. spoken (h .0) n p q))
-      where
-        spoken : bodiesOk (m .bodies) (m .columns) (r .first .0) (r .held) ≡ true → (n : ℕ) → r .first .0 ≤ n → n < r .first .0 + r .held → Spoken (scanIn (m .bodies) (m .columns) n .frame)
-        spoken h n p q = unfold scanIn in (
-          bodyAt (m .bodies) (m .columns) n,
-          bytes-held (m .bodies) (m .columns) n (l .bytes),
-          (let e : r .first .0 + (n - r .first .0) ≡ n = omega arith in subst (λ (i : ℕ). refusal narrow (bodyAt (m .bodies) (m .columns) i) ≡ 0) e (bodies-pass r m h (n - r .first .0) (omega arith))),
-          refl,
-        )
+        (rows-all (λ x. Spoken (x .frame)) (scanIn (m .bodies) (m .columns)) (r .first .0) (r .held)
+        (λ k q.
+        let n = r .first .0 + k in
+        (bodyAt (m .bodies) (m .columns) n, bytes-held (m .bodies) (m .columns) n (l .bytes), body-passes (m .bodies) (m .columns) (r .first .0) (r .held) (h .0) k q, refl)))
 
     pub holds : Holds r s (m .bodies) (m .columns) (m .owners)
     holds =

@@ -1,5 +1,5 @@
 -- The search, and the owners told anew: the state is the one of the refiner as defined, and the oldest scan may leave. Assumes nothing.
-use Prim.Native.Nat.{ℕ, suc, _+_, _*_, _≤_, _<_}
+use Prim.Native.Nat.{ℕ, _+_, _*_, _≤_, _<_}
 use native.Mathlib.Numerals.{add-one}
 use native.Mathlib.Omega.{arith}
 use mathlib.Core.Path.{_≡_, refl, sym, ap, subst, fun-ext, _∙_}
@@ -9,7 +9,7 @@ use Rattle.engine.specs.Frame.{Frame}
 use Rattle.engine.specs.Body.{narrow, frameOf}
 use Rattle.engine.proofs.Passing.{length-rows}
 use Rattle.model.specs.Lists.{keep}
-use Rattle.model.specs.Windows.{Scan, detections, live}
+use Rattle.model.specs.Windows.{detections}
 use Rattle.model.specs.Searching as searching
 use Rattle.model.specs.Searching.{improve}
 use Rattle.model.specs.Owning.{latest, liveOwners, reown}
@@ -19,7 +19,7 @@ use Rattle.model.proofs.Counting.{count-le}
 use Rattle.model.proofs.Arrival.{arrived}
 use Rattle.search.specs.declared.moves.Tally.{Tally}
 use Rattle.fgo.specs.declared.state.FixedLagRefiner.{FixedLagRefiner}
-use Rattle.fgo.specs.Memory.{Memory, memory, scanIn, scansIn, entryIn, tableIn, ownersIn, stateOf}
+use Rattle.fgo.specs.Memory.{Memory, memory, scansIn, entryIn, ownersIn, stateOf}
 use Rattle.fgo.specs.Sound.{liveIn}
 use Rattle.fgo.specs.Promise.{keptOwners, Ready}
 use Rattle.fgo.specs.Arriving.{Lent, Arrives, HeldBy, foundIn, Searched, Arrived}
@@ -109,17 +109,25 @@ module _ (r : FixedLagRefiner) (m : Memory) (s : List ℕ) (a : Arrives r m s) (
       few-owners : k ≤ 256
       unfolding keptOwners
       few-owners =
-          omega
-          (arith, owners-long owners″ k, owners-long owners′ (w .owned), ap length o,
-          count-le (λ p. liveIn bodies columns′ (r .first .0) (r .held + 1) (m .tracks) (r .frozen) (p .1)) (ownersIn owners′ (w .owned)), h .owned)
+          omega (
+            arith,
+            owners-long owners″ k,
+            owners-long owners′ (w .owned),
+            ap length o,
+            count-le (λ p. liveIn bodies columns′ (r .first .0) (r .held + 1) (m .tracks) (r .frozen) (p .1)) (ownersIn owners′ (w .owned)),
+            h .owned,
+          )
 
       room-left : r .frozen + detections (scansIn bodies columns′ (r .first .0) (r .held + 1)) ≤ 128
       unfolding stateOf
       room-left =
           subst (λ ss. r .frozen + detections ss ≤ 128) (sym scans-as)
-          (omega
-          (arith, arrived (r .config) t f (λ x. x < t .next) (before (r .config) t f (rule r m s a l)) .few, room r m s a .sum,
-          length-rows (entryIn (m .tracks) (m .filters)) 0 (r .frozen)))
+          (omega (
+            arith,
+            arrived (r .config) t f (λ x. x < t .next) (before (r .config) t f (rule r m s a l)) .few,
+            room r m s a .sum,
+            length-rows (entryIn (m .tracks) (m .filters)) 0 (r .frozen),
+          ))
 
       ready : Ready (after w k y) m″
       ready =

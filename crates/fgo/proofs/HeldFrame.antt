@@ -4,41 +4,34 @@ use native.Mathlib.Nat.{le-refl, le-trans}
 use native.Mathlib.Decide.{decLt}
 use native.Mathlib.Omega.{arith}
 use mathlib.Core.Path.{_≡_, refl, sym, ap, subst, _∙_}
-use mathlib.Core.Bool.{true}
 use mathlib.Core.List.{List, [], _∷_, _++_}
 use mathlib.Core.Logic.{inl, inr}
 use mathlib.Core.Option.{Option, none, some}
 use lib.ListN.{length}
-use Rattle.engine.specs.Config.{legal}
 use Rattle.engine.specs.declared.types.Associated.{Associated}
 use Rattle.engine.specs.declared.types.Associated.the-variants.{Nobody, Track}
 use Rattle.engine.specs.declared.types.Association.{Association}
 use Rattle.engine.specs.Frame.{Frame}
 use Rattle.engine.specs.Body.{narrow, refusal, frameOf}
-use Rattle.engine.proofs.Passing.{length-rows}
 use Rattle.model.specs.Lists.{keep, find}
 use Rattle.model.specs.Windows.{Scan, Prefix, detections}
 use Rattle.model.specs.Placing.{Placing, freeOwner, placeTrack, placeOne, place}
 use Rattle.model.specs.Refiner.{State, placed, withScan}
-use Rattle.model.specs.Rule.{All, Bytes, ColumnRule, Rule}
+use Rattle.model.specs.Rule.{All, Bytes, ColumnRule}
 use Rattle.model.proofs.All.{All-weaken, All-append}
 use Rattle.model.proofs.Tables.{keys}
 use Rattle.model.proofs.Windows.{detections-snoc}
 use Rattle.model.proofs.Keeping.{Known}
 use Rattle.model.proofs.Ties.{Tied, tied-loose}
 use Rattle.model.proofs.Placement.{Has, Placed, placed-all, joinedIds, joinedIds-old, joinedIds-new}
-use Rattle.model.proofs.Accepting.{Room}
 use Rattle.search.specs.Gathered.{Spare}
 use Rattle.fgo.specs.declared.state.FixedLagRefiner.{FixedLagRefiner}
-use Rattle.fgo.specs.Memory.{Memory, memory, bodyAt, scansIn, entryIn, tableIn, ownersIn, stateOf}
-use Rattle.fgo.specs.Frozen.{Ordered}
-use Rattle.fgo.specs.Gathering.{Held}
-use Rattle.fgo.specs.Promise.{Ready}
+use Rattle.fgo.specs.Memory.{Memory, memory, bodyAt, scansIn, ownersIn, stateOf}
 use Rattle.fgo.specs.Arriving.{Lent, Arrives, placedBy, HeldBy, Searches}
 use Rattle.fgo.proofs.Counts.{associations-long, associations-few}
 use Rattle.fgo.proofs.Placements.{before, places}
 use Rattle.fgo.proofs.ReadyLaw.{sound-kept, sound-ready}
-use Rattle.fgo.proofs.Accepted.{Spaced, passes, room, spaced, rule, holds}
+use Rattle.fgo.proofs.Accepted.{passes, room, spaced, rule, holds}
 
 -- ---- placing gives no more ids than the frame has associations
 
@@ -94,14 +87,16 @@ module _ (r : FixedLagRefiner) (m : Memory) (s : List ℕ) (a : Arrives r m s) (
       All-append (ColumnRule (p .next)) (t .scans) _
       (All-weaken (ColumnRule (t .next)) (ColumnRule (p .next)) (t .scans)
       (λ x k. record { complete = k .complete; apart = k .apart; known = λ y z q. le-trans (k .known y z q) (placed-is .low); loose = k .loose; spoken = k .spoken })
-      (rule r m s a l .columns))
-      (record {
-        complete = placed-is .complete;
-        apart = placed-is .apart;
-        known = λ x z q. below x (placed-is .named x z q);
-        loose = tied-loose (Has (p .owners)) (f .associations) (p .ids) (placed-is .tied);
-        spoken = (s, b, passes r m s a, refl);
-      }, tt)
+      (rule r m s a l .columns)) (
+        record {
+          complete = placed-is .complete;
+          apart = placed-is .apart;
+          known = λ x z q. below x (placed-is .named x z q);
+          loose = tied-loose (Has (p .owners)) (f .associations) (p .ids) (placed-is .tied);
+          spoken = (s, b, passes r m s a, refl);
+        },
+        tt,
+      )
     where
       below : (x : ℕ) → Known (λ y. y < t .next) (t .next) (p .next) x → x < p .next
       below x (inl o) = le-trans o (placed-is .low)

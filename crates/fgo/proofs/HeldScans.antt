@@ -1,5 +1,5 @@
 -- One scan more is held: its slot is written, and the slots of the others are as they were. Assumes nothing.
-use Prim.Native.Nat.{ℕ, suc, _+_, _-_, _*_, _%_, _≤_, _<_, min}
+use Prim.Native.Nat.{ℕ, suc, _+_, _-_, _*_, _≤_, _<_, min}
 use native.Mathlib.Nat.{mod-lt}
 use native.Mathlib.Numerals.{add-one}
 use native.Mathlib.Decide.{decLt}
@@ -13,10 +13,9 @@ use lib.Dec.{leb, ltb}
 use borrow.Author.Tests.{le-leb, leb-true, lt-ltb, ltb-true}
 use Rattle.engine.specs.Body.{narrow, associationCount, refusal, frameOf, rows}
 use Rattle.engine.proofs.Passing.{sized-body, length-rows, row-at}
-use Rattle.model.specs.Windows.{Scan}
 use Rattle.fgo.specs.Memory.{slotAt, lengthAt, bodyAt, idAt, scanIn, scansIn, over}
 use Rattle.fgo.specs.Arriving.{columnWords}
-use Rattle.fgo.proofs.Counts.{sensors-few, associations-few}
+use Rattle.fgo.proofs.Counts.{sensors-few}
 use Rattle.fgo.proofs.Rows.{rows-more, rows-same}
 use Rattle.fgo.proofs.Over.{length-over, over-before, over-in, over-after}
 
@@ -122,7 +121,7 @@ module _ (bodies columns s ids : List ℕ) (n count : ℕ) (fits : length s ≤ 
     body-other =
         ap (λ (l : ℕ). take l (drop (2096 * slotAt m) bodies′)) length-other
         ∙ part-same 0 bodies′ bodies (2096 * slotAt m) (lengthAt columns m) (bodies-kept ∙ sym bodies-long)
-          (λ i h. let l = length-most columns m in elsewhere (2096 * slotAt n) s bodies bodies-fit (2096 * slotAt m + i) 0 (λ a b. apart (omega arith)))
+        (λ i h. let l = length-most columns m in elsewhere (2096 * slotAt n) s bodies bodies-fit (2096 * slotAt m + i) 0 (λ a b. apart (omega arith)))
 
     scan-other : scanIn bodies′ columns′ m ≡ scanIn bodies columns m
     unfolding scanIn

@@ -1,8 +1,8 @@
 -- The test of the owners on the gathered lists is the rule's. Assumes nothing.
-use Prim.Native.Nat.{ℕ, zero, suc, _+_, _-_, _≤_, _<_}
+use Prim.Native.Nat.{ℕ, zero, suc, _+_, _<_}
 use native.Mathlib.Nat.{zero-add}
 use native.Mathlib.Omega.{arith}
-use mathlib.Core.Path.{_≡_, refl, sym, ap, subst, _∙_}
+use mathlib.Core.Path.{_≡_, refl, sym, ap, _∙_}
 use mathlib.Core.Bool.{Bool, true, _&&_}
 use mathlib.Core.List.{List, [], _∷_, map-append}
 use mathlib.Core.Option.{Option, none, some}
@@ -13,7 +13,7 @@ use Rattle.engine.specs.declared.types.Associated.{Associated}
 use Rattle.engine.specs.declared.types.Associated.the-variants.{Nobody, Track}
 use Rattle.engine.specs.declared.types.Association.{Association}
 use Rattle.engine.specs.Frame.{Frame}
-use Rattle.engine.specs.Body.{all, rows}
+use Rattle.engine.specs.Body.{all}
 use Rattle.engine.proofs.Every.{all-at}
 use Rattle.model.specs.Lists.{find}
 use Rattle.model.specs.Windows.{Scan}
@@ -26,6 +26,7 @@ use Rattle.fgo.specs.declared.state.FixedLagRefiner.{FixedLagRefiner}
 use Rattle.fgo.specs.Memory.{scanIn, scansIn, ownersIn, over}
 use Rattle.fgo.specs.Gathering.{engineOf, gatheredIn, gatheredOf, gathered, enginesOf, foundOf, latestOf, GatheredAll}
 use Rattle.fgo.specs.Sound.{orNone, columnsOk, ownedAt, ownedAll, ownedOk, Owning}
+use Rattle.fgo.proofs.Rows.{rows-all}
 use Rattle.fgo.proofs.Over.{over-in}
 use Rattle.fgo.proofs.AllOf.{all-same, all-list, allOf-append}
 use Rattle.fgo.proofs.Scans.{tied-column}
@@ -72,12 +73,6 @@ module _ (os : List (ℕ × ℕ)) (ss : List Scan) where
       ∙ ap (λ b. b && allOf owned (enginesOf (gathered (suc n) ts))) (scan-owned n (s .frame) (s .frame .associations) (s .ids) (h .0))
       ∙ ap (λ b. rules.ownedOk os ss (s .frame .associations) (s .ids) && b) (scans-owned (suc n) ts (h .1))
 
--- something of all rows
-pub rows-All : {A : Type 0} (P : A → Type 0) (g : ℕ → A) (o n : ℕ) → ((k : ℕ) → o ≤ k → k < o + n → P (g k)) → All P (rows g o n)
-unfolding rows
-rows-All P g o zero h = tt
-rows-All P g o (suc n) h = (h o (omega arith) (omega arith), rows-All P g (suc o) n (λ k a b. h k (omega arith) (omega arith)))
-
 column-at : (next : ℕ) (bodies columns : List ℕ) (first held : ℕ) → columnsOk next bodies columns first held ≡ true → (k : ℕ) → k < held → TiedScan (λ e. Unit {0}) (scanIn bodies columns (first + k))
 unfolding columnsOk
 column-at next bodies columns first held h k l = tied-column next bodies columns (first + k) (all-at _ held k h l)
@@ -93,7 +88,7 @@ module _ (r : FixedLagRefiner) (bodies columns owners : List ℕ) (n : ℕ) (is 
   tied = column-at (r .next .0) bodies columns (r .first .0) (r .held) (h .ordered)
 
   tied-all : All (TiedScan (λ e. Unit {0})) ss
-  tied-all = rows-All (TiedScan (λ e. Unit {0})) (scanIn bodies columns) (r .first .0) (r .held) (λ k a b. let e : r .first .0 + (k - r .first .0) ≡ k = omega arith in subst (λ (m : ℕ). TiedScan (λ e. Unit {0}) (scanIn bodies columns m)) e (tied (k - r .first .0) (omega arith)))
+  tied-all = rows-all (TiedScan (λ e. Unit {0})) (scanIn bodies columns) (r .first .0) (r .held) tied
 
   engine-at : (i : ℕ) → i < length found → getD es′ i 0 ≡ getD found i 0
   engine-at i l =

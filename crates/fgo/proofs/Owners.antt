@@ -1,14 +1,12 @@
 -- The table of owners as it lies in its array: changing an entry, adding one. Assumes nothing.
-use Prim.Native.Nat.{ℕ, suc, _+_, _-_, _*_, _≤_, _<_}
+use Prim.Native.Nat.{ℕ, _+_, _-_, _*_, _≤_, _<_}
 use native.Mathlib.Omega.{arith}
 use native.Mathlib.Nat.{zero-add, sub-zero}
 use native.Mathlib.Numerals.{add-one}
 use mathlib.Core.Path.{_≡_, refl, sym, ap, _∙_, subst}
-use mathlib.Core.Bool.{Bool, true, false, cond}
 use mathlib.Core.List.{List, [], _∷_, _++_, append-assoc}
 use lib.ListN.{length, length-append, length-set, getD, set}
 use lib.Seq.{getD-set-same, getD-set-other}
-use lib.Dec.{leb}
 use borrow.Author.Tests.{eq-eqb, ne-eqb, le-leb, lt-leb}
 use Rattle.engine.specs.Body.{rows}
 use Rattle.model.specs.Lists.{assign}
@@ -76,10 +74,13 @@ module _ (owners : List ℕ) (e n x : ℕ) where
     where
       after : List ℕ
       after = set owners (2 * k + 1) x
+
       here : ownerAt after k ≡ (e, x)
       here = λ t. ((getD-set-other owners (2 * k + 1) (2 * k) x 0 (λ d. omega arith) ∙ q) t, getD-set-same owners (2 * k + 1) x 0 (omega arith) t)
+
       others : (o m : ℕ) → ((i : ℕ) → o ≤ i → i < o + m → i ≡ k → ⊥) → rows (ownerAt owners) o m ≡ rows (ownerAt after) o m
       others o m d = rows-same (ownerAt owners) (ownerAt after) o m (λ i a b. sym (other-owner owners (2 * k + 1) x i (λ z. omega arith) (λ z. d i a b (omega arith))))
+
       both : assign e x (ownersIn owners n) ≡ ownersIn after n
       both =
           p
@@ -98,14 +99,19 @@ module _ (owners : List ℕ) (e n x : ℕ) where
     where
       keyed : List ℕ
       keyed = set owners (2 * n) e
+
       after : List ℕ
       after = set keyed (2 * n + 1) x
+
       long′ : length keyed ≡ 512
       long′ = length-set owners (2 * n) e ∙ long
+
       here : ownerAt after n ≡ (e, x)
       here = λ t. ((getD-set-other keyed (2 * n + 1) (2 * n) x 0 (λ d. omega arith) ∙ getD-set-same owners (2 * n) e 0 (omega arith)) t, getD-set-same keyed (2 * n + 1) x 0 (omega (arith, long′)) t)
+
       before : (i : ℕ) → i < n → ownerAt owners i ≡ ownerAt after i
       before i b = sym (other-owner keyed (2 * n + 1) x i (λ d. omega arith) (λ d. omega arith) ∙ other-owner owners (2 * n) e i (λ d. omega arith) (λ d. omega arith))
+
       both : assign e x (ownersIn owners n) ≡ ownersIn after (n + 1)
       both =
           p

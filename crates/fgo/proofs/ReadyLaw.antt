@@ -1,35 +1,29 @@
 -- A refiner that meets the state rule is ready for the inner steps. Assumes nothing.
-use Prim.Native.Nat.{ℕ, zero, suc, _+_, _≤_, _<_}
+use Prim.Native.Nat.{ℕ, _+_, _≤_, _<_}
 use native.Mathlib.Nat.{zero-add, le-trans}
 use native.Mathlib.Omega.{arith}
 use mathlib.Core.Path.{_≡_, sym, subst, _∙_}
 use mathlib.Core.Bool.{true}
 use mathlib.Core.List.{List, [], _∷_}
 use lib.ListN.{length}
-use lib.Dec.{leb, ltb, eqb}
-use borrow.Author.Tests.{leb-true, ltb-true, eqb-true}
-use Rattle.engine.specs.Body.{narrow, refusal, rows}
+use lib.Dec.{leb, ltb}
+use borrow.Author.Tests.{leb-true, ltb-true}
 use Rattle.engine.specs.Config.{legal, lag}
-use Rattle.engine.proofs.Every.{both, all-at}
+use Rattle.engine.proofs.Every.{both}
 use Rattle.engine.proofs.Settings.{legal-tells}
 use Rattle.model.specs.Windows as windows
 use Rattle.model.specs.Windows.{detections}
 use Rattle.model.specs.Rule.{All, prefixOk, risesOk}
 use Rattle.fgo.specs.declared.state.FixedLagRefiner.{FixedLagRefiner}
-use Rattle.fgo.specs.Memory.{Memory, bodyAt, scansIn, entryIn, tableIn}
+use Rattle.fgo.specs.Memory.{Memory, scansIn, entryIn, tableIn}
 use Rattle.fgo.specs.Frozen.{Ordered, PartOk}
 use Rattle.fgo.specs.Sound.{bodiesOk, columnsOk, partsOk, countsOk, soundIn, soundOk}
 use Rattle.fgo.specs.Promise.{Ready}
+use Rattle.fgo.proofs.Rows.{row-of}
+use Rattle.fgo.proofs.Counted.{body-passes}
 use Rattle.fgo.proofs.SoundLaw.{parts-rule, sound-rule}
 
 -- ---- frozen parts
-
--- what holds of rows, of one of them
-pub row-of : {A : Type 0} (P : A → Type 0) (g : ℕ → A) (o n k : ℕ) → All P (rows g o n) → k < n → P (g (o + k))
-unfolding rows
-row-of P g o zero k h l = absurd (omega arith)
-row-of P g o (suc n) zero h l = let e : o ≡ o + 0 = omega arith in subst (λ (i : ℕ). P (g i)) e (h .0)
-row-of P g o (suc n) (suc k) h l = let e : suc o + k ≡ o + suc k = omega arith in subst (λ (i : ℕ). P (g i)) e (row-of P g (suc o) n k (h .1) (omega arith))
 
 module _ (first next : ℕ) where
   -- what the rule says of the first frozen part, and of the others
@@ -111,10 +105,6 @@ module _ (r : FixedLagRefiner) (m : Memory) where
         room = leb-true _ _ (s5 .0);
       }
 
-  pub bodies-pass : bodiesOk (m .bodies) (m .columns) (r .first .0) (r .held) ≡ true → (i : ℕ) → i < r .held → refusal narrow (bodyAt (m .bodies) (m .columns) (r .first .0 + i)) ≡ 0
-  unfolding bodiesOk
-  bodies-pass h i l = eqb-true _ _ (all-at (λ j. eqb (refusal narrow (bodyAt (m .bodies) (m .columns) (r .first .0 + j))) 0) (r .held) i h l)
-
   -- a refiner that meets the rule
   pub sound-ready : soundOk r m ≡ true → Ready r m
   sound-ready h =
@@ -125,7 +115,7 @@ module _ (r : FixedLagRefiner) (m : Memory) where
       record {
         few = omega (arith, legal-tells (r .config) (k .settings) .lag);
         early = omega arith;
-        passes = bodies-pass (k .bodies);
+        passes = body-passes (m .bodies) (m .columns) (r .first .0) (r .held) (k .bodies);
         ordered = rises-ordered (r .first .0) (r .next .0) f 0 (tableIn (m .tracks) (m .filters) (r .frozen)) (k .parts);
         parts =
             λ i l.

@@ -1,10 +1,10 @@
 -- The refusal that the code finds is the one of the refiner as defined, and a push is what that refusal leaves. Assumes nothing.
 use Prim.Native.Nat.{ℕ, zero, suc, _+_, _*_, _^_}
 use native.Mathlib.Omega.{arith}
-use mathlib.Core.Path.{_≡_, refl, sym, ap, _∙_}
+use mathlib.Core.Path.{_≡_, refl, ap, _∙_}
 use mathlib.Core.Bool.{Bool, true, false, _||_}
-use mathlib.Core.List.{List, map, foldr}
-use mathlib.Core.Option.{Option, none, some}
+use mathlib.Core.List.{List, foldr}
+use mathlib.Core.Option.{Option, none}
 use lib.ListN.{length, getD}
 use lib.Dec.{leb, ltb}
 use Rattle.engine.specs.declared.config.FgoConfig.{FgoConfig}
@@ -15,7 +15,7 @@ use Rattle.model.specs.Windows.{detections}
 use Rattle.model.specs.Refiner as model
 use Rattle.model.specs.Refiner.{State, refused, full8, full9, full10, idCount, join, firstOf, pushBy, pushRead, pushFrame}
 use Rattle.fgo.specs.declared.state.FixedLagRefiner.{FixedLagRefiner}
-use Rattle.fgo.specs.Memory.{Memory, scanIn, scansIn, entryIn, tableIn, ownersIn, stateOf}
+use Rattle.fgo.specs.Memory.{Memory, scanIn, scansIn, entryIn, stateOf}
 use Rattle.fgo.specs.Refusing.{fullIn, joinedIn, numberOr, refusedBy, pushRefusal}
 use Rattle.fgo.proofs.SoundLaw.{map-rows}
 

@@ -17,7 +17,7 @@ use mir.Facts.{toZ-ofZ}
 use Rattle.engine.specs.declared.config.FgoConfig.{FgoConfig}
 use Rattle.engine.specs.declared.types.Association.{Association}
 use Rattle.engine.specs.Frame.{Frame}
-use Rattle.engine.specs.Body.{narrow, timeOk, refusal, frameOf, rows}
+use Rattle.engine.specs.Body.{narrow, timeOk, refusal, frameOf}
 use Rattle.engine.proofs.Every.{all-at, all-true}
 use Rattle.engine.proofs.Passing.{sized-body}
 use Rattle.model.specs.Lists.{find, put, putBy}
@@ -39,11 +39,11 @@ use Rattle.fgo.specs.Frozen.{FreezesScan, PartOk, PartsOk}
 use Rattle.fgo.specs.Writing.{Roomy, frameIn, PutsFrame, PutFrame}
 use Rattle.fgo.specs.Sound.{bodiesOk, liveIn}
 use Rattle.fgo.specs.Promise.{Ready, Ends, releaseOf, keptOwners}
+use Rattle.fgo.proofs.Rows.{rows-all, row-of}
 use Rattle.fgo.proofs.Cells.{length-rows, rows-first}
 use Rattle.fgo.proofs.Times.{time-fits}
 use Rattle.fgo.proofs.Order.{frozen-fits}
 use Rattle.fgo.proofs.SoundLaw.{live-rule}
-use Rattle.fgo.proofs.ReadyLaw.{row-of}
 
 -- ---- frozen parts of which ages can be told
 
@@ -75,16 +75,6 @@ module _ (c : FgoConfig) (n : ℕ) (f : Frame) (timed : timeOk (f .time) ≡ tru
   parts-frozen [] is ps h = h
   parts-frozen (a ∷ l) [] ps h = h
   parts-frozen (a ∷ l) (i ∷ is) ps h = parts-frozen l is (freezeOne c n f ps a i) (one-frozen a i ps h)
-
--- what holds of each row
-rows-all : {A : Type 0} (P : A → Type 0) (g : ℕ → A) (o n : ℕ) → ((k : ℕ) → k < n → P (g (o + k))) → All P (rows g o n)
-unfolding rows
-rows-all P g o zero h = tt
-rows-all P g o (suc n) h =
-    let e : o + 0 ≡ o = omega arith in (
-      subst (λ (i : ℕ). P (g i)) e (h 0 (omega arith)),
-      rows-all P g (suc o) n (λ k l. let q : o + suc k ≡ suc o + k = omega arith in subst (λ (i : ℕ). P (g i)) q (h (suc k) (omega arith))),
-    )
 
 table-long : (tracks : List ℕ) (filters : List Float) (n : ℕ) → length (tableIn tracks filters n) ≡ n
 table-long tracks filters n = length-rows (entryIn tracks filters) 0 n

@@ -1,12 +1,13 @@
--- Rows: the next one, one more at the end, and rows that agree. Assumes nothing.
+-- Rows: the next one, one more at the end, rows that agree, and what holds of them all. Assumes nothing.
 use Prim.Native.Nat.{ℕ, zero, suc, _+_, _-_, _≤_, _<_}
-use mathlib.Core.Path.{_≡_, refl, ap}
+use mathlib.Core.Path.{_≡_, refl, ap, subst}
 use mathlib.Core.Bool.{Bool, true, false}
 use mathlib.Core.List.{[], _∷_, _++_}
 use native.Mathlib.Nat.{add-zero}
 use native.Mathlib.Omega.{arith}
 use Rattle.engine.specs.Body.{rows}
 use Rattle.model.specs.Lists.{any}
+use Rattle.model.specs.Rule.{All}
 
 module _ {A : Type 0} where
   -- one row more
@@ -23,6 +24,22 @@ module _ {A : Type 0} where
       let e = h i (omega arith) (omega arith) in
       let t = rows-same f g (suc i) n (λ k a b. h k (omega arith) (omega arith)) in
       rw (e, t)
+
+  -- what holds of each row, and of one of them
+  pub rows-all : (P : A → Type 0) (g : ℕ → A) (o n : ℕ) → ((k : ℕ) → k < n → P (g (o + k))) → All P (rows g o n)
+  unfolding rows
+  rows-all P g o zero h = tt
+  rows-all P g o (suc n) h =
+      let e : o + 0 ≡ o = omega arith in (
+        subst (λ (i : ℕ). P (g i)) e (h 0 (omega arith)),
+        rows-all P g (suc o) n (λ k l. let q : o + suc k ≡ suc o + k = omega arith in subst (λ (i : ℕ). P (g i)) q (h (suc k) (omega arith))),
+      )
+
+  pub row-of : (P : A → Type 0) (g : ℕ → A) (o n k : ℕ) → All P (rows g o n) → k < n → P (g (o + k))
+  unfolding rows
+  row-of P g o zero k h l = absurd (omega arith)
+  row-of P g o (suc n) zero h l = let e : o ≡ o + 0 = omega arith in subst (λ (i : ℕ). P (g i)) e (h .0)
+  row-of P g o (suc n) (suc k) h l = let e : suc o + k ≡ o + suc k = omega arith in subst (λ (i : ℕ). P (g i)) e (row-of P g (suc o) n k (h .1) (omega arith))
 
   -- ---- a loop that stands at row k, the one of number i of n
 

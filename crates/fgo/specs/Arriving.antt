@@ -1,5 +1,5 @@
 -- A frame arrives: what placing, searching and owning leave in the lent memory. Definitions only.
-use Prim.Native.Nat.{ℕ, suc, _+_, _*_, _≤_, _<_}
+use Prim.Native.Nat.{ℕ, suc, _+_, _≤_, _<_}
 use mathlib.Core.Path.{_≡_}
 use mathlib.Core.Bool.{true}
 use mathlib.Core.List.{List, [], _∷_, _++_, map}
@@ -12,7 +12,6 @@ use Rattle.model.specs.Searching.{improve}
 use Rattle.model.specs.Rule.{All, Bytes, ColumnRule}
 use Rattle.model.specs.Placing as placing
 use Rattle.model.specs.Refiner as model
-use Rattle.model.specs.Refiner.{State}
 use Rattle.search.specs.declared.moves.Tally.{Tally}
 use Rattle.search.specs.Gathered.{Spare}
 use Rattle.fgo.specs.declared.state.FixedLagRefiner.{FixedLagRefiner}

@@ -147,7 +147,14 @@ fn moved_on(c: FgoConfig, kf: Kf, d: Sighting) -> Kf
     ensures { λ k. ⌜ k ≡ model.moveOn c kf (dotBy d) ⌝ }
 {
     let r = c.position_sigma_m * c.position_sigma_m;
-    lent::advanced(kf, bits::seconds(d.time), c.accel_spectral_density, d.x, d.y, r)
+    lent::advanced(
+        kf,
+        bits::seconds(d.time),
+        c.accel_spectral_density,
+        d.x,
+        d.y,
+        r,
+    )
 }
 
 // A frozen part after one detection more.

@@ -74,7 +74,14 @@ fn free_owner(old: u64, x: u64, n: usize, ids: &[u64; ASSOCIATIONS]) -> u64
 }
 
 // Association j, with an engine id: it goes to its owner, or starts a track, which owns the engine id from then on.
-fn place_track<'a>(p: Placing, old: u64, e: EngineId, j: usize, owners: &'a mut [u64; OWNERS], ids: &mut [u64; ASSOCIATIONS]) -> Placing
+fn place_track<'a>(
+    p: Placing,
+    old: u64,
+    e: EngineId,
+    j: usize,
+    owners: &'a mut [u64; OWNERS],
+    ids: &mut [u64; ASSOCIATIONS],
+) -> Placing
     requires { ⌜ (j < 32) × (p .owned ≤ 256) × (p .next .0 < 9223372036854775808) × (length (now owners) ≡ 512) × (length (now ids) ≡ 32) ⌝ }
     ensures { λ r. ⌜ (r .next .0 ≤ p .next .0 + 1) × ((q : model.Placing) → Placed j q p (now (owners .entry)) (now (ids .entry)) → Placed (j + 1) (placedOne old q (Associated.Track e)) r (now (owners .exit)) (now (ids .exit))) × (r .owned ≤ 256) × (length (now (owners .exit)) ≡ 512) × (length (now (ids .exit)) ≡ 32) ⌝ }
 {
@@ -82,15 +89,28 @@ fn place_track<'a>(p: Placing, old: u64, e: EngineId, j: usize, owners: &'a mut 
     let x = free_owner(old, rule::owner_of(owners, p.owned, e.0), j, ids);
     if 0 < x {
         ids[j] = x;
-        return Placing { owned: p.owned, next };
+        return Placing {
+            owned: p.owned,
+            next,
+        };
     }
     ids[j] = next.0;
     let owned = assign(owners, p.owned, e.0, next.0);
-    Placing { owned, next: RefinedId(next.0 + 1) }
+    Placing {
+        owned,
+        next: RefinedId(next.0 + 1),
+    }
 }
 
 // Association j.
-fn place_one<'a>(p: Placing, old: u64, t: Associated, j: usize, owners: &'a mut [u64; OWNERS], ids: &mut [u64; ASSOCIATIONS]) -> Placing
+fn place_one<'a>(
+    p: Placing,
+    old: u64,
+    t: Associated,
+    j: usize,
+    owners: &'a mut [u64; OWNERS],
+    ids: &mut [u64; ASSOCIATIONS],
+) -> Placing
     requires { ⌜ (j < 32) × (p .owned ≤ 256) × (p .next .0 < 9223372036854775808) × (length (now owners) ≡ 512) × (length (now ids) ≡ 32) ⌝ }
     ensures { λ r. ⌜ (r .next .0 ≤ p .next .0 + 1) × ((q : model.Placing) → Placed j q p (now (owners .entry)) (now (ids .entry)) → Placed (j + 1) (placedOne old q t) r (now (owners .exit)) (now (ids .exit))) × (r .owned ≤ 256) × (length (now (owners .exit)) ≡ 512) × (length (now (ids .exit)) ≡ 32) ⌝ }
 {
@@ -104,7 +124,13 @@ fn place_one<'a>(p: Placing, old: u64, t: Associated, j: usize, owners: &'a mut 
 }
 
 // The associations of a frame, in order: the ids of their tracks.
-pub fn place_all<'a>(s: &[u8], owned: usize, next: RefinedId, owners: &'a mut [u64; OWNERS], ids: &mut [u64; ASSOCIATIONS]) -> Placing
+pub fn place_all<'a>(
+    s: &[u8],
+    owned: usize,
+    next: RefinedId,
+    owners: &'a mut [u64; OWNERS],
+    ids: &mut [u64; ASSOCIATIONS],
+) -> Placing
     requires { ⌜ (refusal narrow (now s) ≡ 0) × (owned ≤ 256) × (next .0 < 4611686018427387904) × (length (now owners) ≡ 512) × (length (now ids) ≡ 32) ⌝ }
     ensures { λ r. ⌜ Placed (associationCount narrow (now (s .entry))) (placedAll (next .0) (frameOf narrow (now (s .entry)) .associations) (begins (now (owners .entry)) owned (next .0))) r (now (owners .exit)) (now (ids .exit)) ⌝ }
 {

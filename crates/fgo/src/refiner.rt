@@ -1,19 +1,19 @@
 // The refiner: open, push, take and counters.
 use crate::emit;
 use crate::freeze;
-use crate::rule;
-use crate::state;
-use crate::state::FixedLagRefiner;
-use crate::state::BODIES;
-use crate::state::COLUMNS;
-use crate::state::FILTERS;
-use crate::state::OWNERS;
-use crate::state::TRACKS;
 use crate::gather;
 use crate::gather::STARTS;
 use crate::own;
 use crate::place;
 use crate::place::ASSOCIATIONS;
+use crate::rule;
+use crate::state;
+use crate::state::BODIES;
+use crate::state::COLUMNS;
+use crate::state::FILTERS;
+use crate::state::FixedLagRefiner;
+use crate::state::OWNERS;
+use crate::state::TRACKS;
 use engine::body;
 use engine::config::FgoConfig;
 use engine::types::Associated;
@@ -261,7 +261,13 @@ fn put_body<'a, 'b>(bodies: &'a mut [u8], n: ScanIndex, s: &'b [u8])
 }
 
 // The column of scan n: the length of its body, and the ids of its associations.
-fn put_column<'a, 'b>(columns: &'a mut [u64; COLUMNS], n: ScanIndex, size: usize, count: usize, ids: &'b [u64; ASSOCIATIONS])
+fn put_column<'a, 'b>(
+    columns: &'a mut [u64; COLUMNS],
+    n: ScanIndex,
+    size: usize,
+    count: usize,
+    ids: &'b [u64; ASSOCIATIONS],
+)
     requires { ⌜ (count ≤ 32) × (length (now ids) ≡ 32) × (length (now columns) ≡ 561) ⌝ }
     ensures { λ _. ⌜ now (columns .exit) ≡ over (33 * slotAt (n .0)) (columnWords size count (now (ids .entry))) (now (columns .entry)) ⌝ }
 {
@@ -294,7 +300,15 @@ fn search_held<'a, 'b, 'c>(
     let mut engines = [0u64; DETECTIONS];
     let mut starts = [0usize; STARTS];
     let mut dots = [0.0; DOTS];
-    let detections = gather::gather(bodies, columns, first, r.held, &mut ids, &mut engines, &mut starts);
+    let detections = gather::gather(
+        bodies,
+        columns,
+        first,
+        r.held,
+        &mut ids,
+        &mut engines,
+        &mut starts,
+    );
     gather::gather_dots(config, bodies, columns, first, r.held, &mut dots);
     let hall = Hall {
         config,
@@ -302,7 +316,16 @@ fn search_held<'a, 'b, 'c>(
         detections,
         frozen: r.frozen,
     };
-    let t = pass::improve(hall, next, counters, &starts, &dots, tracks, filters, &mut ids);
+    let t = pass::improve(
+        hall,
+        next,
+        counters,
+        &starts,
+        &dots,
+        tracks,
+        filters,
+        &mut ids,
+    );
     gather::scatter(bodies, columns, first, r.held, &ids);
     own::hold_latest(owners, r.owned, &ids, &engines, &starts, r.held);
     t
@@ -364,7 +387,16 @@ fn arrive<'a, 'b, 'c, 'd>(
     let h = hold(r, s, bodies, columns, owners);
     let t = search_held(h, bodies, columns, owners, tracks, filters);
     let first = h.first;
-    let owned = keep_owners(bodies, columns, first, h.held, tracks, h.frozen, owners, h.owned);
+    let owned = keep_owners(
+        bodies,
+        columns,
+        first,
+        h.held,
+        tracks,
+        h.frozen,
+        owners,
+        h.owned,
+    );
     let config = h.config;
     let counters = t.counters;
     FixedLagRefiner {
@@ -426,11 +458,31 @@ fn release<'a, 'b, 'c, 'd, 'e, 'f>(
     let config = r.config;
     let n = r.first;
     let frozen = freeze::freeze_scan(config, bodies, columns, n, tracks, filters, r.frozen);
-    let z = emit::put_frame(config, bodies, columns, n, tracks, filters, frozen, words, numbers);
+    let z = emit::put_frame(
+        config,
+        bodies,
+        columns,
+        n,
+        tracks,
+        filters,
+        frozen,
+        words,
+        numbers,
+    );
     let time = body::time_of(state::body_in(bodies, columns, n));
     let first = ScanIndex(n.0 + 1);
     let held = r.held - 1;
-    let kept = freeze::forget(config, time, bodies, columns, first, held, tracks, filters, frozen);
+    let kept = freeze::forget(
+        config,
+        time,
+        bodies,
+        columns,
+        first,
+        held,
+        tracks,
+        filters,
+        frozen,
+    );
     let owned = keep_owners(bodies, columns, first, held, tracks, kept, owners, r.owned);
     let next = r.next;
     let counters = r.counters;

@@ -4,23 +4,18 @@ use native.Mathlib.Decide.{ℕ-discrete}
 use native.Mathlib.Omega.{arith}
 use mathlib.Core.Path.{_≡_, refl, sym, ap, _∙_}
 use mathlib.Core.Logic.{⊎-elim}
-use mathlib.Core.List.{List, [], _∷_, map}
+use mathlib.Core.List.{List}
 use lib.ListN.{length, length-set, getD, set}
 use lib.Seq.{getD-set-same, getD-set-other}
-use Rattle.engine.specs.Body.{rows}
 use Rattle.model.specs.Owning.{orElse}
 use Rattle.fgo.specs.Memory.{ownersIn}
 use Rattle.fgo.specs.Gathering.{latestOf}
 use Rattle.fgo.specs.Arriving.{heldLatest}
 use Rattle.fgo.proofs.Rows.{rows-same}
+use Rattle.fgo.proofs.SoundLaw.{map-rows}
 use Rattle.fgo.proofs.Owners.{ownerAt, other-owner}
 use Rattle.fgo.proofs.own.hold_latest.Statement.{statement}
 use Rattle.fgo.proofs.own.hold_latest.Tie as tie
-
-rows-map : {A B : Type 0} (f : A → B) (g : ℕ → A) (o n : ℕ) → map f (rows g o n) ≡ rows (λ i. f (g i)) o n
-unfolding rows
-rows-map f g o zero = refl
-rows-map f g o (suc n) = ap (λ l. f (g o) ∷ l) (rows-map f g (suc o) n)
 
 or-none : (x : ℕ) → x ≤ 0 → (y : ℕ) → orElse x y ≡ y
 or-none zero h y = refl
@@ -73,7 +68,7 @@ module _ (ids engines starts : List ℕ) (held : ℕ) where
     all-told : (n k : ℕ) (owners : List ℕ) → n ≤ k → Telling k owners → ownersIn owners n ≡ heldLatest ids engines starts held (ownersIn before n)
     all-told n k owners l h =
         rows-same (ownerAt owners) (λ i. told (ownerAt before i)) 0 n (λ i a b. h .done i (omega arith))
-        ∙ sym (rows-map told (ownerAt before) 0 n)
+        ∙ sym (map-rows told (ownerAt before) 0 n)
 
 abbrev Inv-loop : tie.InvT-loop
 Inv-loop owners₀ owned ids engines starts held k₀ owners k = (k ≤ owned) × (owned ≤ 256) × Telling ids engines starts held owners₀ k owners
@@ -119,12 +114,14 @@ loop-again c =
     let f = c .before .before .before .before .before .args in
     let l = c .before .before .before .before .loop in
     let v = c .before .before .before .before .loop .inv in
-    let few : l .k < 256 = omega (arith, v .1) in
-    (omega arith, v .1,
-    ⊎-elim
-    (λ w. rw (w .1) (changed (f .ids .now) (f .engines .now) (f .starts .now) (f .held) (f .owners .now) (l .k) (l .owners) (v .2) (c .before .latest-in .result) (c .before .latest-in .ensures) few (w .0 .taken)))
-    (λ w. rw (w .1) (kept (f .ids .now) (f .engines .now) (f .starts .now) (f .held) (f .owners .now) (l .k) (l .owners) (v .2) (c .before .latest-in .result) (c .before .latest-in .ensures) (w .0 .left)))
-    (c .if1 .came))
+    let few : l .k < 256 = omega (arith, v .1) in (
+      omega arith,
+      v .1,
+      ⊎-elim
+          (λ w. rw (w .1) (changed (f .ids .now) (f .engines .now) (f .starts .now) (f .held) (f .owners .now) (l .k) (l .owners) (v .2) (c .before .latest-in .result) (c .before .latest-in .ensures) few (w .0 .taken)))
+          (λ w. rw (w .1) (kept (f .ids .now) (f .engines .now) (f .starts .now) (f .held) (f .owners .now) (l .k) (l .owners) (v .2) (c .before .latest-in .result) (c .before .latest-in .ensures) (w .0 .left)))
+          (c .if1 .came),
+    )
 
 returns : tie.Need-returns Inv-loop μ-loop
 returns c =

@@ -42,11 +42,13 @@ returns : tie.Need-returns Inv-loop μ-loop
 returns c =
     let f = c .before .before .before .before .args in
     let l = c .before .before .before .loop in
-    let h = c .before .before .before .loop .inv in
-    (c .before .before .before .before .pre .0, length-set (l .owners) (2 * l .k + 1) (f .x) ∙ ap length (h .2) ∙ h .1,
-    ap (λ o. ownersIn (set o (2 * l .k + 1) (f .x)) (f .owned)) (h .2)
-    ∙ assigned-here (f .owners .now) (f .e) (f .owned) (f .x) (l .k) (c .before .before .loop-test .taken) (c .before .before .before .before .pre .0) (h .1)
-        (ap (λ o. getD o (2 * l .k) 0) (sym (h .2)) ∙ c .if1 .taken) (h .3))
+    let h = c .before .before .before .loop .inv in (
+      c .before .before .before .before .pre .0,
+      length-set (l .owners) (2 * l .k + 1) (f .x) ∙ ap length (h .2) ∙ h .1,
+      ap (λ o. ownersIn (set o (2 * l .k + 1) (f .x)) (f .owned)) (h .2)
+          ∙ assigned-here (f .owners .now) (f .e) (f .owned) (f .x) (l .k) (c .before .before .loop-test .taken) (c .before .before .before .before .pre .0) (h .1)
+          (ap (λ o. getD o (2 * l .k) 0) (sym (h .2)) ∙ c .if1 .taken) (h .3),
+    )
 
 add-k : tie.Need-add-k Inv-loop μ-loop
 add-k c = omega arith
@@ -58,10 +60,13 @@ loop-again : tie.Need-loop-again Inv-loop μ-loop
 loop-again c =
     let f = c .before .before .before .before .args in
     let l = c .before .before .before .loop in
-    let h = c .before .before .before .loop .inv in
-    (omega arith, h .1, h .2,
-    passed-more (f .owners .now) (f .e) (f .owned) (f .x) (l .k) (c .before .before .loop-test .taken)
-        (λ d. c .if1 .left (ap (λ o. getD o (2 * l .k) 0) (h .2) ∙ d)) (h .3))
+    let h = c .before .before .before .loop .inv in (
+      omega arith,
+      h .1,
+      h .2,
+      passed-more (f .owners .now) (f .e) (f .owned) (f .x) (l .k) (c .before .before .loop-test .taken)
+          (λ d. c .if1 .left (ap (λ o. getD o (2 * l .k) 0) (h .2) ∙ d)) (h .3),
+    )
 
 mul-owners-3 : tie.Need-mul-owners-3 Inv-loop μ-loop
 mul-owners-3 c = omega arith
@@ -92,21 +97,24 @@ returns-2 c =
     let f = c .before .before .before .args in
     let l = c .before .before .loop in
     let h = c .before .before .loop .inv in
-    let k : l .k ≡ f .owned = omega arith in
-    (omega arith,
-    length-set (set (l .owners) (2 * f .owned) (f .e)) (2 * f .owned + 1) (f .x) ∙ length-set (l .owners) (2 * f .owned) (f .e) ∙ ap length (h .2) ∙ h .1,
-    ap (λ o. ownersIn (set (set o (2 * f .owned) (f .e)) (2 * f .owned + 1) (f .x)) (f .owned + 1)) (h .2)
-    ∙ assigned-end (f .owners .now) (f .e) (f .owned) (f .x) (omega arith) (h .1) (subst (Passed (f .owners .now) (f .e) (f .owned) (f .x)) k (h .3)))
+    let k : l .k ≡ f .owned = omega arith in (
+      omega arith,
+      length-set (set (l .owners) (2 * f .owned) (f .e)) (2 * f .owned + 1) (f .x) ∙ length-set (l .owners) (2 * f .owned) (f .e) ∙ ap length (h .2) ∙ h .1,
+      ap (λ o. ownersIn (set (set o (2 * f .owned) (f .e)) (2 * f .owned + 1) (f .x)) (f .owned + 1)) (h .2)
+          ∙ assigned-end (f .owners .now) (f .e) (f .owned) (f .x) (omega arith) (h .1) (subst (Passed (f .owners .now) (f .e) (f .owned) (f .x)) k (h .3)),
+    )
 
 returns-3 : tie.Need-returns-3 Inv-loop μ-loop
 returns-3 c =
     let f = c .before .before .before .args in
     let l = c .before .before .loop in
     let h = c .before .before .loop .inv in
-    let k : l .k ≡ f .owned = omega arith in
-    (c .before .before .before .pre .0, ap length (h .2) ∙ h .1,
-    ap (λ o. ownersIn o (f .owned)) (h .2)
-    ∙ assigned-full (f .owners .now) (f .e) (f .owned) (f .x) (omega arith) (subst (Passed (f .owners .now) (f .e) (f .owned) (f .x)) k (h .3)))
+    let k : l .k ≡ f .owned = omega arith in (
+      c .before .before .before .pre .0,
+      ap length (h .2) ∙ h .1,
+      ap (λ o. ownersIn o (f .owned)) (h .2)
+          ∙ assigned-full (f .owners .now) (f .e) (f .owned) (f .x) (omega arith) (subst (Passed (f .owners .now) (f .e) (f .owned) (f .x)) k (h .3)),
+    )
 
 pub assign-spec : {M : Type 1} → statement M
 assign-spec =

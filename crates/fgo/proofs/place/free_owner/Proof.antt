@@ -1,6 +1,6 @@
 -- `fgo::place::free_owner` meets its contract. Assumes nothing.
 use native.Mathlib.Omega.{arith}
-use mathlib.Core.Path.{_≡_, refl, sym, _∙_}
+use mathlib.Core.Path.{_≡_, sym, _∙_}
 use denote.Ref.{now}
 use mathlib.Core.Bool.{true, false}
 use lib.ListN.{take}

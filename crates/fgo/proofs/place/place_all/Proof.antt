@@ -1,5 +1,5 @@
 -- `fgo::place::place_all` meets its contract. The first j associations are placed. Assumes nothing.
-use Prim.Native.Nat.{ℕ, _+_, _-_, _<_, _≤_}
+use Prim.Native.Nat.{ℕ, _+_, _-_, _≤_}
 use native.Mathlib.Numerals.{add-one}
 use native.Mathlib.Omega.{arith}
 use mathlib.Core.Path.{_≡_, refl, ap, _∙_, subst}
@@ -23,9 +23,11 @@ loop-holds : tie.Need-loop-holds Inv-loop μ-loop
 loop-holds c =
     let f = c .before .args in
     let h = c .before .pre in
-    let low : f .next .0 ≤ f .next .0 + 0 = omega arith in
-    (omega arith, low,
-    (unfold placedAll in record { few = h .1; owners-long = h .3; ids-long = h .4; ids-are = refl; owners-are = refl; next-is = refl }))
+    let low : f .next .0 ≤ f .next .0 + 0 = omega arith in (
+      omega arith,
+      low,
+      (unfold placedAll in record { few = h .1; owners-long = h .3; ids-long = h .4; ids-are = refl; owners-are = refl; next-is = refl }),
+    )
 
 association-count-requires : tie.Need-association-count-requires Inv-loop μ-loop
 association-count-requires c κs = tt
@@ -66,10 +68,12 @@ loop-again c =
     let count = c .before .before .before .before .before .association-count .ensures in
     let more = c .place-one .ensures .0 in
     let step =
-        ap (λ (k : ℕ). placedAll (f .next .0) (take k (frameOf narrow (f .s .now) .associations)) (begins (f .owners .now) (f .owned) (f .next .0))) (add-one (l .j))
-        ∙ placed-more (f .next .0) (frameOf narrow (f .s .now) .associations) (l .j) (begins (f .owners .now) (f .owned) (f .next .0)) (rw (associations-long (f .s .now)) (omega arith)) in
-    (omega arith, omega arith,
-    rw (step, ← c .before .before .before .association .ensures (c .before .before .before .before .before .before .before .before .pre .0)) (c .place-one .ensures .1 _ (v .2)))
+    ap (λ (k : ℕ). placedAll (f .next .0) (take k (frameOf narrow (f .s .now) .associations)) (begins (f .owners .now) (f .owned) (f .next .0))) (add-one (l .j))
+    ∙ placed-more (f .next .0) (frameOf narrow (f .s .now) .associations) (l .j) (begins (f .owners .now) (f .owned) (f .next .0)) (rw (associations-long (f .s .now)) (omega arith)) in (
+      omega arith,
+      omega arith,
+      rw (step, ← c .before .before .before .association .ensures (c .before .before .before .before .before .before .before .before .pre .0)) (c .place-one .ensures .1 _ (v .2)),
+    )
 
 returns : tie.Need-returns Inv-loop μ-loop
 returns c =
@@ -80,11 +84,11 @@ returns c =
     let count = c .before .association-count .ensures in
     let same : c .before .before .loop .j ≡ associationCount narrow (f .s .now) = omega arith in
     let all : take (associationCount narrow (f .s .now)) (frameOf narrow (f .s .now) .associations) ≡ frameOf narrow (f .s .now) .associations =
-        take-all (associationCount narrow (f .s .now)) (frameOf narrow (f .s .now) .associations) (rw (associations-long (f .s .now)) (omega arith)) in
+    take-all (associationCount narrow (f .s .now)) (frameOf narrow (f .s .now) .associations) (rw (associations-long (f .s .now)) (omega arith)) in
     rw all at
-        (subst
-        (λ (k : ℕ). Placed k (placedAll (f .next .0) (take k (frameOf narrow (f .s .now) .associations)) (begins (f .owners .now) (f .owned) (f .next .0))) (l .p) (l .owners) (l .ids))
-        same (v .2))
+    (subst
+    (λ (k : ℕ). Placed k (placedAll (f .next .0) (take k (frameOf narrow (f .s .now) .associations)) (begins (f .owners .now) (f .owned) (f .next .0))) (l .p) (l .owners) (l .ids))
+    same (v .2))
 
 pub place-all-spec : {M : Type 1} → statement M
 place-all-spec =

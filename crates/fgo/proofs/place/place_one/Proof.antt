@@ -25,20 +25,22 @@ place-track-requires c κs = search needs
 returns : tie.Need-returns
 returns c =
     let f = c .before .before .args in
-    let h = c .before .before .pre in
-    (omega arith,
-    λ q w. rw (c .enum-told .given .1) (placed-nobody (f .j) q (f .p) (f .owners .now) (f .ids .now) (h .0) w (f .old)),
-    h .1,
-    h .3,
-    length-set (f .ids .now) (f .j) 0 ∙ h .4)
+    let h = c .before .before .pre in (
+      omega arith,
+      λ q w. rw (c .enum-told .given .1) (placed-nobody (f .j) q (f .p) (f .owners .now) (f .ids .now) (h .0) w (f .old)),
+      h .1,
+      h .3,
+      length-set (f .ids .now) (f .j) 0 ∙ h .4,
+    )
 
 returns-2 : tie.Need-returns-2
-returns-2 c =
-    (c .place-track .ensures .0,
-    λ q w. rw (c .before .before .before .before .t .given .1) (c .place-track .ensures .1 q w),
-    c .place-track .ensures .2,
-    c .place-track .ensures .3,
-    c .place-track .ensures .4)
+returns-2 c = (
+  c .place-track .ensures .0,
+  λ q w. rw (c .before .before .before .before .t .given .1) (c .place-track .ensures .1 q w),
+  c .place-track .ensures .2,
+  c .place-track .ensures .3,
+  c .place-track .ensures .4,
+)
 
 pub place-one-spec : {M : Type 1} → statement M
 place-one-spec =

@@ -4,7 +4,7 @@ use native.Mathlib.Numerals.{add-one}
 use native.Mathlib.Omega.{arith}
 use mathlib.Core.Path.{_≡_, refl, sym, ap, _∙_}
 use mathlib.Core.Bool.{Bool, true, false, _||_}
-use mathlib.Core.List.{List, [], _∷_, _++_}
+use mathlib.Core.List.{List, [], _∷_}
 use lib.ListN.{length, take, getD}
 use lib.Seq.{take-suc}
 use lib.Dec.{eqb}
@@ -56,8 +56,9 @@ loop-less c = omega arith
 
 loop-again : tie.Need-loop-again Inv-loop μ-loop
 loop-again c = (
-    omega arith,
-    not-more _ (c .before .before .before .before .args .ids .now) (c .before .before .before .loop .i) (omega arith) (c .if1 .left) (c .before .before .before .loop .inv .1))
+  omega arith,
+  not-more _ (c .before .before .before .before .args .ids .now) (c .before .before .before .loop .i) (omega arith) (c .if1 .left) (c .before .before .before .loop .inv .1),
+)
 
 returns-2 : tie.Need-returns-2 Inv-loop μ-loop
 returns-2 c =

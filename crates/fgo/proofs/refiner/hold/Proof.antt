@@ -46,12 +46,16 @@ held-by r s bodies columns owners h p owners′ ids w ec eb ed =
   where
     n : ℕ
     n = r .first .0 + r .held
+
     m : ℕ
     m = associationCount narrow s
+
     fits : length s ≤ 2096
     fits = body-fits s (h .passes)
+
     few : m ≤ 32
     few = associations-few s (h .passes)
+
     enough : m ≤ length ids
     enough = omega (arith, few, w .ids-long)
 
@@ -69,9 +73,10 @@ association-count-requires c κs = search needs
 
 put-column-requires : tie.Need-put-column-requires
 put-column-requires c κs = (
-    rw (c .before .association-count .ensures) (associations-few _ (c .before .before .before .before .before .before .before .before .before .before .before .before .before .pre .passes)),
-    c .before .before .before .before .before .place-all .ensures .ids-long,
-    c .before .before .before .before .before .before .before .before .before .before .before .before .before .pre .columns-long)
+  rw (c .before .association-count .ensures) (associations-few _ (c .before .before .before .before .before .before .before .before .before .before .before .before .before .pre .passes)),
+  c .before .before .before .before .before .place-all .ensures .ids-long,
+  c .before .before .before .before .before .before .before .before .before .before .before .before .before .pre .columns-long,
+)
 
 add-t21 : tie.Need-add-t21
 add-t21 c = let h = c .before .before .before .before .before .before .before .before .before .before .before .before .before .before .before .before .pre .few in record { fits = omega arith }

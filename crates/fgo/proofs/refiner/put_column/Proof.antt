@@ -1,10 +1,10 @@
 -- `fgo::refiner::put_column` meets its contract. Assumes nothing.
-use Prim.Native.Nat.{ℕ, _+_, _-_, _*_, _≤_, _<_}
+use Prim.Native.Nat.{ℕ, _+_, _-_, _*_, _<_}
 use native.Mathlib.Nat.{add-zero}
 use native.Mathlib.Omega.{arith}
 use mathlib.Core.Path.{_≡_, refl, sym, ap, _∙_}
 use mathlib.Core.List.{List, [], _∷_}
-use lib.ListN.{length, length-set, take, getD, set}
+use lib.ListN.{length, length-set, take, set}
 use lib.Seq.{length-take-le, getD-take}
 use Rattle.fgo.specs.Memory.{over}
 use Rattle.fgo.specs.Arriving.{columnWords}

@@ -17,7 +17,7 @@ use Rattle.fgo.specs.declared.state.FixedLagRefiner.{FixedLagRefiner}
 use Rattle.fgo.specs.Memory.{Memory, memory, scanIn, scansIn, tableIn, ownersIn}
 use Rattle.fgo.specs.Gathering.{latestOf, GatheredAll, Scattered}
 use Rattle.fgo.specs.Arriving.{heldLatest, Searches, Searched, foundIn}
-use Rattle.fgo.proofs.ReadyLaw.{row-of}
+use Rattle.fgo.proofs.Rows.{row-of}
 use Rattle.fgo.proofs.HeldGathered.{starts-128, latest-held}
 use Rattle.fgo.proofs.SearchGathered.{able, ids-long, search-gathered, scans-put-back}
 use Rattle.fgo.proofs.refiner.search_held.Statement.{statement}
