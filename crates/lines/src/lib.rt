@@ -92,6 +92,24 @@ pub fn put_frame<'a>(
     put_numbers(out, at, numbers)
 }
 
+// A frame that stands at the front of two longer lists: so many words and so many numbers. Nothing where a list is shorter.
+pub fn put_front<'a>(
+    out: &mut [u8; ROOM],
+    n: usize,
+    words: &'a [u64],
+    w: usize,
+    numbers: &'a [f64],
+    x: usize,
+) -> usize {
+    if words.len() < w {
+        return n;
+    }
+    if numbers.len() < x {
+        return n;
+    }
+    put_frame(out, n, &words[..w], &numbers[..x])
+}
+
 // The line of a refusal.
 pub fn put_refused(out: &mut [u8; ROOM], n: usize, code: u8) -> usize {
     let mut at = put_bytes(out, n, b"refused");

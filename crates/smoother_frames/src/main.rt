@@ -68,15 +68,7 @@ fn put_answer<'a>(
         Answer::Frame {
             words: w,
             numbers: x,
-        } => {
-            if words.len() < w {
-                return n;
-            }
-            if numbers.len() < x {
-                return n;
-            }
-            lines::put_frame(out, n, &words[..w], &numbers[..x])
-        }
+        } => lines::put_front(out, n, words, w, numbers, x),
     }
 }
 
