@@ -50,7 +50,7 @@ fn put_answer<'a>(
 }
 
 // Frame i of a recording, pushed.
-fn push_one<'a, 'b, 'c, 'd, 'e, 'f, 'g>(
+fn push_one<'a, 'b, 'c, 'd, 'e, 'f, 'g, 'h, 'i>(
     p: Player,
     s: &'g [u8],
     i: usize,
@@ -60,10 +60,10 @@ fn push_one<'a, 'b, 'c, 'd, 'e, 'f, 'g>(
     owners: &'c mut [u64; OWNERS],
     tracks: &'d mut [u64; TRACKS],
     filters: &'e mut [f64; FILTERS],
+    words: &'h mut [u64; WORDS],
+    numbers: &'i mut [f64; NUMBERS],
     out: &'f mut [u8; ROOM],
 ) -> Player {
-    let mut words = [0u64; WORDS];
-    let mut numbers = [0.0; NUMBERS];
     let r = p.refiner;
     let body = recording::frame_at(s, i);
     let t = refiner::push(
@@ -74,11 +74,11 @@ fn push_one<'a, 'b, 'c, 'd, 'e, 'f, 'g>(
         owners,
         tracks,
         filters,
-        &mut words,
-        &mut numbers,
+        words,
+        numbers,
     );
     let answer = t.answer;
-    let gathered = put_answer(out, p.gathered, full, answer, &words, &numbers);
+    let gathered = put_answer(out, p.gathered, full, answer, words, numbers);
     let next = t.refiner;
     Player {
         refiner: next,
@@ -87,7 +87,7 @@ fn push_one<'a, 'b, 'c, 'd, 'e, 'f, 'g>(
 }
 
 // Every frame of a recording, pushed.
-fn push_all<'a, 'b, 'c, 'd, 'e, 'f, 'g>(
+fn push_all<'a, 'b, 'c, 'd, 'e, 'f, 'g, 'h, 'i>(
     first: Player,
     s: &'g [u8],
     count: usize,
@@ -97,19 +97,34 @@ fn push_all<'a, 'b, 'c, 'd, 'e, 'f, 'g>(
     owners: &'c mut [u64; OWNERS],
     tracks: &'d mut [u64; TRACKS],
     filters: &'e mut [f64; FILTERS],
+    words: &'h mut [u64; WORDS],
+    numbers: &'i mut [f64; NUMBERS],
     out: &'f mut [u8; ROOM],
 ) -> Player {
     let mut p = first;
     let mut i: usize = 0;
     while i < count {
-        p = push_one(p, s, i, full, bodies, columns, owners, tracks, filters, out);
+        p = push_one(
+            p,
+            s,
+            i,
+            full,
+            bodies,
+            columns,
+            owners,
+            tracks,
+            filters,
+            words,
+            numbers,
+            out,
+        );
         i += 1;
     }
     p
 }
 
 // The oldest frame held, taken.
-fn take_one<'a, 'b, 'c, 'd, 'e>(
+fn take_one<'a, 'b, 'c, 'd, 'e, 'f, 'g>(
     p: Player,
     full: bool,
     bodies: &'e [u8; BODIES],
@@ -117,23 +132,14 @@ fn take_one<'a, 'b, 'c, 'd, 'e>(
     owners: &'a mut [u64; OWNERS],
     tracks: &'b mut [u64; TRACKS],
     filters: &'c mut [f64; FILTERS],
+    words: &'f mut [u64; WORDS],
+    numbers: &'g mut [f64; NUMBERS],
     out: &'d mut [u8; ROOM],
 ) -> Player {
-    let mut words = [0u64; WORDS];
-    let mut numbers = [0.0; NUMBERS];
     let r = p.refiner;
-    let t = refiner::take(
-        r,
-        bodies,
-        columns,
-        owners,
-        tracks,
-        filters,
-        &mut words,
-        &mut numbers,
-    );
+    let t = refiner::take(r, bodies, columns, owners, tracks, filters, words, numbers);
     let answer = t.answer;
-    let gathered = put_answer(out, p.gathered, full, answer, &words, &numbers);
+    let gathered = put_answer(out, p.gathered, full, answer, words, numbers);
     let next = t.refiner;
     Player {
         refiner: next,
@@ -142,7 +148,7 @@ fn take_one<'a, 'b, 'c, 'd, 'e>(
 }
 
 // Every frame still held, taken: as many as there are when the taking begins.
-fn take_all<'a, 'b, 'c, 'd, 'e>(
+fn take_all<'a, 'b, 'c, 'd, 'e, 'f, 'g>(
     first: Player,
     held: usize,
     full: bool,
@@ -151,12 +157,25 @@ fn take_all<'a, 'b, 'c, 'd, 'e>(
     owners: &'a mut [u64; OWNERS],
     tracks: &'b mut [u64; TRACKS],
     filters: &'c mut [f64; FILTERS],
+    words: &'f mut [u64; WORDS],
+    numbers: &'g mut [f64; NUMBERS],
     out: &'d mut [u8; ROOM],
 ) -> Player {
     let mut p = first;
     let mut i: usize = 0;
     while i < held {
-        p = take_one(p, full, bodies, columns, owners, tracks, filters, out);
+        p = take_one(
+            p,
+            full,
+            bodies,
+            columns,
+            owners,
+            tracks,
+            filters,
+            words,
+            numbers,
+            out,
+        );
         i += 1;
     }
     p
@@ -177,6 +196,8 @@ fn run(s: &[u8], count: usize, refiner: FixedLagRefiner, full: bool) {
     let mut owners = [0u64; OWNERS];
     let mut tracks = [0u64; TRACKS];
     let mut filters = [0.0; FILTERS];
+    let mut words = [0u64; WORDS];
+    let mut numbers = [0.0; NUMBERS];
     let mut out = [0u8; ROOM];
     let first = Player {
         refiner,
@@ -192,6 +213,8 @@ fn run(s: &[u8], count: usize, refiner: FixedLagRefiner, full: bool) {
         &mut owners,
         &mut tracks,
         &mut filters,
+        &mut words,
+        &mut numbers,
         &mut out,
     );
     let held = p.refiner.held;
@@ -204,6 +227,8 @@ fn run(s: &[u8], count: usize, refiner: FixedLagRefiner, full: bool) {
         &mut owners,
         &mut tracks,
         &mut filters,
+        &mut words,
+        &mut numbers,
         &mut out,
     );
     let n = q.gathered;

@@ -1,5 +1,5 @@
 -- `playback::play::push_all` meets its contract. Assumes nothing.
-use Prim.Native.Nat.{_-_, _≤_}
+use Prim.Native.Nat.{_-_, _≤_, _<_}
 use native.Mathlib.Omega.{arith}
 use borrow.Author.Needs.{needs}
 use Rattle.playback.proofs.play.push_all.Statement.{statement}
@@ -9,16 +9,16 @@ use Rattle.playback.proofs.play.push_all.Lts as lts
 use Rattle.playback.proofs.play.push_one.Reads as push-one-reads
 
 abbrev Inv-loop : tie.InvT-loop
-Inv-loop s count full bodies₀ columns₀ owners₀ tracks₀ filters₀ out₀ p₀ i₀ bodies columns owners tracks filters out p i =
-    i ≤ count
+Inv-loop s count full bodies₀ columns₀ owners₀ tracks₀ filters₀ words₀ numbers₀ out₀ p₀ i₀ bodies columns owners tracks filters words numbers out p i =
+    (i ≤ count) × (count < 18446744073709551616)
 
 abbrev μ-loop : tie.MeasureT-loop
-μ-loop s count full bodies₀ columns₀ owners₀ tracks₀ filters₀ out₀ p₀ i₀ bodies columns owners tracks filters out p i =
+μ-loop s count full bodies₀ columns₀ owners₀ tracks₀ filters₀ words₀ numbers₀ out₀ p₀ i₀ bodies columns owners tracks filters words numbers out p i =
     count - i
 
 -- src/play.rt:81:5
 loop-holds : tie.Need-loop-holds Inv-loop μ-loop
-loop-holds c = omega arith
+loop-holds c = (omega arith, search needs)
 
 -- src/play.rt:82:9
 push-one-requires : tie.Need-push-one-requires Inv-loop μ-loop
@@ -34,7 +34,7 @@ loop-less c = omega arith
 
 -- src/play.rt:81:5
 loop-again : tie.Need-loop-again Inv-loop μ-loop
-loop-again c = omega arith
+loop-again c = (omega arith, omega arith)
 
 -- src/play.rt:67:1
 returns : tie.Need-returns Inv-loop μ-loop

@@ -9,11 +9,11 @@ use Rattle.playback.proofs.play.take_all.Lts as lts
 use Rattle.playback.proofs.play.take_one.Reads as take-one-reads
 
 abbrev Inv-loop : tie.InvT-loop
-Inv-loop held full bodies columns owners₀ tracks₀ filters₀ out₀ p₀ i₀ owners tracks filters out p i =
+Inv-loop held full bodies columns owners₀ tracks₀ filters₀ words₀ numbers₀ out₀ p₀ i₀ owners tracks filters words numbers out p i =
     i ≤ held
 
 abbrev μ-loop : tie.MeasureT-loop
-μ-loop held full bodies columns owners₀ tracks₀ filters₀ out₀ p₀ i₀ owners tracks filters out p i =
+μ-loop held full bodies columns owners₀ tracks₀ filters₀ words₀ numbers₀ out₀ p₀ i₀ owners tracks filters words numbers out p i =
     held - i
 
 -- src/play.rt:123:5
