@@ -10,13 +10,13 @@ use borrow.Author.Tests.{leb-true}
 use Rattle.engine.specs.Body.{rows}
 use Rattle.engine.proofs.Every.{both}
 use Rattle.model.specs.Refiner as model
-use Rattle.fgo.specs.declared.state.FixedLagRefiner.{FixedLagRefiner}
+use Rattle.memory.specs.declared.state.FixedLagRefiner.{FixedLagRefiner}
 use Rattle.fgo.specs.declared.refiner.Pushed.{Pushed}
-use Rattle.fgo.specs.Memory.{Memory, stateOf}
-use Rattle.fgo.specs.Writing.{Roomy}
-use Rattle.fgo.specs.Sound.{soundIn, soundOk}
+use Rattle.memory.specs.Memory.{Memory, stateOf}
+use Rattle.release.specs.Writing.{Roomy}
+use Rattle.rule.specs.Sound.{soundIn, soundOk}
 use Rattle.fgo.specs.Promise.{refusedAs, roomy, releaseOf, takeAnswer, Ends}
-use Rattle.fgo.proofs.SoundLaw.{sound-rule}
+use Rattle.rule.proofs.SoundLaw.{sound-rule}
 
 -- the test of the state rule, as the code makes it
 pub sound-is : (r : FixedLagRefiner) (m : Memory) {a b : Bool} → a ≡ soundIn r (m .bodies) (m .columns) (m .owners) (m .tracks) → a ≡ b → soundOk r m ≡ b

@@ -17,13 +17,13 @@ use Rattle.model.specs.Refiner.{State, placed, withScan, searched, arrive}
 use Rattle.model.specs.Rule.{Bytes}
 use Rattle.model.proofs.Counting.{count-le}
 use Rattle.model.proofs.Arrival.{arrived}
-use Rattle.search.specs.declared.moves.Tally.{Tally}
-use Rattle.fgo.specs.declared.state.FixedLagRefiner.{FixedLagRefiner}
-use Rattle.fgo.specs.Memory.{Memory, memory, scansIn, entryIn, ownersIn, stateOf}
-use Rattle.fgo.specs.Sound.{liveIn}
+use Rattle.pricing.specs.declared.moves.Tally.{Tally}
+use Rattle.memory.specs.declared.state.FixedLagRefiner.{FixedLagRefiner}
+use Rattle.memory.specs.Memory.{Memory, memory, scansIn, entryIn, ownersIn, stateOf}
+use Rattle.rule.specs.Sound.{liveIn}
 use Rattle.fgo.specs.Promise.{keptOwners, Ready}
 use Rattle.fgo.specs.Arriving.{Lent, Arrives, HeldBy, foundIn, Searched, Arrived}
-use Rattle.fgo.proofs.SoundLaw.{live-rule}
+use Rattle.rule.proofs.SoundLaw.{live-rule}
 use Rattle.fgo.proofs.Placements.{before}
 use Rattle.fgo.proofs.ReadyLaw.{sound-ready}
 use Rattle.fgo.proofs.Accepted.{room, rule, holds}

@@ -11,8 +11,8 @@ use lib.Seq.{getD-set-same, getD-set-other}
 use Rattle.engine.specs.Body.{rows}
 use Rattle.model.specs.Lists.{consIf, keep}
 use Rattle.model.proofs.Counting.{keep-append}
-use Rattle.fgo.specs.Memory.{ownersIn}
-use Rattle.fgo.proofs.Cells.{rows-more, rows-same}
+use Rattle.memory.specs.Memory.{ownersIn}
+use Rattle.memory.proofs.Cells.{rows-more, rows-same}
 
 -- entry k of the table
 abbrev pub ownerAt : List ℕ → ℕ → ℕ × ℕ

@@ -15,9 +15,9 @@ use Rattle.model.specs.Refiner.{State, refused, leave, release, takes, finish}
 use Rattle.model.specs.Rule.{All}
 use Rattle.model.specs.History.{Op, taken, Sent, emittedBy, run, answer}
 use Rattle.model.proofs.All.{All-right}
-use Rattle.fgo.specs.declared.state.FixedLagRefiner.{FixedLagRefiner}
+use Rattle.memory.specs.declared.state.FixedLagRefiner.{FixedLagRefiner}
 use Rattle.fgo.specs.declared.refiner.Answer.the-variants.{Refused}
-use Rattle.fgo.specs.Memory.{Memory, stateOf, scanIn}
+use Rattle.memory.specs.Memory.{Memory, stateOf, scanIn}
 use Rattle.fgo.specs.Promise.{numberOf, answerOf, checked}
 use Rattle.fgo.specs.Sent.{Call, answered, Keeps, Calls, left, Session, enough, operations, writtenBy, written, inWords, orShort, due, Finish, Finished, Ending}
 use Rattle.fgo.proofs.SentLaw.{refused-of, more, run-more, At, served, written-one, at-next, is-legal, at-last, at-first, calls-then, delivered}

@@ -16,7 +16,7 @@ use Rattle.engine.proofs.Passing.{sized-body, length-rows}
 use Rattle.model.specs.Emitting.{Listed, Emitted, trackWords, trackNumbers, associationsWords, costNumber, wordsOf, numbersOf}
 use Rattle.model.specs.Rule.{Spoken}
 use Rattle.model.specs.History.{Told}
-use Rattle.fgo.specs.Memory.{over}
+use Rattle.memory.specs.Memory.{over}
 
 pub length-over : {A : Type 0} (o : ℕ) (g l : List A) → o + length g ≤ length l → length (over o g l) ≡ length l
 unfolding over

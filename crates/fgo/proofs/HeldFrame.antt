@@ -25,10 +25,10 @@ use Rattle.model.proofs.Keeping.{Known}
 use Rattle.model.proofs.Ties.{Tied, tied-loose}
 use Rattle.model.proofs.Placement.{Has, Placed, placed-all, joinedIds, joinedIds-old, joinedIds-new}
 use Rattle.search.specs.Gathered.{Spare}
-use Rattle.fgo.specs.declared.state.FixedLagRefiner.{FixedLagRefiner}
-use Rattle.fgo.specs.Memory.{Memory, memory, bodyAt, scansIn, ownersIn, stateOf}
+use Rattle.memory.specs.declared.state.FixedLagRefiner.{FixedLagRefiner}
+use Rattle.memory.specs.Memory.{Memory, memory, bodyAt, scansIn, ownersIn, stateOf}
 use Rattle.fgo.specs.Arriving.{Lent, Arrives, placedBy, HeldBy, Searches}
-use Rattle.fgo.proofs.Counts.{associations-long, associations-few}
+use Rattle.memory.proofs.Counts.{associations-long, associations-few}
 use Rattle.fgo.proofs.Placements.{before, places}
 use Rattle.fgo.proofs.ReadyLaw.{sound-kept, sound-ready}
 use Rattle.fgo.proofs.Accepted.{passes, room, spaced, rule, holds}

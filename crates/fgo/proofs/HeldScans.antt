@@ -13,11 +13,11 @@ use lib.Dec.{leb, ltb}
 use borrow.Author.Tests.{le-leb, leb-true, lt-ltb, ltb-true}
 use Rattle.engine.specs.Body.{narrow, associationCount, refusal, frameOf, rows}
 use Rattle.engine.proofs.Passing.{sized-body, length-rows, row-at}
-use Rattle.fgo.specs.Memory.{slotAt, lengthAt, bodyAt, idAt, scanIn, scansIn, over}
+use Rattle.memory.specs.Memory.{slotAt, lengthAt, bodyAt, idAt, scanIn, scansIn, over}
 use Rattle.fgo.specs.Arriving.{columnWords}
-use Rattle.fgo.proofs.Counts.{sensors-few}
-use Rattle.fgo.proofs.Rows.{rows-more, rows-same}
-use Rattle.fgo.proofs.Over.{length-over, over-before, over-in, over-after}
+use Rattle.memory.proofs.Counts.{sensors-few}
+use Rattle.memory.proofs.Rows.{rows-more, rows-same}
+use Rattle.memory.proofs.Over.{length-over, over-before, over-in, over-after}
 
 -- a body that passes fits its slot
 pub body-fits : (s : List ℕ) → refusal narrow s ≡ 0 → length s ≤ 2096

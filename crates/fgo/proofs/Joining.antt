@@ -15,11 +15,10 @@ use Rattle.engine.specs.Frame.{noAssociation}
 use Rattle.engine.specs.Body.{narrow, associationCount, frameOf}
 use Rattle.model.specs.Lists.{any, has}
 use Rattle.model.specs.Refiner.{join}
-use Rattle.fgo.specs.Memory.{cells}
-use Rattle.fgo.specs.Writing.{associationIn}
+use Rattle.memory.specs.Memory.{cells, associationIn}
 use Rattle.fgo.specs.Refusing.{enginesIn, joinEnd, joinedIn}
-use Rattle.fgo.proofs.Cells.{length-rows}
-use Rattle.fgo.proofs.Counts.{associations-long}
+use Rattle.memory.proofs.Cells.{length-rows}
+use Rattle.memory.proofs.Counts.{associations-long}
 
 -- the same ids, and as many
 pub record Alike (k l : List ℕ) : Type 0 where

@@ -14,11 +14,11 @@ use Rattle.engine.proofs.Passing.{length-rows}
 use Rattle.model.specs.Windows.{Scan}
 use Rattle.model.specs.Refiner as model
 use Rattle.model.specs.Refiner.{State, refused, waits, settle}
-use Rattle.fgo.specs.declared.state.FixedLagRefiner.{FixedLagRefiner}
+use Rattle.memory.specs.declared.state.FixedLagRefiner.{FixedLagRefiner}
 use Rattle.fgo.specs.declared.refiner.Answer.the-variants.{Held}
 use Rattle.fgo.specs.declared.refiner.Pushed.{Pushed}
-use Rattle.fgo.specs.Memory.{Memory, scanIn, stateOf}
-use Rattle.fgo.specs.Sound.{bodiesOk, soundOk}
+use Rattle.memory.specs.Memory.{Memory, scanIn, stateOf}
+use Rattle.rule.specs.Sound.{bodiesOk, soundOk}
 use Rattle.fgo.specs.Refusing.{Refuses, pushRefusal}
 use Rattle.fgo.specs.Promise.{roomy, checked, pushAnswer, releaseOf, Unchanged, Ends}
 use Rattle.fgo.specs.Arriving.{Arrived}

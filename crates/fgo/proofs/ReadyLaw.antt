@@ -14,14 +14,14 @@ use Rattle.engine.proofs.Settings.{legal-tells}
 use Rattle.model.specs.Windows as windows
 use Rattle.model.specs.Windows.{detections}
 use Rattle.model.specs.Rule.{All, prefixOk, risesOk}
-use Rattle.fgo.specs.declared.state.FixedLagRefiner.{FixedLagRefiner}
-use Rattle.fgo.specs.Memory.{Memory, scansIn, entryIn, tableIn}
-use Rattle.fgo.specs.Frozen.{Ordered, PartOk}
-use Rattle.fgo.specs.Sound.{bodiesOk, columnsOk, partsOk, countsOk, soundIn, soundOk}
+use Rattle.memory.specs.declared.state.FixedLagRefiner.{FixedLagRefiner}
+use Rattle.memory.specs.Memory.{Memory, scansIn, entryIn, tableIn}
+use Rattle.release.specs.Frozen.{Ordered, PartOk}
+use Rattle.rule.specs.Sound.{bodiesOk, columnsOk, partsOk, countsOk, soundIn, soundOk}
 use Rattle.fgo.specs.Promise.{Ready}
-use Rattle.fgo.proofs.Rows.{row-of}
-use Rattle.fgo.proofs.Counted.{body-passes}
-use Rattle.fgo.proofs.SoundLaw.{parts-rule, sound-rule}
+use Rattle.memory.proofs.Rows.{row-of}
+use Rattle.rule.proofs.Counted.{body-passes}
+use Rattle.rule.proofs.SoundLaw.{parts-rule, sound-rule}
 
 -- ---- frozen parts
 

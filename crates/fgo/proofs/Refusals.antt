@@ -14,10 +14,10 @@ use Rattle.engine.proofs.Passing.{length-rows}
 use Rattle.model.specs.Windows.{detections}
 use Rattle.model.specs.Refiner as model
 use Rattle.model.specs.Refiner.{State, refused, full8, full9, full10, idCount, join, firstOf, pushBy, pushRead, pushFrame}
-use Rattle.fgo.specs.declared.state.FixedLagRefiner.{FixedLagRefiner}
-use Rattle.fgo.specs.Memory.{Memory, scanIn, scansIn, entryIn, stateOf}
+use Rattle.memory.specs.declared.state.FixedLagRefiner.{FixedLagRefiner}
+use Rattle.memory.specs.Memory.{Memory, scanIn, scansIn, entryIn, stateOf}
 use Rattle.fgo.specs.Refusing.{fullIn, joinedIn, numberOr, refusedBy, pushRefusal}
-use Rattle.fgo.proofs.SoundLaw.{map-rows}
+use Rattle.rule.proofs.SoundLaw.{map-rows}
 
 module _ (r : FixedLagRefiner) (m : Memory) (s : List ℕ) where
   abbrev t : State

@@ -31,19 +31,19 @@ use Rattle.model.proofs.All.{mem-All}
 use Rattle.model.proofs.Counting.{count-le, keep-same}
 use Rattle.model.proofs.Windows.{detections-cons}
 use Rattle.model.proofs.Growing.{freeze-length}
-use Rattle.fgo.specs.declared.state.FixedLagRefiner.{FixedLagRefiner}
-use Rattle.fgo.specs.declared.emit.Size.{Size}
+use Rattle.memory.specs.declared.state.FixedLagRefiner.{FixedLagRefiner}
+use Rattle.release.specs.declared.emit.Size.{Size}
 use Rattle.fgo.specs.declared.refiner.Answer.the-variants.{Frame as Gives}
-use Rattle.fgo.specs.Memory.{Memory, memory, bodyAt, scanIn, scansIn, entryIn, tableIn, ownersIn, stateOf}
-use Rattle.fgo.specs.Frozen.{FreezesScan, PartOk, PartsOk}
-use Rattle.fgo.specs.Writing.{Roomy, frameIn, PutsFrame, PutFrame}
-use Rattle.fgo.specs.Sound.{bodiesOk, liveIn}
+use Rattle.memory.specs.Memory.{Memory, memory, bodyAt, scanIn, scansIn, entryIn, tableIn, ownersIn, stateOf}
+use Rattle.release.specs.Frozen.{FreezesScan, PartOk, PartsOk}
+use Rattle.release.specs.Writing.{Roomy, frameIn, PutsFrame, PutFrame}
+use Rattle.rule.specs.Sound.{bodiesOk, liveIn}
 use Rattle.fgo.specs.Promise.{Ready, Ends, releaseOf, keptOwners}
-use Rattle.fgo.proofs.Rows.{rows-all, row-of}
-use Rattle.fgo.proofs.Cells.{length-rows, rows-first}
-use Rattle.fgo.proofs.Times.{time-fits}
-use Rattle.fgo.proofs.Order.{frozen-fits}
-use Rattle.fgo.proofs.SoundLaw.{live-rule}
+use Rattle.memory.proofs.Rows.{rows-all, row-of}
+use Rattle.memory.proofs.Cells.{length-rows, rows-first}
+use Rattle.release.proofs.Times.{time-fits}
+use Rattle.release.proofs.Order.{frozen-fits}
+use Rattle.rule.proofs.SoundLaw.{live-rule}
 
 -- ---- frozen parts of which ages can be told
 

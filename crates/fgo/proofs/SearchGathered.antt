@@ -28,21 +28,21 @@ use Rattle.model.specs.Faithful.{Regular}
 use Rattle.model.specs.Rule.{All, ColumnRule}
 use Rattle.model.proofs.All.{All-weaken}
 use Rattle.model.proofs.Windows.{columns-regular}
-use Rattle.search.specs.Rows.{Starts, columnAt}
-use Rattle.search.specs.Price.{frozenAt, partFrom, partAmong}
+use Rattle.pricing.specs.Rows.{Starts, columnAt}
+use Rattle.pricing.specs.Price.{frozenAt, partFrom, partAmong}
 use Rattle.search.specs.Pass.{Scene, sceneOf, viewOn, Able}
 use Rattle.search.specs.Gathered as search
 use Rattle.search.specs.Gathered.{picked, spread, putBack, GatheredFrom, Spare}
 use Rattle.search.proofs.Spreads.{above}
-use Rattle.fgo.specs.Memory.{prefixIn, entryIn, tableIn, bodyAt, scanIn, scansIn, over}
-use Rattle.fgo.specs.Gathering.{Gathered, gatheredIn, gathered, numbersFor, dotsOf, foundIn, foundOf, Held, GatheredAll, spreadAll, Scattered}
-use Rattle.fgo.proofs.Over.{length-over, over-in}
-use Rattle.fgo.proofs.LatestGathered.{Each}
-use Rattle.fgo.proofs.GatheredScans as scans
-use Rattle.fgo.proofs.GatheredScans.{each-rows}
-use Rattle.fgo.proofs.HeldGathered.{ids-each, found-128}
-use Rattle.fgo.proofs.GatheringScan.{numbers-long}
-use Rattle.fgo.proofs.GatheringHeld.{found-one, found-next}
+use Rattle.memory.specs.Memory.{prefixIn, entryIn, tableIn, bodyAt, scanIn, scansIn, over}
+use Rattle.memory.specs.Gathering.{Gathered, gatheredIn, gathered, numbersFor, dotsOf, foundIn, foundOf, Held, GatheredAll, spreadAll, Scattered}
+use Rattle.memory.proofs.Over.{length-over, over-in}
+use Rattle.memory.proofs.LatestGathered.{Each}
+use Rattle.memory.proofs.GatheredScans as scans
+use Rattle.memory.proofs.GatheredScans.{each-rows}
+use Rattle.rule.proofs.HeldGathered.{ids-each, found-128}
+use Rattle.memory.proofs.GatheringScan.{numbers-long}
+use Rattle.memory.proofs.GatheringHeld.{found-one, found-next}
 
 -- ---- frozen parts
 

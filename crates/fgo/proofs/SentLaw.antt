@@ -26,12 +26,12 @@ use Rattle.model.specs.History.{Op, pushed, taken, Run, emittedBy, step, run, a
 use Rattle.model.proofs.All.{All-append, All-left, All-right, map-All}
 use Rattle.model.proofs.RuleLaw.{rule-ok}
 use Rattle.model.proofs.HistoryLaw.{run-snoc, spoken, history}
-use Rattle.fgo.specs.declared.state.FixedLagRefiner.{FixedLagRefiner}
+use Rattle.memory.specs.declared.state.FixedLagRefiner.{FixedLagRefiner}
 use Rattle.fgo.specs.declared.refiner.Answer.the-variants.{Refused}
 use Rattle.fgo.specs.declared.refiner.Opened.{Opened}
 use Rattle.fgo.specs.declared.refiner.Opened.the-variants as opened
-use Rattle.fgo.specs.Memory.{Memory, stateOf, over}
-use Rattle.fgo.specs.Sound.{bodiesOk, soundOk}
+use Rattle.memory.specs.Memory.{Memory, stateOf, over}
+use Rattle.rule.specs.Sound.{bodiesOk, soundOk}
 use Rattle.fgo.specs.Promise.{numberOf, answerOf, newBy, openedBy, roomy, checked, pushAnswer, takeAnswer, wordsAfter, numbersAfter, Unchanged, Ends}
 use Rattle.fgo.specs.Sent.{Call, answered, promised, Keeps, Calls, left, Session, enough, operations, acceptedBy, accepted, writtenBy, written, inWords, orShort, due, Served, Delivered}
 use Rattle.fgo.proofs.Numbered.{Numbered, numbered}

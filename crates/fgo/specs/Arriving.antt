@@ -6,26 +6,22 @@ use mathlib.Core.List.{List, [], _∷_, _++_, map}
 use lib.ListN.{length, take}
 use Rattle.engine.specs.Body.{narrow, refusal, frameOf}
 use Rattle.engine.specs.Config.{legal}
-use Rattle.model.specs.Owning.{orElse, latest}
+use Rattle.model.specs.Owning.{latest}
 use Rattle.model.specs.Searching as searching
 use Rattle.model.specs.Searching.{improve}
 use Rattle.model.specs.Rule.{All, Bytes, ColumnRule}
 use Rattle.model.specs.Placing as placing
 use Rattle.model.specs.Refiner as model
-use Rattle.search.specs.declared.moves.Tally.{Tally}
+use Rattle.pricing.specs.declared.moves.Tally.{Tally}
 use Rattle.search.specs.Gathered.{Spare}
-use Rattle.fgo.specs.declared.state.FixedLagRefiner.{FixedLagRefiner}
-use Rattle.fgo.specs.Memory.{Memory, bodyAt, scansIn, tableIn, ownersIn, stateOf}
-use Rattle.fgo.specs.Frozen.{Ordered}
-use Rattle.fgo.specs.Gathering.{Held, latestOf}
-use Rattle.fgo.specs.Placing.{placedAll, begins}
-use Rattle.fgo.specs.Sound.{soundOk}
+use Rattle.memory.specs.declared.state.FixedLagRefiner.{FixedLagRefiner}
+use Rattle.memory.specs.Memory.{Memory, bodyAt, scansIn, tableIn, ownersIn, stateOf}
+use Rattle.release.specs.Frozen.{Ordered}
+use Rattle.memory.specs.Gathering.{Held}
+use Rattle.rule.specs.Placing.{placedAll, begins}
+use Rattle.rule.specs.Sound.{soundOk}
 use Rattle.fgo.specs.Refusing.{pushRefusal}
 use Rattle.fgo.specs.Promise.{Ready}
-
--- "Finally each engine id that has detections in windows goes to the track that holds its latest one", by what was gathered
-abbrev pub heldLatest : List ℕ → List ℕ → List ℕ → ℕ → List (ℕ × ℕ) → List (ℕ × ℕ)
-heldLatest ids engines starts held os = map (λ o. (o .0, orElse (latestOf (o .0) ids engines starts held) (o .1))) os
 
 -- the words of a column: the length of its body, and the ids of its associations
 abbrev pub columnWords : ℕ → ℕ → List ℕ → List ℕ

@@ -1,9 +1,3 @@
-pub mod Memory
-pub mod Frozen
-pub mod Writing
-pub mod Gathering
-pub mod Sound
-pub mod Placing
 pub mod Refusing
 pub mod Promise
 pub mod Sent

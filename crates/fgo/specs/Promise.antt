@@ -16,7 +16,7 @@ use Rattle.model.specs.Windows.{detections}
 use Rattle.model.specs.Emitting.{Emitted, wordsOf, numbersOf}
 use Rattle.model.specs.Refiner as model
 use Rattle.model.specs.Refiner.{State, refused, waits, gives, new}
-use Rattle.fgo.specs.declared.state.FixedLagRefiner.{FixedLagRefiner}
+use Rattle.memory.specs.declared.state.FixedLagRefiner.{FixedLagRefiner}
 use Rattle.fgo.specs.declared.refiner.Answer.{Answer}
 use Rattle.fgo.specs.declared.refiner.Answer.the-variants.{Refused, Held, Frame}
 use Rattle.fgo.specs.declared.refiner.Opened.{Opened}
@@ -24,9 +24,9 @@ use Rattle.fgo.specs.declared.refiner.Opened.the-variants as opened
 use Rattle.fgo.specs.declared.refiner.Counted.{Counted}
 use Rattle.fgo.specs.declared.refiner.Counted.the-variants as counted
 use Rattle.fgo.specs.declared.refiner.Pushed.{Pushed}
-use Rattle.fgo.specs.Memory.{Memory, bodyAt, scansIn, tableIn, entryIn, stateOf, over}
-use Rattle.fgo.specs.Frozen.{Ordered, PartOk}
-use Rattle.fgo.specs.Sound.{bodiesOk, soundOk, liveIn}
+use Rattle.memory.specs.Memory.{Memory, bodyAt, scansIn, tableIn, entryIn, stateOf, over}
+use Rattle.release.specs.Frozen.{Ordered, PartOk}
+use Rattle.rule.specs.Sound.{bodiesOk, soundOk, liveIn}
 
 -- ---- document 01's numbers
 

@@ -11,9 +11,9 @@ use Rattle.engine.specs.Body.{narrow, refusal, frameOf, rows}
 use Rattle.model.specs.Lists.{has}
 use Rattle.model.specs.Windows.{detections}
 use Rattle.model.specs.Refiner.{firstOf, idCount, join}
-use Rattle.fgo.specs.declared.state.FixedLagRefiner.{FixedLagRefiner}
-use Rattle.fgo.specs.Memory.{scansIn}
-use Rattle.fgo.specs.Sound.{engineIn}
+use Rattle.memory.specs.declared.state.FixedLagRefiner.{FixedLagRefiner}
+use Rattle.memory.specs.Memory.{scansIn}
+use Rattle.rule.specs.Sound.{engineIn}
 
 -- 8: "4,294,967,295 scans accepted, or next id or a counter above 2^60"
 unfoldable pub fullIn : FixedLagRefiner → Bool

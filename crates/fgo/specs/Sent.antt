@@ -16,13 +16,13 @@ use Rattle.model.specs.Refiner as model
 use Rattle.model.specs.Refiner.{State, refused, gives, finish}
 use Rattle.model.specs.Rule.{All}
 use Rattle.model.specs.History.{Op, pushed, taken, run, answer, settled, Sent, Told, History}
-use Rattle.fgo.specs.declared.state.FixedLagRefiner.{FixedLagRefiner}
+use Rattle.memory.specs.declared.state.FixedLagRefiner.{FixedLagRefiner}
 use Rattle.fgo.specs.declared.refiner.Answer.{Answer}
 use Rattle.fgo.specs.declared.refiner.Answer.the-variants.{Refused, Held, Frame}
 use Rattle.fgo.specs.declared.refiner.Opened.the-variants.{Ready}
 use Rattle.fgo.specs.declared.refiner.Pushed.{Pushed}
-use Rattle.fgo.specs.Memory.{Memory, stateOf}
-use Rattle.fgo.specs.Sound.{soundOk}
+use Rattle.memory.specs.Memory.{Memory, stateOf}
+use Rattle.rule.specs.Sound.{soundOk}
 use Rattle.fgo.specs.Promise.{openedBy, answerOf, roomy, pushAnswer, takeAnswer, wordsAfter, numbersAfter, Ends}
 
 -- ---- calls

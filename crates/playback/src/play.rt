@@ -5,12 +5,12 @@ use fgo::refiner;
 use fgo::refiner::Answer;
 use fgo::refiner::Counted;
 use fgo::refiner::Opened;
-use fgo::state::BODIES;
-use fgo::state::COLUMNS;
-use fgo::state::FILTERS;
-use fgo::state::FixedLagRefiner;
-use fgo::state::OWNERS;
-use fgo::state::TRACKS;
+use memory::state::BODIES;
+use memory::state::COLUMNS;
+use memory::state::FILTERS;
+use memory::state::FixedLagRefiner;
+use memory::state::OWNERS;
+use memory::state::TRACKS;
 use lines::ROOM;
 use recording::Contents;
 

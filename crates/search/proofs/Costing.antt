@@ -13,9 +13,9 @@ use lib.Ieee.{Float, nan}
 use borrow.Author.Count.{below-more}
 use Rattle.kf.specs.declared.cost.Fold.{Fold}
 use Rattle.kf.specs.Cost.{missesOf, Kept, Asks}
-use Rattle.search.specs.Price.{frozenAt, partFrom, rowCost, Fit}
+use Rattle.pricing.specs.Price.{frozenAt, partFrom, rowCost, Fit}
 use Rattle.search.specs.Pass.{Scene, viewOn, partOn, rowOn, costOn, Able, Listed, Costed}
-use Rattle.search.proofs.RowSlots.{row-length}
+use Rattle.pricing.proofs.RowSlots.{row-length}
 use Rattle.search.proofs.Listing.{listed-apart}
 
 -- ---- one window

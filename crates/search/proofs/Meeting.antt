@@ -13,9 +13,9 @@ use lib.Ieee.{Float}
 use mir.Facts.{or-yes}
 use borrow.Author.Tests.{lt-ltb, le-leb}
 use Rattle.model.specs.Lists.{any, upFrom}
-use Rattle.search.specs.Rows.{rowOf, firstIn, endFrom, entryOf, Tabled}
-use Rattle.search.specs.Near.{closeAt, closeScans, anyClose, meets, rowAt, CloseRows}
-use Rattle.search.proofs.RowSlots.{row-length, entry-first, entry-end}
+use Rattle.pricing.specs.Rows.{rowOf, firstIn, endFrom, entryOf, Tabled}
+use Rattle.pricing.specs.Near.{closeAt, closeScans, anyClose, meets, rowAt, CloseRows}
+use Rattle.pricing.proofs.RowSlots.{row-length, entry-first, entry-end}
 use Rattle.search.proofs.CutTests.{Meet, close-meet, near-some}
 
 -- ---- where a row begins and ends

@@ -1,5 +1,2 @@
-pub mod moves;
-pub mod near;
+// The search: passes over the pairs of tracks that come close, and over the tracks.
 pub mod pass;
-pub mod price;
-pub mod rows;

@@ -1,6 +1,6 @@
 -- `fgo::refiner::arrive` meets its contract. Assumes nothing.
 use borrow.Author.Needs.{needs}
-use Rattle.fgo.specs.Memory.{memory}
+use Rattle.memory.specs.Memory.{memory}
 use Rattle.fgo.proofs.Accepted.{bytes-of, holds}
 use Rattle.fgo.proofs.HeldFrame.{searches}
 use Rattle.fgo.proofs.ArrivedState.{arrives}

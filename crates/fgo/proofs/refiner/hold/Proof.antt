@@ -6,12 +6,12 @@ use mathlib.Core.List.{List}
 use lib.ListN.{length}
 use borrow.Author.Needs.{needs}
 use Rattle.engine.specs.Body.{narrow, associationCount}
-use Rattle.fgo.specs.declared.place.Placing.{Placing}
-use Rattle.fgo.specs.declared.state.FixedLagRefiner.{FixedLagRefiner}
-use Rattle.fgo.specs.Memory.{slotAt, over}
-use Rattle.fgo.specs.Placing.{Placed}
+use Rattle.rule.specs.declared.place.Placing.{Placing}
+use Rattle.memory.specs.declared.state.FixedLagRefiner.{FixedLagRefiner}
+use Rattle.memory.specs.Memory.{slotAt, over}
+use Rattle.rule.specs.Placing.{Placed}
 use Rattle.fgo.specs.Arriving.{columnWords, placedBy, Holds, HeldBy}
-use Rattle.fgo.proofs.Counts.{associations-few}
+use Rattle.memory.proofs.Counts.{associations-few}
 use Rattle.fgo.proofs.HeldScans.{body-fits, bodies-kept, columns-kept, body-other, body-here, scans-more}
 use Rattle.fgo.proofs.refiner.hold.Statement.{statement}
 use Rattle.fgo.proofs.refiner.hold.Tie as tie

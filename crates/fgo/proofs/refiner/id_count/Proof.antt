@@ -14,10 +14,10 @@ use Rattle.engine.specs.Body.{narrow, associationCount, frameOf}
 use Rattle.model.specs.Lists.{keep}
 use Rattle.model.specs.Refiner.{hasId}
 use Rattle.model.proofs.Counting.{bump, count-snoc}
-use Rattle.fgo.specs.Writing.{associationIn}
-use Rattle.fgo.proofs.Counts.{associations-long, associations-few}
+use Rattle.memory.proofs.Counts.{associations-long, associations-few}
 use Rattle.fgo.proofs.refiner.id_count.Statement.{statement}
 use Rattle.fgo.proofs.refiner.id_count.Tie as tie
+use Rattle.memory.specs.Memory.{associationIn}
 
 -- how many of the first j associations have an id
 abbrev counted : List ℕ → ℕ → ℕ

@@ -9,8 +9,8 @@ use lib.Dec.{eqb}
 use borrow.Author.Tests.{eq-eqb, ne-eqb}
 use Rattle.engine.specs.Body.{rows}
 use Rattle.model.specs.Lists.{has}
-use Rattle.fgo.specs.Memory.{cells}
-use Rattle.fgo.proofs.Rows.{any-here, any-next, any-end}
+use Rattle.memory.specs.Memory.{cells}
+use Rattle.memory.proofs.Rows.{any-here, any-next, any-end}
 use Rattle.fgo.proofs.refiner.is_in.Statement.{statement}
 use Rattle.fgo.proofs.refiner.is_in.Tie as tie
 

@@ -3,7 +3,7 @@ use borrow.Author.Needs.{needs}
 use native.Mathlib.Omega.{arith}
 use mathlib.Core.Path.{sym, _∙_}
 use lib.ListN.{length-set}
-use Rattle.fgo.proofs.Cells.{cells-set}
+use Rattle.memory.proofs.Cells.{cells-set}
 use Rattle.fgo.proofs.refiner.join_one.Statement.{statement}
 use Rattle.fgo.proofs.refiner.join_one.Tie as tie
 

@@ -5,12 +5,12 @@ use mathlib.Core.List.{List}
 use Prim.Native.Nat.{ℕ}
 use lib.ListN.{length, replicate}
 use Rattle.engine.specs.declared.types.Association.{Association}
-use Rattle.fgo.specs.Memory.{cells, over}
-use Rattle.fgo.specs.Sound.{engineIn}
+use Rattle.memory.specs.Memory.{cells, over}
+use Rattle.rule.specs.Sound.{engineIn}
 use Rattle.fgo.specs.Refusing.{enginesIn}
-use Rattle.fgo.proofs.Cells.{length-rows, cells-over}
-use Rattle.fgo.proofs.Over.{length-over}
-use Rattle.fgo.proofs.Counts.{associations-few}
+use Rattle.memory.proofs.Cells.{length-rows, cells-over}
+use Rattle.memory.proofs.Over.{length-over}
+use Rattle.memory.proofs.Counts.{associations-few}
 use Rattle.fgo.proofs.Joining.{Joins, joins-none, joins-more, joins-all}
 use Rattle.fgo.proofs.refiner.joined_count.Statement.{statement}
 use Rattle.fgo.proofs.refiner.joined_count.Tie as tie

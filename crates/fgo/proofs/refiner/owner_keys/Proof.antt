@@ -4,10 +4,10 @@ use native.Mathlib.Nat.{zero-add}
 use native.Mathlib.Omega.{arith}
 use mathlib.Core.Path.{sym}
 use Rattle.engine.proofs.Passing.{row-at}
-use Rattle.fgo.specs.Sound.{engineIn}
+use Rattle.rule.specs.Sound.{engineIn}
 use Rattle.fgo.specs.Refusing.{enginesIn}
-use Rattle.fgo.proofs.Cells.{length-rows}
-use Rattle.fgo.proofs.Writes.{Writes, writes-none, writes-more, writes-all}
+use Rattle.memory.proofs.Cells.{length-rows}
+use Rattle.memory.proofs.Writes.{Writes, writes-none, writes-more, writes-all}
 use Rattle.fgo.proofs.refiner.owner_keys.Statement.{statement}
 use Rattle.fgo.proofs.refiner.owner_keys.Tie as tie
 

@@ -3,7 +3,7 @@ use borrow.Author.Needs.{needs}
 use native.Mathlib.Omega.{arith}
 use mathlib.Core.Path.{sym, _∙_}
 use borrow.Author.Tests.{not-true, not-false}
-use Rattle.fgo.specs.Memory.{memory}
+use Rattle.memory.specs.Memory.{memory}
 use Rattle.fgo.proofs.Answering.{sound-is, roomy-room, refusal-ends}
 use Rattle.fgo.proofs.PushLaw.{refuses, push-unsound, push-short, push-numbered, push-held, push-released}
 use Rattle.fgo.proofs.refiner.push.Statement.{statement}

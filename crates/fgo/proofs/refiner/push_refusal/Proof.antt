@@ -5,7 +5,7 @@ use native.Mathlib.Omega.{arith}
 use mathlib.Core.Path.{_≡_, refl, sym, _∙_}
 use borrow.Author.Tests.{lt-ltb, le-ltb}
 use Rattle.fgo.specs.Refusing.{refusedBy, pushRefusal}
-use Rattle.fgo.proofs.Detections.{found-few}
+use Rattle.memory.proofs.Detections.{found-few}
 use Rattle.fgo.proofs.refiner.push_refusal.Statement.{statement}
 use Rattle.fgo.proofs.refiner.push_refusal.Tie as tie
 

@@ -3,8 +3,8 @@ use Prim.Native.Nat.{ℕ, _*_, _-_}
 use native.Mathlib.Omega.{arith}
 use mathlib.Core.Path.{refl, ap, _∙_}
 use lib.ListN.{length}
-use Rattle.fgo.specs.Memory.{over}
-use Rattle.fgo.proofs.Writes.{Writes, writes-none, writes-more, writes-all}
+use Rattle.memory.specs.Memory.{over}
+use Rattle.memory.proofs.Writes.{Writes, writes-none, writes-more, writes-all}
 use Rattle.fgo.proofs.refiner.put_body.Statement.{statement}
 use Rattle.fgo.proofs.refiner.put_body.Tie as tie
 

@@ -6,10 +6,10 @@ use mathlib.Core.Path.{_≡_, refl, sym, ap, _∙_}
 use mathlib.Core.List.{List, [], _∷_}
 use lib.ListN.{length, length-set, take, set}
 use lib.Seq.{length-take-le, getD-take}
-use Rattle.fgo.specs.Memory.{over}
+use Rattle.memory.specs.Memory.{over}
 use Rattle.fgo.specs.Arriving.{columnWords}
-use Rattle.fgo.proofs.Over.{over-more}
-use Rattle.fgo.proofs.Writes.{Writes, writes-none, writes-more, writes-all}
+use Rattle.memory.proofs.Over.{over-more}
+use Rattle.memory.proofs.Writes.{Writes, writes-none, writes-more, writes-all}
 use Rattle.fgo.proofs.refiner.put_column.Statement.{statement}
 use Rattle.fgo.proofs.refiner.put_column.Tie as tie
 

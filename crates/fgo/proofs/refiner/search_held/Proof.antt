@@ -10,15 +10,15 @@ use Rattle.model.specs.Windows.{Scan}
 use Rattle.model.specs.Owning.{orElse, latest}
 use Rattle.model.specs.Rule.{ColumnRule}
 use Rattle.model.proofs.Ties.{TiedScan, loose-tied}
-use Rattle.search.specs.declared.moves.Tally.{Tally}
+use Rattle.pricing.specs.declared.moves.Tally.{Tally}
 use Rattle.search.specs.Pass.{sceneOf}
 use Rattle.search.specs.Gathered.{Finds}
-use Rattle.fgo.specs.declared.state.FixedLagRefiner.{FixedLagRefiner}
-use Rattle.fgo.specs.Memory.{Memory, memory, scanIn, scansIn, tableIn, ownersIn}
-use Rattle.fgo.specs.Gathering.{latestOf, GatheredAll, Scattered}
-use Rattle.fgo.specs.Arriving.{heldLatest, Searches, Searched, foundIn}
-use Rattle.fgo.proofs.Rows.{row-of}
-use Rattle.fgo.proofs.HeldGathered.{starts-128, latest-held}
+use Rattle.memory.specs.declared.state.FixedLagRefiner.{FixedLagRefiner}
+use Rattle.memory.specs.Memory.{Memory, memory, scanIn, scansIn, tableIn, ownersIn}
+use Rattle.memory.specs.Gathering.{latestOf, GatheredAll, Scattered, heldLatest}
+use Rattle.fgo.specs.Arriving.{Searches, Searched, foundIn}
+use Rattle.memory.proofs.Rows.{row-of}
+use Rattle.rule.proofs.HeldGathered.{starts-128, latest-held}
 use Rattle.fgo.proofs.SearchGathered.{able, ids-long, search-gathered, scans-put-back}
 use Rattle.fgo.proofs.refiner.search_held.Statement.{statement}
 use Rattle.fgo.proofs.refiner.search_held.Tie as tie

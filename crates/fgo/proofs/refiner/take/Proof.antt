@@ -3,7 +3,7 @@ use borrow.Author.Needs.{needs}
 use mathlib.Core.Path.{sym, _∙_}
 use native.Mathlib.Omega.{arith}
 use borrow.Author.Tests.{not-true, not-false}
-use Rattle.fgo.specs.Memory.{memory}
+use Rattle.memory.specs.Memory.{memory}
 use Rattle.fgo.proofs.ReadyLaw.{sound-ready}
 use Rattle.fgo.proofs.Answering.{sound-is, roomy-room, refusal-ends, take-unsound, take-narrow, take-none, take-ends}
 use Rattle.fgo.proofs.refiner.take.Statement.{statement}

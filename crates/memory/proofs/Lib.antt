@@ -1,0 +1,15 @@
+pub mod Rows
+pub mod Present
+pub mod Cells
+pub mod Over
+pub mod Writes
+pub mod Parts
+pub mod Columns
+pub mod Counts
+pub mod Detections
+pub mod LatestGathered
+pub mod GatheredScans
+pub mod GatheringScan
+pub mod GatheringHeld
+pub mod ScatteringScan
+pub mod ScatteringHeld

@@ -1,0 +1,61 @@
+-- `fgo::gather::put_dot` meets its contract. Assumes nothing.
+use mathlib.Core.Path.{_≡_, ap, _∙_}
+use lib.ListN.{getD}
+use mir.Facts.{toZ-ofZ}
+use Rattle.scalar.specs.Scalar.{secondsOf}
+use Rattle.engine.specs.declared.types.Association.{Association}
+use Rattle.engine.specs.Frame.{noObservation}
+use Rattle.engine.specs.Body.{narrow, frameOf}
+use Rattle.model.specs.Windows.{dotOf}
+use borrow.Author.Needs.{needs}
+use Rattle.memory.proofs.gather.put_dot.Statement.{statement}
+use Rattle.memory.proofs.gather.put_dot.Tie as tie
+use Rattle.memory.specs.Memory.{associationIn}
+
+association-requires : tie.Need-association-requires
+association-requires c κs = search needs
+
+observation-requires : tie.Need-observation-requires
+observation-requires c κs = search needs
+
+time-of-requires : tie.Need-time-of-requires
+time-of-requires c κs = search needs
+
+seconds-requires : tie.Need-seconds-requires
+seconds-requires c κs = search needs
+
+mul-put-numbers : tie.Need-mul-put-numbers
+mul-put-numbers c = search needs
+
+slice-aggregate-put-numbers : tie.Need-slice-aggregate-put-numbers
+slice-aggregate-put-numbers c = search needs
+
+put-numbers-requires : tie.Need-put-numbers-requires
+put-numbers-requires c κs = search needs
+
+same-length : tie.Need-same-length
+same-length c = search needs
+
+returns : tie.Need-returns
+unfolding dotOf
+returns c =
+    let t = c .before .before .before .before .before .before .before .before .before .before .before .before .before in
+    let f = frameOf narrow (t .args .s .now) in
+    let h = t .pre .0 in
+    let e : c .before .before .before .before .before .before .before .before .observation .result ≡ getD (f .observations) (associationIn (t .args .s .now) (t .args .j) .index .0) noObservation = c .before .before .before .before .before .before .before .before .observation .ensures h ∙ ap (λ (a : Association). getD (f .observations) (a .index .0) noObservation) (c .before .before .before .before .before .before .before .before .before .before .association .ensures h) in
+    let u : c .before .before .before .before .before .before .seconds .result ≡ secondsOf (f .time) = c .before .before .before .before .before .before .seconds .ensures ∙ ap secondsOf (toZ-ofZ (record { sfits = c .before .before .before .before .before .before .before .time-of .ok }) ∙ c .before .before .before .before .before .before .before .time-of .ensures h) in
+    c .before .before .put-numbers .ensures ∙ rw (e, u)
+
+pub put-dot-spec : {M : Type 1} → statement M
+put-dot-spec =
+    tie.close
+    (tie.spec
+    association-requires
+    observation-requires
+    time-of-requires
+    seconds-requires
+    mul-put-numbers
+    slice-aggregate-put-numbers
+    put-numbers-requires
+    same-length
+    returns)

@@ -1,0 +1,4 @@
+pub mod Rows
+pub mod Near
+pub mod Price
+pub mod Moves

@@ -1,0 +1,13 @@
+pub mod Times
+pub mod Associations
+pub mod Listing
+pub mod Framing
+pub mod Heights
+pub mod Classes
+pub mod Places
+pub mod Raising
+pub mod Table
+pub mod Order
+pub mod FrozenOne
+pub mod FrozenScan
+pub mod Forgetting

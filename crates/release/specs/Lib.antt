@@ -1,0 +1,2 @@
+pub mod Frozen
+pub mod Writing

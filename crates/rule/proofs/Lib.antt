@@ -1,0 +1,9 @@
+pub mod Conjunctions
+pub mod Counted
+pub mod AllOf
+pub mod Scans
+pub mod HeldGathered
+pub mod SoundLaw
+pub mod Owners
+pub mod OwnedGathered
+pub mod PlacingSteps

@@ -1,0 +1,4 @@
+// The state rule, and owning: which track an engine id belongs to.
+pub mod own;
+pub mod place;
+pub mod rule;
