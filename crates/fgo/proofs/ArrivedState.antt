@@ -17,7 +17,7 @@ use Rattle.model.specs.Refiner.{State, placed, withScan, searched, arrive}
 use Rattle.model.specs.Rule.{Bytes}
 use Rattle.model.proofs.Counting.{count-le}
 use Rattle.model.proofs.Arrival.{arrived}
-use Rattle.pricing.specs.declared.moves.Tally.{Tally}
+use Rattle.windows.specs.declared.moves.Tally.{Tally}
 use Rattle.memory.specs.declared.state.FixedLagRefiner.{FixedLagRefiner}
 use Rattle.memory.specs.Memory.{Memory, memory, scansIn, entryIn, ownersIn, stateOf}
 use Rattle.rule.specs.Sound.{liveIn}

@@ -28,7 +28,7 @@ use Rattle.model.specs.Faithful.{Regular}
 use Rattle.model.specs.Rule.{All, ColumnRule}
 use Rattle.model.proofs.All.{All-weaken}
 use Rattle.model.proofs.Windows.{columns-regular}
-use Rattle.pricing.specs.Rows.{Starts, columnAt}
+use Rattle.windows.specs.Rows.{Starts, columnAt}
 use Rattle.pricing.specs.Price.{frozenAt, partFrom, partAmong}
 use Rattle.search.specs.Pass.{Scene, sceneOf, viewOn, Able}
 use Rattle.search.specs.Gathered as search

@@ -12,7 +12,7 @@ use Rattle.model.specs.Searching.{improve}
 use Rattle.model.specs.Rule.{All, Bytes, ColumnRule}
 use Rattle.model.specs.Placing as placing
 use Rattle.model.specs.Refiner as model
-use Rattle.pricing.specs.declared.moves.Tally.{Tally}
+use Rattle.windows.specs.declared.moves.Tally.{Tally}
 use Rattle.search.specs.Gathered.{Spare}
 use Rattle.memory.specs.declared.state.FixedLagRefiner.{FixedLagRefiner}
 use Rattle.memory.specs.Memory.{Memory, bodyAt, scansIn, tableIn, ownersIn, stateOf}

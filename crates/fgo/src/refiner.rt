@@ -22,7 +22,7 @@ use engine::types::ScanIndex;
 use kf::cost::DETECTIONS;
 use kf::cost::DOTS;
 use model::moves::FgoCounters;
-use pricing::moves::Tally;
+use windows::moves::Tally;
 use search::pass;
 use pricing::price::Hall;
 ghost use mathlib.Core.Path.{_≡_};

@@ -15,7 +15,7 @@ use Rattle.engine.proofs.Passing.{length-rows}
 use Rattle.model.specs.Lists.{keep}
 use Rattle.model.specs.Windows.{Scan, inWindows, detections}
 use Rattle.model.proofs.Windows.{detections-cons}
-use Rattle.pricing.specs.Rows.{segment, columnAt}
+use Rattle.windows.specs.Rows.{segment, columnAt}
 use Rattle.search.specs.Gathered.{picked, spread, putBack}
 use Rattle.memory.specs.Memory.{over}
 use Rattle.memory.specs.Gathering.{engineOf, Gathered, gatheredIn, gatheredOf, gathered, idsOf, enginesOf}

@@ -15,7 +15,7 @@ use Rattle.engine.specs.Body.{rows}
 use Rattle.model.specs.Windows.{Scan}
 use Rattle.model.specs.Owning.{isEngine, holderIn, orElse, latest}
 use Rattle.model.proofs.Ties.{Engine, Tied, TiedScan}
-use Rattle.pricing.specs.Rows.{segment, columnAt}
+use Rattle.windows.specs.Rows.{segment, columnAt}
 use Rattle.search.specs.Gathered.{picked, spread, putBack}
 use Rattle.memory.specs.Gathering.{engineOf, holderOf, latestOf}
 

@@ -12,8 +12,8 @@ use Rattle.engine.specs.declared.types.ScanIndex.{ScanIndex}
 use Rattle.kf.specs.declared.cost.Fold.{Fold}
 use Rattle.kf.specs.Cost.{View, viewOf, dets, run, closed, cost, missesOf, Kept, Asks}
 use Rattle.kf.proofs.Steps.{run-append, dets-append, misses-run}
-use Rattle.pricing.specs.Rows.{segment}
-use Rattle.pricing.proofs.Segments.{length-segment}
+use Rattle.windows.specs.Rows.{segment}
+use Rattle.windows.proofs.Segments.{length-segment}
 use Rattle.pricing.specs.Price.{Fit, Until, rowCost, headOf, crossed, onTo}
 
 -- a part of a row from its start on, as the code lends it

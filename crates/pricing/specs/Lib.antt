@@ -1,4 +1,1 @@
-pub mod Rows
-pub mod Near
 pub mod Price
-pub mod Moves

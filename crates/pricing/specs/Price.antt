@@ -20,7 +20,7 @@ use Rattle.model.specs.declared.moves.TrackMove.{TrackMove}
 use Rattle.model.specs.declared.moves.TrackMove.the-variants.{Split, Drop, Stay as Rest}
 use Rattle.model.specs.Lists.{keep, upFrom}
 use Rattle.model.specs.Searching.{betterPair, betterTrack}
-use Rattle.pricing.specs.Rows.{segment}
+use Rattle.windows.specs.Rows.{segment}
 use Rattle.pricing.specs.declared.price.Heads.{Heads}
 use Rattle.pricing.specs.declared.price.Head.{Head}
 use Rattle.pricing.specs.declared.price.Hall.{Hall}

@@ -1,5 +1,2 @@
-// What the moves of the search cost, and what they do.
-pub mod moves;
-pub mod near;
+// What the moves of the search would cost, and which is best.
 pub mod price;
-pub mod rows;

@@ -12,7 +12,7 @@ use Rattle.model.specs.Lists.{keep}
 use Rattle.model.specs.Windows.{Scan}
 use Rattle.model.specs.Owning.{orElse, latest}
 use Rattle.model.proofs.Ties.{TiedScan}
-use Rattle.pricing.specs.Rows.{columnAt}
+use Rattle.windows.specs.Rows.{columnAt}
 use Rattle.search.specs.Gathered.{putBack}
 use Rattle.memory.specs.Memory.{scanIn, scansIn}
 use Rattle.memory.specs.Gathering.{gathered, foundOf, latestOf, Held, GatheredAll}

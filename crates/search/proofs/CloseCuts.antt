@@ -10,9 +10,9 @@ use lib.Ieee.{Float}
 use Rattle.model.specs.Lists.{keep, consIf, any, upFrom}
 use Rattle.model.proofs.All.{mem-All}
 use Rattle.model.proofs.Counting.{any-All, or-right}
-use Rattle.pricing.specs.Near.{closeAt, closeScans, anyClose}
+use Rattle.windows.specs.Near.{closeAt, closeScans, anyClose}
 use Rattle.pricing.specs.Price.{cutAt, cutsOf}
-use Rattle.pricing.proofs.Filled.{map-up-length}
+use Rattle.windows.proofs.Filled.{map-up-length}
 use Rattle.search.proofs.CutTests.{or-left, same-answer}
 
 -- a list has an element

@@ -15,7 +15,7 @@ use Rattle.kf.specs.declared.cost.Fold.{Fold}
 use Rattle.kf.specs.Cost.{missesOf, Kept, Asks}
 use Rattle.pricing.specs.Price.{frozenAt, partFrom, rowCost, Fit}
 use Rattle.search.specs.Pass.{Scene, viewOn, partOn, rowOn, costOn, Able, Listed, Costed}
-use Rattle.pricing.proofs.RowSlots.{row-length}
+use Rattle.windows.proofs.RowSlots.{row-length}
 use Rattle.search.proofs.Listing.{listed-apart}
 
 -- ---- one window

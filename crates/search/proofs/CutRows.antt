@@ -16,13 +16,13 @@ use Rattle.model.specs.Windows.{Scan, Prefix, Dot, detOf, window}
 use Rattle.model.specs.Searching.{close, isCut, cuts}
 use Rattle.model.specs.Rule.{All}
 use Rattle.model.proofs.Counting.{keep-append, keep-const}
-use Rattle.pricing.specs.Near.{square, nearSlots, closeAt, closeScans}
+use Rattle.windows.specs.Near.{square, nearSlots, closeAt, closeScans}
 use Rattle.pricing.specs.Price.{cutAt, cutsOf}
 use Rattle.search.specs.Pass.{Scene, viewOn, rowOn, closeOn}
 use Rattle.search.specs.Gathered.{putBack}
-use Rattle.pricing.proofs.Filled.{map-up-length, map-up-at}
+use Rattle.windows.proofs.Filled.{map-up-length, map-up-at}
 use Rattle.search.proofs.Standing.{Held, scansNow, Standing, CutRows}
-use Rattle.pricing.proofs.RowSlots.{row-length, row-at}
+use Rattle.windows.proofs.RowSlots.{row-length, row-at}
 use Rattle.search.proofs.WindowRows.{slot-empty, window-rows}
 use Rattle.search.proofs.WindowDets.{map-keep}
 use Rattle.search.proofs.CutTests.{cutBy, cut-tests}

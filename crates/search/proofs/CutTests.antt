@@ -14,7 +14,7 @@ use borrow.Author.Tests.{eq-eqb, ne-eqb}
 use Rattle.kf.specs.Cost.{View, Det, detAt, dets}
 use Rattle.model.specs.Lists.{any}
 use Rattle.model.proofs.Counting.{or-right}
-use Rattle.pricing.specs.Near.{square, apart2, nearSlots, closeAt}
+use Rattle.windows.specs.Near.{square, apart2, nearSlots, closeAt}
 use Rattle.pricing.specs.Price.{cutAt}
 
 pub or-left : (a b : Bool) → T a → T (a || b)

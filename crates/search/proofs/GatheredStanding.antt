@@ -9,7 +9,7 @@ use Rattle.model.specs.Lists.{times}
 use Rattle.model.specs.Windows.{Scan, Prefix}
 use Rattle.model.specs.Faithful.{Regular}
 use Rattle.model.specs.Rule.{All}
-use Rattle.pricing.specs.Rows.{Starts}
+use Rattle.windows.specs.Rows.{Starts}
 use Rattle.search.specs.Pass.{Scene}
 use Rattle.search.specs.Gathered.{spread, putBack, GatheredScan, GatheredFrom, Gathered}
 use Rattle.search.proofs.Standing.{HeldScan, HeldFrom, scansNow, Standing}

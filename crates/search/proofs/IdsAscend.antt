@@ -14,9 +14,9 @@ use Rattle.model.specs.Lists.{keep, consIf, any, has, insert, insertBy}
 use Rattle.model.specs.Rule.{All}
 use Rattle.model.proofs.All.{All-keep, mem-All}
 use Rattle.model.proofs.Counting.{count-le, compare-lt, compare-gt}
-use Rattle.pricing.specs.Rows.{presentIn, Begins}
+use Rattle.windows.specs.Rows.{presentIn, Begins}
 use Rattle.search.specs.Pass.{Listed}
-use Rattle.pricing.proofs.Ascending.{insert-length}
+use Rattle.windows.proofs.Ascending.{insert-length}
 
 -- a list that ascends from above k on
 abbrev pub Ascends : ℕ → List ℕ → Type 0

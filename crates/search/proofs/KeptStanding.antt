@@ -16,9 +16,9 @@ use Rattle.model.specs.Rule.{All}
 use Rattle.model.proofs.All.{All-both}
 use Rattle.model.proofs.Presence.{Names}
 use Rattle.model.proofs.Keeping.{Beside, beside-All, beside-same, Known, Kept, regular-exchange, regular-clear, kept-pair, kept-track}
-use Rattle.pricing.specs.Moves.{pairIds, trackIds}
+use Rattle.windows.specs.Moves.{pairIds, trackIds}
 use Rattle.search.specs.Pass.{Scene, rowOn}
-use Rattle.pricing.proofs.Renamed.{renamed-length}
+use Rattle.windows.proofs.Renamed.{renamed-length}
 use Rattle.search.proofs.Standing.{scansNow, Standing, Fits}
 use Rattle.search.proofs.MoveRows.{pair-ids, track-ids}
 

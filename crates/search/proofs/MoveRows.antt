@@ -16,15 +16,15 @@ use Rattle.model.specs.Lists.{has, any}
 use Rattle.model.specs.Windows.{Scan, Prefix}
 use Rattle.model.specs.Searching.{exchange, clear, recolumn, absorb, swapColumn, dropColumn, otherOf, afterPair, afterTrack}
 use Rattle.model.proofs.Renaming.{exchange-other}
-use Rattle.pricing.specs.declared.moves.Targets.{Targets}
-use Rattle.pricing.specs.Rows.{Starts, columnAt}
-use Rattle.pricing.specs.Moves.{retarget, same, keeperTarget, otherTarget, pairTargets, trackTargets, renamedFrom, hasSlot, pairIds, trackIds}
+use Rattle.windows.specs.declared.moves.Targets.{Targets}
+use Rattle.windows.specs.Rows.{Starts, columnAt}
+use Rattle.windows.specs.Moves.{retarget, same, keeperTarget, otherTarget, pairTargets, trackTargets, renamedFrom, hasSlot, pairIds, trackIds}
 use Rattle.search.specs.Pass.{Scene, rowOn}
 use Rattle.search.specs.Gathered.{spread, putBack}
-use Rattle.pricing.proofs.Renamed.{renamed-column}
+use Rattle.windows.proofs.Renamed.{renamed-column}
 use Rattle.search.proofs.Standing.{HeldScan, HeldFrom, scansNow, Standing, Fits, PairIds, TrackIds}
 use Rattle.search.proofs.Spreads.{spread-map}
-use Rattle.pricing.proofs.RowSlots.{row-at}
+use Rattle.windows.proofs.RowSlots.{row-at}
 use Rattle.search.proofs.WindowRows.{slot-now}
 
 -- ---- one id

@@ -12,11 +12,11 @@ use Rattle.model.specs.declared.moves.PairMove.the-variants.{Stay, Swap, Merge}
 use Rattle.model.specs.declared.moves.TrackMove.{TrackMove}
 use Rattle.model.specs.declared.moves.TrackMove.the-variants.{Split, Drop, Stay as Rest}
 use Rattle.model.specs.Lists.{upFrom}
-use Rattle.pricing.specs.declared.moves.Targets.{Targets}
-use Rattle.pricing.specs.Rows.{Starts, columnAt, slotIn, slotAt, rowOf}
-use Rattle.pricing.specs.Moves.{retarget, same, keeperTarget, otherTarget, pairTargets, trackTargets, renamedFrom, hasSlot, pairIds, trackIds}
+use Rattle.windows.specs.declared.moves.Targets.{Targets}
+use Rattle.windows.specs.Rows.{Starts, columnAt, slotIn, slotAt, rowOf}
+use Rattle.windows.specs.Moves.{retarget, same, keeperTarget, otherTarget, pairTargets, trackTargets, renamedFrom, hasSlot, pairIds, trackIds}
 use Rattle.search.specs.Pass.{Scene, rowOn}
-use Rattle.pricing.proofs.Renamed.{renamed-column}
+use Rattle.windows.proofs.Renamed.{renamed-column}
 
 -- neither of the two becomes x
 abbrev Spares : ℕ → Targets → Type 0

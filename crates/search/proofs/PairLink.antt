@@ -24,7 +24,7 @@ use Rattle.model.proofs.Merging.{merge-first-says, merge-second-says, shared-tu
 use Rattle.pricing.specs.Price.{cutsOf, sharedRows, trySwapRow, tryMergeRow, bestSwapRow, betterMerge, bestPairRow}
 use Rattle.search.specs.Pass.{Scene, idOf, viewOn, partOn, rowOn, pairBest}
 use Rattle.search.proofs.Standing.{Standing, PartsOk, Fits, WindowRow, SharedRows, PairBest, scansNow}
-use Rattle.pricing.proofs.RowSlots.{row-length}
+use Rattle.windows.proofs.RowSlots.{row-length}
 use Rattle.search.proofs.RowCosts.{Stands, cost-dets}
 use Rattle.search.proofs.WindowDets.{Rowed, row-crossed, row-joined}
 

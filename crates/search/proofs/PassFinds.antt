@@ -14,8 +14,8 @@ use Rattle.model.specs.Windows.{Scan, Prefix, present}
 use Rattle.model.specs.Searching.{Search as Model, Searched, pairs, pairStep as onPair, trackStep as onTrack, pass, passes, improve}
 use Rattle.model.proofs.Counting.{has-All, has-keep}
 use Rattle.model.proofs.Presence.{present-is}
-use Rattle.pricing.specs.Rows.{presentIn}
-use Rattle.pricing.specs.Moves.{begun, oneMore}
+use Rattle.windows.specs.Rows.{presentIn}
+use Rattle.windows.specs.Moves.{begun, oneMore}
 use Rattle.search.specs.Pass.{Scene, Search, Able, sweep, visit, passOver, passesOver}
 use Rattle.search.specs.Gathered.{Gathered, Finds}
 use Rattle.search.proofs.Standing.{Standing, scansNow}

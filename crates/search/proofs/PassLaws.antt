@@ -7,7 +7,7 @@ use Rattle.model.specs.declared.moves.PairMove.{PairMove}
 use Rattle.model.specs.declared.moves.TrackMove.{TrackMove}
 use Rattle.model.specs.Windows.{Scan, Prefix}
 use Rattle.model.specs.Searching.{nextAfter}
-use Rattle.pricing.specs.Moves.{pairIds, trackIds}
+use Rattle.windows.specs.Moves.{pairIds, trackIds}
 use Rattle.search.specs.Pass.{Scene, rowOn, pairBest}
 use Rattle.search.proofs.Standing.{Standing, Fits, PresentRows, CutRows, PairIds, TrackIds, PairBest, TrackBest}
 

@@ -6,9 +6,9 @@ use mathlib.Core.Bool.{Bool, true, false}
 use mathlib.Core.List.{List}
 use lib.ListN.{length, take}
 use lib.Ieee.{Float}
-use Rattle.pricing.specs.declared.moves.Tally.{Tally}
-use Rattle.pricing.specs.Rows.{presentIn}
-use Rattle.pricing.specs.Moves.{begun}
+use Rattle.windows.specs.declared.moves.Tally.{Tally}
+use Rattle.windows.specs.Rows.{presentIn}
+use Rattle.windows.specs.Moves.{begun}
 use Rattle.search.specs.Pass.{Scene, Search, sweep, visit, passOver, passesOver, Tables}
 use Rattle.search.proofs.Sweeps.{at}
 

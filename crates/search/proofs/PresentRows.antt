@@ -9,11 +9,11 @@ use lib.Dec.{ltb}
 use Rattle.model.specs.Lists.{keep, insert}
 use Rattle.model.specs.Windows.{Scan, Prefix, present}
 use Rattle.model.proofs.Counting.{keep-append}
-use Rattle.pricing.specs.Rows.{segment, Starts, columnAt, presentIn}
+use Rattle.windows.specs.Rows.{segment, Starts, columnAt, presentIn}
 use Rattle.search.specs.Pass.{Scene}
 use Rattle.search.specs.Gathered.{spread, putBack}
-use Rattle.pricing.proofs.Segments.{segment-none}
-use Rattle.pricing.proofs.Renamed.{starts-ordered}
+use Rattle.windows.proofs.Segments.{segment-none}
+use Rattle.windows.proofs.Renamed.{starts-ordered}
 use Rattle.search.proofs.Standing.{HeldFrom, Standing, PresentRows}
 use Rattle.search.proofs.Spreads.{spread-keep}
 use Rattle.search.proofs.WindowRows.{held-fills}

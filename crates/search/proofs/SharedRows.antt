@@ -10,7 +10,7 @@ use borrow.Author.Tests.{ne-eqb}
 use Rattle.model.specs.Lists.{has, upFrom}
 use Rattle.model.specs.Windows.{Scan, Prefix}
 use Rattle.model.specs.Searching.{shared}
-use Rattle.pricing.specs.Rows.{Starts, columnAt, slotAt, rowOf}
+use Rattle.windows.specs.Rows.{Starts, columnAt, slotAt, rowOf}
 use Rattle.pricing.specs.Price.{bothHave, sharedRows}
 use Rattle.search.specs.Pass.{Scene}
 use Rattle.search.specs.Gathered.{spread, putBack}

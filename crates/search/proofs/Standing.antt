@@ -15,9 +15,9 @@ use Rattle.model.specs.Windows.{Scan, Prefix, dotOf, detOf, partOf, window, pre
 use Rattle.model.specs.Searching.{afterPair, afterTrack, cuts, bestOfPair, bestOfTrack, shared}
 use Rattle.model.specs.Faithful.{Regular}
 use Rattle.model.specs.Rule.{All}
-use Rattle.pricing.specs.Rows.{Starts, presentIn}
+use Rattle.windows.specs.Rows.{Starts, presentIn}
 use Rattle.pricing.specs.Price.{cutsOf, sharedRows}
-use Rattle.pricing.specs.Moves.{pairIds, trackIds}
+use Rattle.windows.specs.Moves.{pairIds, trackIds}
 use Rattle.search.specs.Pass.{Scene, viewOn, partOn, rowOn, closeOn, pairBest, trackBest}
 use Rattle.search.specs.Gathered.{picked, putBack}
 

@@ -12,13 +12,13 @@ use Rattle.kf.specs.declared.cost.Fold.{Fold}
 use Rattle.model.specs.declared.moves.PairMove.{PairMove}
 use Rattle.model.specs.declared.moves.TrackMove.{TrackMove}
 use Rattle.model.specs.declared.moves.TrackMove.the-variants.{Split, Drop, Stay as Rest}
-use Rattle.pricing.specs.declared.moves.Tally.{Tally}
-use Rattle.pricing.specs.Rows.{Starts}
+use Rattle.windows.specs.declared.moves.Tally.{Tally}
+use Rattle.windows.specs.Rows.{Starts}
 use Rattle.pricing.specs.Price.{bestPairRow, bestTrackRow}
-use Rattle.pricing.specs.Moves.{pairIds, trackIds, pairStays, trackStays, pairTally, trackTally, nextId}
+use Rattle.windows.specs.Moves.{pairIds, trackIds, pairStays, trackStays, pairTally, trackTally, nextId}
 use Rattle.search.specs.Pass.{Scene, Search, idOf, viewOn, partOn, rowOn, costOn, pairBest, pairMoved, pairStep, trackBest, trackMoved, trackStep}
 use Rattle.search.proofs.OtherRows.{pair-other, track-other}
-use Rattle.pricing.proofs.Renamed.{renamed-length}
+use Rattle.windows.proofs.Renamed.{renamed-length}
 
 -- ---- a pair
 

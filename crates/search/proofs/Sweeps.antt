@@ -8,9 +8,9 @@ use lib.ListN.{length, getD, take, drop}
 use lib.Ieee.{Float}
 use Rattle.engine.specs.Config.{radius}
 use Rattle.kf.specs.Cost.{Kept}
-use Rattle.pricing.specs.declared.moves.Tally.{Tally}
-use Rattle.pricing.specs.Rows.{Tabled}
-use Rattle.pricing.specs.Near.{square, closeScans, anyClose, CloseRows}
+use Rattle.windows.specs.declared.moves.Tally.{Tally}
+use Rattle.windows.specs.Rows.{Tabled}
+use Rattle.windows.specs.Near.{square, closeScans, anyClose, CloseRows}
 use Rattle.search.specs.Pass.{Scene, Search, rowOn, closeOn, pairStep, pairIf, sweepOne, sweep, Listed, Costed}
 use Rattle.search.proofs.Listing.{listed-next, listed-end}
 use Rattle.search.proofs.Meeting.{table-row, table-close}

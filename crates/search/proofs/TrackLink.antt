@@ -29,7 +29,7 @@ use Rattle.pricing.specs.Price.{marked, marks, frozenOne, trySplitRow, tryDropR
 use Rattle.search.specs.Pass.{Scene, viewOn, partOn, rowOn}
 use Rattle.search.proofs.Standing.{Standing, PartsOk, WindowRow, TrackBest, scansNow}
 use Rattle.search.proofs.RowDets.{dets-scans, dets-at}
-use Rattle.pricing.proofs.RowSlots.{row-length}
+use Rattle.windows.proofs.RowSlots.{row-length}
 use Rattle.search.proofs.RowCosts.{Stands, cost-dets}
 use Rattle.search.proofs.WindowDets.{row-before, row-from, unmap}
 

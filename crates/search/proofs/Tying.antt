@@ -14,9 +14,9 @@ use Rattle.model.specs.declared.moves.TrackMove.{TrackMove}
 use Rattle.model.specs.declared.moves.TrackMove.the-variants.{Split, Drop, Stay as Rest}
 use Rattle.model.specs.Windows.{Scan, Prefix}
 use Rattle.model.specs.Searching.{Search as Model, afterPair, afterTrack, countPair, countTrack, nextAfter, pairMoves, trackMoves, bestOfPair, bestOfTrack, pairStep as onPair, trackStep as onTrack}
-use Rattle.pricing.specs.declared.moves.Tally.{Tally}
+use Rattle.windows.specs.declared.moves.Tally.{Tally}
 use Rattle.pricing.specs.Price.{cutsOf}
-use Rattle.pricing.specs.Moves.{oneMore, pairStays, trackStays, pairTally, trackTally}
+use Rattle.windows.specs.Moves.{oneMore, pairStays, trackStays, pairTally, trackTally}
 use Rattle.search.specs.Pass.{Scene, Search, pairBest, pairMoved, pairStep, trackBest, trackMoved, trackStep}
 use Rattle.search.proofs.Standing.{Standing, scansNow, Fits}
 use Rattle.search.proofs.PassLaws.{PassLaws}

@@ -7,8 +7,8 @@ use mathlib.Core.List.{List}
 use lib.ListN.{length, getD, take, drop}
 use lib.Ieee.{Float, nan}
 use Rattle.kf.specs.Cost.{Kept}
-use Rattle.pricing.specs.declared.moves.Tally.{Tally}
-use Rattle.pricing.specs.Rows.{Starts}
+use Rattle.windows.specs.declared.moves.Tally.{Tally}
+use Rattle.windows.specs.Rows.{Starts}
 use Rattle.search.specs.Pass.{Scene, Search, rowOn, costOn, trackStep, visit, Listed, Costed}
 use Rattle.search.proofs.Listing.{listed-apart, listed-next, listed-end}
 use Rattle.search.proofs.Costing.{cost-stays}

@@ -14,8 +14,8 @@ use Rattle.model.specs.Windows.{Scan, Prefix, dotOf, detOf, partOf}
 use Rattle.model.specs.Searching.{improve}
 use Rattle.model.specs.Faithful.{Regular}
 use Rattle.model.specs.Rule.{All}
-use Rattle.pricing.specs.declared.moves.Tally.{Tally}
-use Rattle.pricing.specs.Rows.{columnAt}
+use Rattle.windows.specs.declared.moves.Tally.{Tally}
+use Rattle.windows.specs.Rows.{columnAt}
 use Rattle.search.specs.Pass.{Scene, viewOn, partOn}
 
 -- the associations of a scan that lie in windows

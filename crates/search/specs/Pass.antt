@@ -12,11 +12,11 @@ use Rattle.kf.specs.Cost.{View, Kept}
 use Rattle.model.specs.declared.moves.PairMove.{PairMove}
 use Rattle.model.specs.declared.moves.TrackMove.{TrackMove}
 use Rattle.pricing.specs.declared.price.Hall.{Hall}
-use Rattle.pricing.specs.declared.moves.Tally.{Tally}
-use Rattle.pricing.specs.Rows.{Starts, rowOf, presentIn}
-use Rattle.pricing.specs.Near.{square, closeScans, anyClose}
+use Rattle.windows.specs.declared.moves.Tally.{Tally}
+use Rattle.windows.specs.Rows.{Starts, rowOf, presentIn}
+use Rattle.windows.specs.Near.{square, closeScans, anyClose}
 use Rattle.pricing.specs.Price.{viewIn, partAmong, rowCost, bestPairRow, bestTrackRow}
-use Rattle.pricing.specs.Moves.{pairIds, trackIds, pairStays, trackStays, begun, pairTally, trackTally}
+use Rattle.windows.specs.Moves.{pairIds, trackIds, pairStays, trackStays, begun, pairTally, trackTally}
 
 -- what a search changes
 pub record Search : Type 0 where

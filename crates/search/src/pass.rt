@@ -1,15 +1,15 @@
 // The passes of the search: every pair of tracks that come close, then every track.
-use pricing::moves;
-use pricing::moves::Tally;
-use pricing::near;
+use windows::moves;
+use windows::moves::Tally;
+use windows::near;
 use pricing::price;
 use pricing::price::FILTERS;
 use pricing::price::Hall;
 use pricing::price::TRACKS;
-use pricing::rows;
-use pricing::rows::ENTRY;
-use pricing::rows::ROWS;
-use pricing::rows::STARTS;
+use windows::rows;
+use windows::rows::ENTRY;
+use windows::rows::ROWS;
+use windows::rows::STARTS;
 use engine::types::RefinedId;
 use kf::cost;
 use kf::cost::DETECTIONS;
@@ -24,8 +24,8 @@ ghost use lib.ListN.{length, getD, take, drop};
 ghost use Rattle.kf.specs.Cost.{Kept};
 ghost use Rattle.model.specs.Windows.{Scan, Prefix};
 ghost use Rattle.engine.specs.Config.{radius, maxPasses};
-ghost use Rattle.pricing.specs.Rows.{Tabled};
-ghost use Rattle.pricing.specs.Near.{square, CloseRows};
+ghost use Rattle.windows.specs.Rows.{Tabled};
+ghost use Rattle.windows.specs.Near.{square, CloseRows};
 ghost use Rattle.search.specs.Pass.{Search, sceneOf, costOn, pairStep, trackStep, sweepOne, sweep, visit, passOver, passesOver, Able, Listed, Costed, Tables};
 ghost use Rattle.search.specs.Gathered.{Gathered, Finds};
 

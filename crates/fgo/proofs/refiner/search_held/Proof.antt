@@ -10,7 +10,7 @@ use Rattle.model.specs.Windows.{Scan}
 use Rattle.model.specs.Owning.{orElse, latest}
 use Rattle.model.specs.Rule.{ColumnRule}
 use Rattle.model.proofs.Ties.{TiedScan, loose-tied}
-use Rattle.pricing.specs.declared.moves.Tally.{Tally}
+use Rattle.windows.specs.declared.moves.Tally.{Tally}
 use Rattle.search.specs.Pass.{sceneOf}
 use Rattle.search.specs.Gathered.{Finds}
 use Rattle.memory.specs.declared.state.FixedLagRefiner.{FixedLagRefiner}

@@ -3,7 +3,7 @@ use mathlib.Core.Path.{refl, sym, _∙_}
 use Prim.Native.Nat.{_-_}
 use native.Mathlib.Omega.{arith}
 use Rattle.pricing.specs.Price.{mergedRow}
-use Rattle.pricing.proofs.Filled.{Filling, fills, filled, filled-length}
+use Rattle.windows.proofs.Filled.{Filling, fills, filled, filled-length}
 use Rattle.pricing.proofs.Merged.{merged-length, merged-at}
 use Rattle.pricing.proofs.price.merge_rows.Statement.{statement}
 use Rattle.pricing.proofs.price.merge_rows.Tie as tie

@@ -1,0 +1,5 @@
+pub mod Segments
+pub mod Filled
+pub mod Ascending
+pub mod RowSlots
+pub mod Renamed

@@ -1,0 +1,106 @@
+-- What a move does to the gathered ids, and what it counts. Definitions only.
+use Prim.Native.Nat.{ℕ, zero, suc, _+_}
+use mathlib.Core.Bool.{Bool, true, false, cond}
+use mathlib.Core.List.{List, _++_, map}
+use lib.ListN.{getD, take, drop}
+use lib.Dec.{eqb, leb, ltb}
+use Rattle.model.specs.declared.moves.FgoCounters.{FgoCounters}
+use Rattle.model.specs.declared.moves.PairMove.{PairMove}
+use Rattle.model.specs.declared.moves.PairMove.the-variants.{Stay, Swap, Merge}
+use Rattle.model.specs.declared.moves.TrackMove.{TrackMove}
+use Rattle.model.specs.declared.moves.TrackMove.the-variants.{Split, Drop, Stay as Rest}
+use Rattle.windows.specs.Rows.{segment}
+use Rattle.windows.specs.declared.moves.Targets.{Targets}
+use Rattle.windows.specs.declared.moves.Tally.{Tally}
+
+-- what becomes of the id i in a scan where a becomes t.a and b becomes t.b
+abbrev pub retarget : ℕ → ℕ → Targets → ℕ → ℕ
+retarget a b t i = cond (eqb a i) (t .a) (cond (eqb b i) (t .b) i)
+
+abbrev pub same : ℕ → ℕ → Targets
+same a b = record { a = a; b = b }
+
+-- in a scan of a merge the keeper's own detection is kept, or the other's: what becomes of the keeper k and of the other; hk and ho say which have one
+abbrev pub keeperTarget : Bool → Bool → ℕ → ℕ
+keeperTarget true ho k = k
+keeperTarget false ho k = cond ho 0 k
+
+abbrev pub otherTarget : Bool → Bool → ℕ → ℕ
+otherTarget true hk k = cond hk 0 k
+otherTarget false hk k = k
+
+-- what becomes of a and b in the scan n, where ha and hb say which have a detection there
+abbrev pub pairTargets : PairMove → ℕ → ℕ → ℕ → Bool → Bool → Targets
+pairTargets Stay a b n ha hb = same a b
+pairTargets (Swap f g) a b n ha hb = cond (leb (f .0) n) (record { a = b; b = a }) (same a b)
+pairTargets (Merge k own g) a b n ha hb =
+    cond (eqb a (k .0))
+    (record { a = keeperTarget own hb a; b = otherTarget own ha a })
+    (record { a = otherTarget own hb b; b = keeperTarget own ha b })
+
+-- what becomes of a in the scan n, where a new track would be x
+abbrev pub trackTargets : TrackMove → ℕ → ℕ → ℕ → Targets
+trackTargets Rest a x n = same a x
+trackTargets (Split f g) a x n = cond (leb (f .0) n) (record { a = x; b = a }) (same a x)
+trackTargets (Drop f g) a x n = cond (eqb (f .0) n) (record { a = 0; b = x }) (same a x)
+
+-- the entries from a up to b changed
+abbrev pub over : (ℕ → ℕ) → ℕ → ℕ → List ℕ → List ℕ
+over f a b l = take a l ++ (map f (segment a b l) ++ drop b l)
+
+-- the ids of n scans from k on renamed, each scan by its own targets
+unfoldable pub renamedFrom : List ℕ → ℕ → ℕ → (ℕ → Targets) → ℕ → ℕ → List ℕ → List ℕ
+renamedFrom starts a b t k zero ids = ids
+renamedFrom starts a b t k (suc n) ids =
+    renamedFrom starts a b t (suc k) n (over (retarget a b (t k)) (getD starts k 0) (getD starts (suc k) 0) ids)
+
+abbrev pub hasSlot : List ℕ → ℕ → Bool
+hasSlot r k = ltb 0 (getD r k 0)
+
+-- the ids after a move of the pair a, b with the rows ra, rb; first is the number of the oldest scan
+unfoldable pub pairIds : ℕ → List ℕ → PairMove → ℕ → ℕ → List ℕ → List ℕ → List ℕ → List ℕ
+pairIds first starts m a b ra rb ids = renamedFrom starts a b (λ k. pairTargets m a b (first + k) (hasSlot ra k) (hasSlot rb k)) 0 17 ids
+
+-- the ids after a move of the track a, where a new track would be x
+unfoldable pub trackIds : ℕ → List ℕ → TrackMove → ℕ → ℕ → List ℕ → List ℕ
+trackIds first starts m a x ids = renamedFrom starts a x (λ k. trackTargets m a x (first + k)) 0 17 ids
+
+-- ---- counting, far below where a word ends
+
+abbrev pub oneMore : ℕ → ℕ
+oneMore n = cond (ltb n 9223372036854775808) (n + 1) n
+
+abbrev pub pairStays : PairMove → Bool
+pairStays Stay = true
+pairStays (Swap f g) = false
+pairStays (Merge k own g) = false
+
+abbrev pub trackStays : TrackMove → Bool
+trackStays Rest = true
+trackStays (Split f g) = false
+trackStays (Drop f g) = false
+
+-- a pass begins: it has made no move yet
+abbrev pub begun : Tally → Tally
+begun t = record { next = t .next; counters = t .counters; passes = oneMore (t .passes); moved = false }
+
+abbrev pub pairCounters : PairMove → FgoCounters → FgoCounters
+pairCounters Stay k = k
+pairCounters (Swap f g) k = record { swaps = oneMore (k .swaps); merges = k .merges; splits = k .splits; drops = k .drops }
+pairCounters (Merge i own g) k = record { swaps = k .swaps; merges = oneMore (k .merges); splits = k .splits; drops = k .drops }
+
+abbrev pub pairTally : PairMove → Tally → Tally
+pairTally m t = record { next = t .next; counters = pairCounters m (t .counters); passes = t .passes; moved = true }
+
+abbrev pub trackCounters : TrackMove → FgoCounters → FgoCounters
+trackCounters Rest k = k
+trackCounters (Split f g) k = record { swaps = k .swaps; merges = k .merges; splits = oneMore (k .splits); drops = k .drops }
+trackCounters (Drop f g) k = record { swaps = k .swaps; merges = k .merges; splits = k .splits; drops = oneMore (k .drops) }
+
+abbrev pub nextId : TrackMove → ℕ → ℕ
+nextId Rest n = n
+nextId (Split f g) n = oneMore n
+nextId (Drop f g) n = n
+
+abbrev pub trackTally : TrackMove → Tally → Tally
+trackTally m t = record { next = nextId m (t .next); counters = trackCounters m (t .counters); passes = t .passes; moved = true }

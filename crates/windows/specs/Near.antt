@@ -1,0 +1,49 @@
+-- Which pairs of rows come close, and in which scans: document 01's list of pairs. Definitions only.
+use Prim.Native.Nat.{ℕ, _+_, _-_, _*_}
+use mathlib.Core.Path.{_≡_}
+use mathlib.Core.Bool.{Bool, true, false, cond, _&&_}
+use mathlib.Core.List.{List, map}
+use lib.ListN.{getD}
+use lib.Dec.{eqb, leb}
+use lib.Ieee.{Float, binary64, add, sub, mul, lt}
+use Rattle.kf.specs.Cost.{dotAt}
+use Rattle.model.specs.Lists.{any, upFrom}
+use Rattle.windows.specs.Rows.{segment}
+
+abbrev pub square : Float → Float
+square v = mul binary64 v v
+
+-- "squared distance"
+abbrev pub apart2 : List Float → ℕ → ℕ → Float
+apart2 dots i j = add binary64 (square (sub binary64 (dotAt dots i .x) (dotAt dots j .x))) (square (sub binary64 (dotAt dots i .y) (dotAt dots j .y)))
+
+-- two entries of rows have a detection each, "at a squared distance below radius²", here q
+unfoldable pub nearSlots : Float → List Float → ℕ → ℕ → Bool
+nearSlots q dots i j = cond (eqb i 0) false (cond (eqb j 0) false (lt (apart2 dots (i - 1) (j - 1)) q))
+
+-- "in one scan or in two consecutive scans", the earlier of which is k
+unfoldable pub closeAt : Float → List Float → List ℕ → List ℕ → ℕ → Bool
+closeAt q dots a b k =
+    cond (nearSlots q dots (getD a k 0) (getD b k 0)) true
+    (cond (nearSlots q dots (getD a k 0) (getD b (k + 1) 0)) true (nearSlots q dots (getD a (k + 1) 0) (getD b k 0)))
+
+-- "it notes the earlier of their scans": for each scan whether it is noted
+unfoldable pub closeScans : Float → List Float → List ℕ → List ℕ → List Bool
+closeScans q dots a b = map (closeAt q dots a b) (upFrom 0 17)
+
+-- some scan is noted
+abbrev pub anyClose : List Bool → Bool
+anyClose close = any (λ (b : Bool). b) close
+
+-- the scans of two entries of a table are equal or consecutive somewhere: each begins no later than the other ends
+abbrev pub meets : List ℕ → ℕ → ℕ → Bool
+meets rows i j = leb (getD rows (19 * i + 17) 0) (getD rows (19 * j + 18) 0) && leb (getD rows (19 * j + 17) 0) (getD rows (19 * i + 18) 0)
+
+-- the row of entry i of a table
+abbrev pub rowAt : List ℕ → ℕ → List ℕ
+rowAt rows i = segment (19 * i) (19 * i + 17) rows
+
+-- whether two entries of a table are close in any scan, and if so in which
+pub record CloseRows (q : Float) (dots : List Float) (rows : List ℕ) (i j : ℕ) (r : Bool) (close : List Bool) : Type 0 where
+  pub found : r ≡ (meets rows i j && anyClose (closeScans q dots (rowAt rows i) (rowAt rows j)))
+  pub scans : r ≡ true → close ≡ closeScans q dots (rowAt rows i) (rowAt rows j)

@@ -1,0 +1,176 @@
+// Rows: for each scan one more than the place of a track's detection among those gathered, 0 where it has none.
+use kf::cost::DETECTIONS;
+use kf::cost::SCANS;
+ghost use mathlib.Core.Path.{_≡_};
+ghost use mathlib.Core.List.{_++_};
+ghost use Prim.Native.Nat.{_+_, _*_, _≤_, _<_};
+ghost use lib.ListN.{length, take, drop};
+ghost use Rattle.model.specs.Lists.{insert as inserted};
+ghost use Rattle.windows.specs.Rows.{segment, Starts, slotIn, rowOf, presentIn, placeIn, firstIn, endFrom, entryOf, Tabled, Begins};
+
+// Where the scans begin, and where the last one ends.
+pub const STARTS: usize = 18;
+
+// A row with its first scan and its end, and the table of all rows.
+pub const ENTRY: usize = 19;
+
+pub const ROWS: usize = 2432;
+
+// The first place whose id is not below x.
+fn place_of(x: u64, n: usize, l: &[u64; DETECTIONS]) -> usize
+    requires { ⌜ (n ≤ 128) × (length (now l) ≡ 128) ⌝ }
+    ensures { λ p. ⌜ p ≡ placeIn x (take n (now (l .entry))) ⌝ }
+{
+    let mut p: usize = 0;
+    while p < n {
+        if x <= l[p] {
+            return p;
+        }
+        p += 1;
+    }
+    n
+}
+
+// The ids from p on move up by one place.
+fn move_up(p: usize, n: usize, l: &mut [u64; DETECTIONS])
+    requires { ⌜ (p ≤ n) × (n < 128) × (length (now l) ≡ 128) ⌝ }
+    ensures { λ r. ⌜ (length (now (l .exit)) ≡ 128) × (take p (now (l .exit)) ≡ take p (now (l .entry))) × (segment (p + 1) (n + 1) (now (l .exit)) ≡ segment p n (now (l .entry))) ⌝ }
+{
+    let mut j = n;
+    while p < j {
+        let y = l[j - 1];
+        l[j] = y;
+        j -= 1;
+    }
+}
+
+// An id added to the first n of an ascending table, once.
+fn insert(x: u64, n: usize, l: &mut [u64; DETECTIONS]) -> usize
+    requires { ⌜ (n < 128) × (length (now l) ≡ 128) ⌝ }
+    ensures { λ m. ⌜ Begins (inserted x (take n (now (l .entry)))) m (now (l .exit)) ⌝ }
+{
+    let p = place_of(x, n, l);
+    if p < n {
+        if l[p] == x {
+            return n;
+        }
+    }
+    move_up(p, n, l);
+    l[p] = x;
+    n + 1
+}
+
+// The ids that have a window, ascending, at the start of the table.
+pub fn present(n: usize, ids: &[u64; DETECTIONS], table: &mut [u64; DETECTIONS]) -> usize
+    requires { ⌜ (n ≤ 128) × (length (now ids) ≡ 128) × (length (now table) ≡ 128) ⌝ }
+    ensures { λ m. ⌜ Begins (presentIn n (now (ids .entry))) m (now (table .exit)) ⌝ }
+{
+    let mut m: usize = 0;
+    let mut i = n;
+    while 0 < i {
+        i -= 1;
+        let x = ids[i];
+        if 0 < x {
+            m = insert(x, m, table);
+        }
+    }
+    m
+}
+
+// One more than the first place of x from a up to b, 0 where there is none.
+fn slot_in(x: u64, a: usize, b: usize, ids: &[u64; DETECTIONS]) -> usize
+    requires { ⌜ (b ≤ 128) × (length (now ids) ≡ 128) ⌝ }
+    ensures { λ r. ⌜ r ≡ slotIn x a (segment a b (now (ids .entry))) ⌝ }
+{
+    let mut i = a;
+    while i < b {
+        if x == ids[i] {
+            return i + 1;
+        }
+        i += 1;
+    }
+    0
+}
+
+// The row of x.
+pub fn fill_row<'a>(
+    x: u64,
+    starts: &'a [usize; STARTS],
+    ids: &'a [u64; DETECTIONS],
+    row: &mut [usize; SCANS],
+)
+    requires { ⌜ Starts (now starts) × (length (now ids) ≡ 128) × (length (now row) ≡ 17) ⌝ }
+    ensures { λ r. ⌜ now (row .exit) ≡ rowOf (now (starts .entry)) (now (ids .entry)) x ⌝ }
+{
+    let mut k: usize = 0;
+    while k < SCANS {
+        row[k] = slot_in(x, starts[k], starts[k + 1], ids);
+        k += 1;
+    }
+}
+
+// The first scan in which the row has a detection.
+fn first_in(row: &[usize; SCANS]) -> usize
+    requires { ⌜ length (now row) ≡ 17 ⌝ }
+    ensures { λ r. ⌜ r ≡ firstIn (now (row .entry)) ⌝ }
+{
+    let mut k: usize = 0;
+    while k < SCANS {
+        if 0 < row[k] {
+            return k;
+        }
+        k += 1;
+    }
+    SCANS
+}
+
+// One more than the last scan in which the row has a detection.
+fn end_of(row: &[usize; SCANS]) -> usize
+    requires { ⌜ length (now row) ≡ 17 ⌝ }
+    ensures { λ r. ⌜ r ≡ endFrom 0 0 (now (row .entry)) ⌝ }
+{
+    let mut e: usize = 0;
+    let mut k: usize = 0;
+    while k < SCANS {
+        if 0 < row[k] {
+            e = k + 1;
+        }
+        k += 1;
+    }
+    e
+}
+
+// A row, its first scan and its end, as entry i of the table.
+fn put_entry<'a>(i: usize, row: &[usize; SCANS], rows: &mut [usize; ROWS])
+    requires { ⌜ (i < 128) × (length (now row) ≡ 17) × (length (now rows) ≡ 2432) ⌝ }
+    ensures { λ r. ⌜ now (rows .exit) ≡ take (19 * i) (now (rows .entry)) ++ (entryOf (now (row .entry)) ++ drop (19 * i + 19) (now (rows .entry))) ⌝ }
+{
+    let at = ENTRY * i;
+    let mut k: usize = 0;
+    while k < SCANS {
+        rows[at + k] = row[k];
+        k += 1;
+    }
+    rows[at + SCANS] = first_in(row);
+    rows[at + SCANS + 1] = end_of(row);
+}
+
+// The rows of the first n ids of a table.
+pub fn fill_rows<'a>(
+    n: usize,
+    table: &'a [u64; DETECTIONS],
+    starts: &'a [usize; STARTS],
+    ids: &'a [u64; DETECTIONS],
+    rows: &mut [usize; ROWS],
+)
+    requires { ⌜ (n ≤ 128) × Starts (now starts) × (length (now ids) ≡ 128) × (length (now table) ≡ 128) × (length (now rows) ≡ 2432) ⌝ }
+    ensures { λ r. ⌜ Tabled (now (starts .entry)) (now (ids .entry)) (now (table .entry)) n (now (rows .exit)) ⌝ }
+{
+    let mut row = [0usize; SCANS];
+    let mut i: usize = 0;
+    while i < n {
+        fill_row(table[i], starts, ids, &mut row);
+        put_entry(i, &row, rows);
+        i += 1;
+    }
+}
