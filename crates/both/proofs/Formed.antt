@@ -21,8 +21,8 @@ use Rattle.engine.proofs.Every.{all-true}
 use Rattle.engine.specs.Encode.{costPresent}
 use Rattle.model.specs.Rule.{All}
 use Rattle.model.specs.Emitting.{Listed, Emitted, lifecycle, classWord, outcomeWord, costNumber, wordsOf, numbersOf}
-use Rattle.smoother.specs.Frame as Form
-use Rattle.smoother.specs.Frame.{trackOk, associationOk, sensorOk, headOk, exact, rowsOk, wellFormed}
+use Rattle.refined.specs.Frame as Form
+use Rattle.refined.specs.Frame.{trackOk, associationOk, sensorOk, headOk, exact, rowsOk, wellFormed}
 use Rattle.both.specs.Smoothed.{handed}
 use Rattle.both.proofs.Reading.{element, association, track-word, association-word, cost-number, sensor-word, words-length, numbers-length}
 use Rattle.both.proofs.Fresh.{time-is}

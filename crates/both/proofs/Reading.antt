@@ -9,7 +9,7 @@ use lib.Seq.{drop-length, drop-append-add, drop-drop, drop-at, getD-drop}
 use lib.Ieee.{Float, nan}
 use Rattle.engine.specs.declared.types.Association.{Association}
 use Rattle.model.specs.Emitting.{Listed, Emitted, trackWords, associationWords, associationsWords, headWords, wordsOf, trackNumbers, costNumber, numbersOf}
-use Rattle.smoother.specs.Frame.{wordsLong, numbersLong, stateAt}
+use Rattle.refined.specs.Frame.{wordsLong, numbersLong, stateAt}
 use Rattle.both.specs.Smoothed.{estimateOf}
 
 -- ---- lists

@@ -13,7 +13,7 @@ use Rattle.model.specs.Emitting.{Emitted}
 use Rattle.model.specs.Rule.{All}
 use Rattle.model.specs.History.{Op, Sent, run}
 use Rattle.model.proofs.HistoryLaw.{history}
-use Rattle.smoother.specs.Frame.{SmootherFrame, wellFormed}
+use Rattle.refined.specs.Frame.{SmootherFrame, wellFormed}
 use Rattle.smoother.specs.Pass.{emitted}
 use Rattle.smoother.specs.Smoother.{Lent, bounded, allFormed, ruleOk, laterRefusal}
 use Rattle.smoother.proofs.Calls.{push-formed, take-passed}

@@ -15,7 +15,7 @@ use Rattle.rts.specs.Smoothing.{Estimate, estimate}
 use Rattle.model.specs.Lists.{has}
 use Rattle.model.specs.Emitting.{Listed, Emitted, wordsOf, numbersOf, trackNumbers, costNumber}
 use Rattle.model.specs.History.{Op, run, timeOf, seen, afresh}
-use Rattle.smoother.specs.Frame.{SmootherFrame, frame, wellFormed}
+use Rattle.refined.specs.Frame.{SmootherFrame, frame, wellFormed}
 use Rattle.smoother.specs.Pass.{Timed, chainOn, runBack, replaced, flat, smoothedFlag}
 use Rattle.smoother.specs.Smoother.{State, new, Lent, Answer, refused, waits, gives, windowFits, outFits, held, settle, release, push, takes}
 

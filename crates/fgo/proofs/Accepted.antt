@@ -19,11 +19,11 @@ use Rattle.model.proofs.RuleLaw.{rule-of}
 use Rattle.model.proofs.Accepting.{Room, has-room}
 use Rattle.memory.specs.declared.state.FixedLagRefiner.{FixedLagRefiner}
 use Rattle.memory.specs.Memory.{Memory, bodyAt, scanIn, lengthAt, slotAt, stateOf}
-use Rattle.rule.specs.Sound.{bodiesOk, soundOk}
+use Rattle.ledger.specs.Sound.{bodiesOk, soundOk}
 use Rattle.fgo.specs.Refusing.{fullIn}
 use Rattle.fgo.specs.Arriving.{Lent, Holds, Arrives}
 use Rattle.memory.proofs.Rows.{rows-all}
-use Rattle.rule.proofs.Counted.{body-passes}
+use Rattle.ledger.proofs.Counted.{body-passes}
 use Rattle.fgo.proofs.ReadyLaw.{sound-kept}
 use Rattle.fgo.proofs.Refusals.{found-same, none-found}
 

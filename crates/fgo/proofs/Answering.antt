@@ -14,9 +14,9 @@ use Rattle.memory.specs.declared.state.FixedLagRefiner.{FixedLagRefiner}
 use Rattle.fgo.specs.declared.refiner.Pushed.{Pushed}
 use Rattle.memory.specs.Memory.{Memory, stateOf}
 use Rattle.release.specs.Writing.{Roomy}
-use Rattle.rule.specs.Sound.{soundIn, soundOk}
+use Rattle.ledger.specs.Sound.{soundIn, soundOk}
 use Rattle.fgo.specs.Promise.{refusedAs, roomy, releaseOf, takeAnswer, Ends}
-use Rattle.rule.proofs.SoundLaw.{sound-rule}
+use Rattle.ledger.proofs.SoundLaw.{sound-rule}
 
 -- the test of the state rule, as the code makes it
 pub sound-is : (r : FixedLagRefiner) (m : Memory) {a b : Bool} → a ≡ soundIn r (m .bodies) (m .columns) (m .owners) (m .tracks) → a ≡ b → soundOk r m ≡ b

@@ -20,10 +20,10 @@ use Rattle.model.proofs.Arrival.{arrived}
 use Rattle.windows.specs.declared.moves.Tally.{Tally}
 use Rattle.memory.specs.declared.state.FixedLagRefiner.{FixedLagRefiner}
 use Rattle.memory.specs.Memory.{Memory, memory, scansIn, entryIn, ownersIn, stateOf}
-use Rattle.rule.specs.Sound.{liveIn}
+use Rattle.ledger.specs.Sound.{liveIn}
 use Rattle.fgo.specs.Promise.{keptOwners, Ready}
 use Rattle.fgo.specs.Arriving.{Lent, Arrives, HeldBy, foundIn, Searched, Arrived}
-use Rattle.rule.proofs.SoundLaw.{live-rule}
+use Rattle.ledger.proofs.SoundLaw.{live-rule}
 use Rattle.fgo.proofs.Placements.{before}
 use Rattle.fgo.proofs.ReadyLaw.{sound-ready}
 use Rattle.fgo.proofs.Accepted.{room, rule, holds}

@@ -18,7 +18,7 @@ use Rattle.memory.specs.declared.state.FixedLagRefiner.{FixedLagRefiner}
 use Rattle.fgo.specs.declared.refiner.Answer.the-variants.{Held}
 use Rattle.fgo.specs.declared.refiner.Pushed.{Pushed}
 use Rattle.memory.specs.Memory.{Memory, scanIn, stateOf}
-use Rattle.rule.specs.Sound.{bodiesOk, soundOk}
+use Rattle.ledger.specs.Sound.{bodiesOk, soundOk}
 use Rattle.fgo.specs.Refusing.{Refuses, pushRefusal}
 use Rattle.fgo.specs.Promise.{roomy, checked, pushAnswer, releaseOf, Unchanged, Ends}
 use Rattle.fgo.specs.Arriving.{Arrived}

@@ -17,11 +17,11 @@ use Rattle.model.specs.Rule.{All, prefixOk, risesOk}
 use Rattle.memory.specs.declared.state.FixedLagRefiner.{FixedLagRefiner}
 use Rattle.memory.specs.Memory.{Memory, scansIn, entryIn, tableIn}
 use Rattle.release.specs.Frozen.{Ordered, PartOk}
-use Rattle.rule.specs.Sound.{bodiesOk, columnsOk, partsOk, countsOk, soundIn, soundOk}
+use Rattle.ledger.specs.Sound.{bodiesOk, columnsOk, partsOk, countsOk, soundIn, soundOk}
 use Rattle.fgo.specs.Promise.{Ready}
 use Rattle.memory.proofs.Rows.{row-of}
-use Rattle.rule.proofs.Counted.{body-passes}
-use Rattle.rule.proofs.SoundLaw.{parts-rule, sound-rule}
+use Rattle.ledger.proofs.Counted.{body-passes}
+use Rattle.ledger.proofs.SoundLaw.{parts-rule, sound-rule}
 
 -- ---- frozen parts
 

@@ -17,7 +17,7 @@ use Rattle.model.specs.Refiner.{State, refused, full8, full9, full10, idCount, 
 use Rattle.memory.specs.declared.state.FixedLagRefiner.{FixedLagRefiner}
 use Rattle.memory.specs.Memory.{Memory, scanIn, scansIn, entryIn, stateOf}
 use Rattle.fgo.specs.Refusing.{fullIn, joinedIn, numberOr, refusedBy, pushRefusal}
-use Rattle.rule.proofs.SoundLaw.{map-rows}
+use Rattle.ledger.proofs.SoundLaw.{map-rows}
 
 module _ (r : FixedLagRefiner) (m : Memory) (s : List ℕ) where
   abbrev t : State

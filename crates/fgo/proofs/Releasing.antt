@@ -37,13 +37,13 @@ use Rattle.fgo.specs.declared.refiner.Answer.the-variants.{Frame as Give
 use Rattle.memory.specs.Memory.{Memory, memory, bodyAt, scanIn, scansIn, entryIn, tableIn, ownersIn, stateOf}
 use Rattle.release.specs.Frozen.{FreezesScan, PartOk, PartsOk}
 use Rattle.release.specs.Writing.{Roomy, frameIn, PutsFrame, PutFrame}
-use Rattle.rule.specs.Sound.{bodiesOk, liveIn}
+use Rattle.ledger.specs.Sound.{bodiesOk, liveIn}
 use Rattle.fgo.specs.Promise.{Ready, Ends, releaseOf, keptOwners}
 use Rattle.memory.proofs.Rows.{rows-all, row-of}
 use Rattle.memory.proofs.Cells.{length-rows, rows-first}
 use Rattle.release.proofs.Times.{time-fits}
 use Rattle.release.proofs.Order.{frozen-fits}
-use Rattle.rule.proofs.SoundLaw.{live-rule}
+use Rattle.ledger.proofs.SoundLaw.{live-rule}
 
 -- ---- frozen parts of which ages can be told
 

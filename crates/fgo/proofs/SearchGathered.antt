@@ -40,7 +40,7 @@ use Rattle.memory.proofs.Over.{length-over, over-in}
 use Rattle.memory.proofs.LatestGathered.{Each}
 use Rattle.memory.proofs.GatheredScans as scans
 use Rattle.memory.proofs.GatheredScans.{each-rows}
-use Rattle.rule.proofs.HeldGathered.{ids-each, found-128}
+use Rattle.ledger.proofs.HeldGathered.{ids-each, found-128}
 use Rattle.memory.proofs.GatheringScan.{numbers-long}
 use Rattle.memory.proofs.GatheringHeld.{found-one, found-next}
 

@@ -31,7 +31,7 @@ use Rattle.fgo.specs.declared.refiner.Answer.the-variants.{Refused}
 use Rattle.fgo.specs.declared.refiner.Opened.{Opened}
 use Rattle.fgo.specs.declared.refiner.Opened.the-variants as opened
 use Rattle.memory.specs.Memory.{Memory, stateOf, over}
-use Rattle.rule.specs.Sound.{bodiesOk, soundOk}
+use Rattle.ledger.specs.Sound.{bodiesOk, soundOk}
 use Rattle.fgo.specs.Promise.{numberOf, answerOf, newBy, openedBy, roomy, checked, pushAnswer, takeAnswer, wordsAfter, numbersAfter, Unchanged, Ends}
 use Rattle.fgo.specs.Sent.{Call, answered, promised, Keeps, Calls, left, Session, enough, operations, acceptedBy, accepted, writtenBy, written, inWords, orShort, due, Served, Delivered}
 use Rattle.fgo.proofs.Numbered.{Numbered, numbered}

@@ -18,8 +18,8 @@ use Rattle.memory.specs.declared.state.FixedLagRefiner.{FixedLagRefiner}
 use Rattle.memory.specs.Memory.{Memory, bodyAt, scansIn, tableIn, ownersIn, stateOf}
 use Rattle.release.specs.Frozen.{Ordered}
 use Rattle.memory.specs.Gathering.{Held}
-use Rattle.rule.specs.Placing.{placedAll, begins}
-use Rattle.rule.specs.Sound.{soundOk}
+use Rattle.ledger.specs.Placing.{placedAll, begins}
+use Rattle.ledger.specs.Sound.{soundOk}
 use Rattle.fgo.specs.Refusing.{pushRefusal}
 use Rattle.fgo.specs.Promise.{Ready}
 

@@ -13,7 +13,7 @@ use Rattle.model.specs.Windows.{detections}
 use Rattle.model.specs.Refiner.{firstOf, idCount, join}
 use Rattle.memory.specs.declared.state.FixedLagRefiner.{FixedLagRefiner}
 use Rattle.memory.specs.Memory.{scansIn}
-use Rattle.rule.specs.Sound.{engineIn}
+use Rattle.ledger.specs.Sound.{engineIn}
 
 -- 8: "4,294,967,295 scans accepted, or next id or a counter above 2^60"
 unfoldable pub fullIn : FixedLagRefiner → Bool

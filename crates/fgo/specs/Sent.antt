@@ -22,7 +22,7 @@ use Rattle.fgo.specs.declared.refiner.Answer.the-variants.{Refused, Held
 use Rattle.fgo.specs.declared.refiner.Opened.the-variants.{Ready}
 use Rattle.fgo.specs.declared.refiner.Pushed.{Pushed}
 use Rattle.memory.specs.Memory.{Memory, stateOf}
-use Rattle.rule.specs.Sound.{soundOk}
+use Rattle.ledger.specs.Sound.{soundOk}
 use Rattle.fgo.specs.Promise.{openedBy, answerOf, roomy, pushAnswer, takeAnswer, wordsAfter, numbersAfter, Ends}
 
 -- ---- calls

@@ -5,13 +5,13 @@ use fgo::refiner;
 use fgo::refiner::Answer;
 use fgo::refiner::Counted;
 use fgo::refiner::Opened;
+use lines::ROOM;
 use memory::state::BODIES;
 use memory::state::COLUMNS;
 use memory::state::FILTERS;
 use memory::state::FixedLagRefiner;
 use memory::state::OWNERS;
 use memory::state::TRACKS;
-use lines::ROOM;
 use recording::Contents;
 
 // The words and numbers of the longest frame.

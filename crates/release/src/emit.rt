@@ -1,11 +1,5 @@
 // The emitted frame: words and numbers at the start of the lent buffers.
 use crate::freeze;
-use memory::state;
-use memory::state::BODIES;
-use memory::state::COLUMNS;
-use memory::state::FILTERS;
-use memory::state::Prefix;
-use memory::state::TRACKS;
 use engine::body;
 use engine::config::FgoConfig;
 use engine::types::Association;
@@ -13,6 +7,12 @@ use engine::types::Cost;
 use engine::types::RefinedId;
 use engine::types::ScanIndex;
 use kf::filter::Kf;
+use memory::state;
+use memory::state::BODIES;
+use memory::state::COLUMNS;
+use memory::state::FILTERS;
+use memory::state::Prefix;
+use memory::state::TRACKS;
 use scalar::bits;
 ghost use mathlib.Core.Path.{_≡_};
 ghost use mathlib.Core.Bool.{true};

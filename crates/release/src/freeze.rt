@@ -1,10 +1,4 @@
 // Freezing: the oldest scan's detections move the frozen parts of their tracks on, and parts that nothing asks for any more are forgotten.
-use memory::state;
-use memory::state::BODIES;
-use memory::state::COLUMNS;
-use memory::state::FILTERS;
-use memory::state::Prefix;
-use memory::state::TRACKS;
 use engine::body;
 use engine::config::FgoConfig;
 use engine::types::Associated;
@@ -14,6 +8,12 @@ use engine::types::RefinedId;
 use engine::types::ScanIndex;
 use kf::filter::Kf;
 use kf::lent;
+use memory::state;
+use memory::state::BODIES;
+use memory::state::COLUMNS;
+use memory::state::FILTERS;
+use memory::state::Prefix;
+use memory::state::TRACKS;
 use scalar::bits;
 ghost use mathlib.Core.Path.{_≡_};
 ghost use mathlib.Core.Bool.{true};

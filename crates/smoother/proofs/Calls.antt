@@ -10,7 +10,7 @@ use borrow.Author.Tests.{lt-ltb, le-ltb}
 use Rattle.smoother.specs.declared.FixedLagSmoother.{FixedLagSmoother}
 use Rattle.smoother.specs.declared.Answer.the-variants.{Refused}
 use Rattle.smoother.specs.declared.Told.{Told}
-use Rattle.smoother.specs.Frame.{SmootherFrame, wellFormed}
+use Rattle.refined.specs.Frame.{SmootherFrame, wellFormed}
 use Rattle.smoother.specs.Pass.{emitted}
 use Rattle.smoother.specs.Smoother as Smoother
 use Rattle.smoother.specs.Smoother.{State, Lent, unopened, opensBy, refused, waits, gives, held, laterRefusal, release, settle, pushBy, push, takesBy, takes}

@@ -9,7 +9,7 @@ use lib.Dec.{leb}
 use borrow.Author.Tests.{leb-true, le-leb}
 use Rattle.scalar.specs.Scalar.{finite}
 use Rattle.engine.proofs.Every.{both}
-use Rattle.smoother.specs.Frame.{SmootherFrame, wellFormed}
+use Rattle.refined.specs.Frame.{SmootherFrame, wellFormed}
 use Rattle.smoother.specs.Pass.{emitted}
 use Rattle.smoother.specs.Smoother.{State, Lent, Answer, refused, gives, holding, bounded, windowFits, allFormed, ruleOk, outFits, laterRefusal, release, takes, finish}
 use Rattle.smoother.proofs.Refusals.{none-of}

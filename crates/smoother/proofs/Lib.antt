@@ -1,4 +1,3 @@
-mod Copying
 pub mod Forms
 mod Slots
 mod Chains

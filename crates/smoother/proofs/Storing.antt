@@ -12,7 +12,7 @@ use lib.Seq.{paste, drop-at, take-append-le, drop-append-le, take-append-seam, d
 use borrow.Author.Tests.{ltb-true, ltb-false}
 use lib.Ieee.{Float}
 use Rattle.smoother.specs.declared.FixedLagSmoother.{FixedLagSmoother}
-use Rattle.smoother.specs.Frame.{SmootherFrame, frame, trackCount, associationCount, sensorCount, wordsLong, numbersLong}
+use Rattle.refined.specs.Frame.{SmootherFrame, frame, trackCount, associationCount, sensorCount, wordsLong, numbersLong}
 use Rattle.smoother.specs.Window.{slotOf, wide, deep, slotWords, slotNumbers, wordsIn, numbersIn, frameIn, framesFrom, framesIn, more, fewer}
 use Rattle.smoother.proofs.Slots.{slot-within, turned, room}
 

@@ -9,7 +9,7 @@ use lib.ListN.{length, take, drop, set, length-append, length-drop, length-set}
 use lib.Seq.{paste, take-paste, drop-paste, take-all, drop-drop, take-at, drop-append-add, length-take-le, set-append-left}
 use lib.Ieee.{Float}
 use Rattle.rts.specs.Smoothing.{Estimate}
-use Rattle.smoother.specs.Frame.{SmootherFrame}
+use Rattle.refined.specs.Frame.{SmootherFrame}
 use Rattle.smoother.specs.Pass.{flat, statesTo, smoothedAt}
 use Rattle.smoother.specs.Promise.{over}
 

@@ -1,4 +1,3 @@
-pub mod Frame
 pub mod Pass
 pub mod Smoother
 pub mod Window

@@ -12,7 +12,7 @@ use Rattle.scalar.specs.F64.{f64}
 use Rattle.rts.specs.declared.Step.{Step}
 use Rattle.rts.specs.declared.Step.the-variants.{Smoothed, Skipped, Failed}
 use Rattle.rts.specs.Smoothing.{Estimate, Answer, back}
-use Rattle.smoother.specs.Frame.{SmootherFrame, time, trackCount, idWord, stateAt, stateOf}
+use Rattle.refined.specs.Frame.{SmootherFrame, time, trackCount, idWord, stateAt, stateOf}
 
 -- ---- choosing the chain
 

@@ -12,7 +12,7 @@ use Rattle.smoother.specs.declared.Answer.the-variants.{Refused, Held, F
 use Rattle.smoother.specs.declared.Told.{Told}
 use Rattle.smoother.specs.Smoother as Smoother
 use Rattle.smoother.specs.Smoother.{State, Lent, Opening, opened, unopened, refused, waits, gives}
-use Rattle.smoother.specs.Frame.{SmootherFrame}
+use Rattle.refined.specs.Frame.{SmootherFrame}
 use Rattle.smoother.specs.Pass.{emitted}
 use Rattle.smoother.specs.Window.{frameIn, framesIn, fewer, stateIn}
 

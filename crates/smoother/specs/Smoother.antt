@@ -6,7 +6,7 @@ use lib.ListN.{length}
 use lib.Dec.{leb, ltb, eqb}
 use lib.Ieee.{Float}
 use Rattle.scalar.specs.Scalar.{finite}
-use Rattle.smoother.specs.Frame.{SmootherFrame, wellFormed}
+use Rattle.refined.specs.Frame.{SmootherFrame, wellFormed}
 use Rattle.smoother.specs.Pass.{emitted}
 
 -- what a smoother keeps: its settings, most being C, and the held frames, oldest first

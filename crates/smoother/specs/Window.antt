@@ -12,7 +12,7 @@ use Rattle.smoother.specs.declared.pass.TrackState.{TrackState}
 use Rattle.smoother.specs.declared.pass.Passed.{Passed}
 use Rattle.smoother.specs.declared.pass.Found.{Found}
 use Rattle.smoother.specs.declared.pass.Found.the-variants.{At, Nothing}
-use Rattle.smoother.specs.Frame.{SmootherFrame, frame, trackCount, associationCount, sensorCount, wordsLong, numbersLong}
+use Rattle.refined.specs.Frame.{SmootherFrame, frame, trackCount, associationCount, sensorCount, wordsLong, numbersLong}
 use Rattle.smoother.specs.Smoother.{State, slotWide, slotDeep}
 
 module _ (s : FixedLagSmoother) where

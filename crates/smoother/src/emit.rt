@@ -1,16 +1,16 @@
 // The oldest held frame, smoothed, into the output buffers.
 use crate::FixedLagSmoother;
-use crate::copy::put_numbers;
-use crate::copy::put_words;
 use crate::pass::chosen;
 use crate::window::frame_numbers;
 use crate::window::frame_words;
+use refined::copy::put_numbers;
+use refined::copy::put_words;
 ghost use mathlib.Core.Path.{_≡_};
 ghost use mathlib.Core.List.{_++_};
 ghost use Prim.Native.Nat.{_+_, _*_, _<_, _≤_};
 ghost use lib.ListN.{length, take, drop, set};
 ghost use Rattle.rts.specs.Smoothing.{estimate};
-ghost use Rattle.smoother.specs.Frame.{trackCount};
+ghost use Rattle.refined.specs.Frame.{trackCount};
 ghost use Rattle.smoother.specs.Pass.{flat, statesTo, smoothedFlag};
 ghost use Rattle.smoother.specs.Window.{wide, wordsIn, frameIn, framesIn, Fitting, Counted, AllCounted};
 ghost use Rattle.smoother.specs.Promise.{over, oldest};

@@ -8,15 +8,13 @@ use scalar::bits;
 ghost use mathlib.Core.Path.{_≡_};
 ghost use Prim.Native.Nat.{_+_, _<_, _≤_};
 ghost use lib.ListN.{length};
-ghost use Rattle.smoother.specs.Frame.{frame as frameOf};
+ghost use Rattle.refined.specs.Frame.{frame as frameOf};
 ghost use Rattle.smoother.specs.Smoother as Smoother;
 ghost use Rattle.smoother.specs.Smoother.{openRefusal, laterRefusal};
 ghost use Rattle.smoother.specs.Window.{stateIn, Fitting, AllCounted};
 ghost use Rattle.smoother.specs.Promise.{buffers, lengths, openingOf, Released, Promised};
 
-mod copy;
 mod emit;
-mod frame;
 mod pass;
 mod window;
 

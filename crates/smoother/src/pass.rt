@@ -1,9 +1,9 @@
 // The backward pass over held frames.
 use crate::FixedLagSmoother;
-use crate::copy::numbers6;
-use crate::copy::numbers36;
 use crate::window::frame_numbers;
 use crate::window::frame_words;
+use refined::copy::numbers6;
+use refined::copy::numbers36;
 use rts::Step;
 use scalar::bits;
 ghost use mathlib.Core.Path.{_≡_};
@@ -11,7 +11,7 @@ ghost use mathlib.Core.Option.{some};
 ghost use Prim.Native.Nat.{_+_, _-_, _*_, _<_, _≤_};
 ghost use lib.ListN.{length};
 ghost use Rattle.scalar.specs.Scalar.{secondsOf, signed};
-ghost use Rattle.smoother.specs.Frame.{trackCount, lastAt, stateAt};
+ghost use Rattle.refined.specs.Frame.{trackCount, lastAt, stateAt};
 ghost use Rattle.smoother.specs.Pass.{backOne, chain, runBack, smoothedAt};
 ghost use Rattle.smoother.specs.Window.{wordsIn, frameIn, framesFrom, framesIn, Fitting, AllCounted, estimateOf, passedOf, foundOf};
 

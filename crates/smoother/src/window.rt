@@ -1,12 +1,12 @@
 // The window: held frames in the slots of two lent buffers.
 use crate::FixedLagSmoother;
-use crate::copy::put_numbers;
-use crate::copy::put_words;
-use crate::frame;
+use refined::copy::put_numbers;
+use refined::copy::put_words;
+use refined::frame;
 ghost use mathlib.Core.Path.{_≡_};
 ghost use Prim.Native.Nat.{_+_, _*_, _<_, _≤_};
 ghost use lib.ListN.{length, take};
-ghost use Rattle.smoother.specs.Frame.{frame as frameOf, trackCount, associationCount, sensorCount, wordsLong, numbersLong, wellFormed};
+ghost use Rattle.refined.specs.Frame.{frame as frameOf, trackCount, associationCount, sensorCount, wordsLong, numbersLong, wellFormed};
 ghost use Rattle.smoother.specs.Smoother.{allFormed};
 ghost use Rattle.smoother.specs.Window.{slotOf, wide, deep, slotWords, slotNumbers, wordsIn, numbersIn, frameIn, framesIn, fewer, Fitting, Counted, Stored};
 

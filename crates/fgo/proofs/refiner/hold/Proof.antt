@@ -6,10 +6,10 @@ use mathlib.Core.List.{List}
 use lib.ListN.{length}
 use borrow.Author.Needs.{needs}
 use Rattle.engine.specs.Body.{narrow, associationCount}
-use Rattle.rule.specs.declared.place.Placing.{Placing}
+use Rattle.ledger.specs.declared.place.Placing.{Placing}
 use Rattle.memory.specs.declared.state.FixedLagRefiner.{FixedLagRefiner}
 use Rattle.memory.specs.Memory.{slotAt, over}
-use Rattle.rule.specs.Placing.{Placed}
+use Rattle.ledger.specs.Placing.{Placed}
 use Rattle.fgo.specs.Arriving.{columnWords, placedBy, Holds, HeldBy}
 use Rattle.memory.proofs.Counts.{associations-few}
 use Rattle.fgo.proofs.HeldScans.{body-fits, bodies-kept, columns-kept, body-other, body-here, scans-more}

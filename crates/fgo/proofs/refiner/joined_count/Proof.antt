@@ -6,7 +6,7 @@ use Prim.Native.Nat.{ℕ}
 use lib.ListN.{length, replicate}
 use Rattle.engine.specs.declared.types.Association.{Association}
 use Rattle.memory.specs.Memory.{cells, over}
-use Rattle.rule.specs.Sound.{engineIn}
+use Rattle.ledger.specs.Sound.{engineIn}
 use Rattle.fgo.specs.Refusing.{enginesIn}
 use Rattle.memory.proofs.Cells.{length-rows, cells-over}
 use Rattle.memory.proofs.Over.{length-over}

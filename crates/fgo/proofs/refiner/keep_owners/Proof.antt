@@ -6,7 +6,7 @@ use mathlib.Core.Bool.{Bool}
 use mathlib.Core.List.{List}
 use mathlib.Core.Logic.{⊎-elim}
 use lib.ListN.{length-set}
-use Rattle.rule.specs.Sound.{liveIn}
+use Rattle.ledger.specs.Sound.{liveIn}
 use Rattle.fgo.specs.Promise.{keptOwners}
 use Rattle.fgo.proofs.Compacting.{Compacts, compacts-none, compacts-more, compacts-same, compacts-all}
 use Rattle.fgo.proofs.refiner.keep_owners.Statement.{statement}

@@ -4,7 +4,7 @@ use native.Mathlib.Nat.{zero-add}
 use native.Mathlib.Omega.{arith}
 use mathlib.Core.Path.{sym}
 use Rattle.engine.proofs.Passing.{row-at}
-use Rattle.rule.specs.Sound.{engineIn}
+use Rattle.ledger.specs.Sound.{engineIn}
 use Rattle.fgo.specs.Refusing.{enginesIn}
 use Rattle.memory.proofs.Cells.{length-rows}
 use Rattle.memory.proofs.Writes.{Writes, writes-none, writes-more, writes-all}

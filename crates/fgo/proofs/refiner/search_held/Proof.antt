@@ -18,7 +18,7 @@ use Rattle.memory.specs.Memory.{Memory, memory, scanIn, scansIn, tableIn, owner
 use Rattle.memory.specs.Gathering.{latestOf, GatheredAll, Scattered, heldLatest}
 use Rattle.fgo.specs.Arriving.{Searches, Searched, foundIn}
 use Rattle.memory.proofs.Rows.{row-of}
-use Rattle.rule.proofs.HeldGathered.{starts-128, latest-held}
+use Rattle.ledger.proofs.HeldGathered.{starts-128, latest-held}
 use Rattle.fgo.proofs.SearchGathered.{able, ids-long, search-gathered, scans-put-back}
 use Rattle.fgo.proofs.refiner.search_held.Statement.{statement}
 use Rattle.fgo.proofs.refiner.search_held.Tie as tie

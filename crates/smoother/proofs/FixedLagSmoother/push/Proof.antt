@@ -4,11 +4,11 @@ use mathlib.Core.Bool.{true, false}
 use lib.ListN.{length}
 use Rattle.smoother.specs.declared.Answer.the-variants.{Refused, Held}
 use borrow.Author.Tests.{not-true, not-false}
-use Rattle.smoother.specs.Frame.{frame, wellFormed}
+use Rattle.refined.specs.Frame.{frame, wellFormed}
 use Rattle.smoother.specs.Smoother.{laterRefusal, settle}
 use Rattle.smoother.specs.Window.{stateIn}
 use Rattle.smoother.specs.Promise.{buffers, lengths, Promised}
-use Rattle.smoother.proofs.Forms.{well-formed}
+use Rattle.refined.proofs.WellFormed.{well-formed}
 use Rattle.smoother.proofs.Refusals.{passing}
 use Rattle.smoother.proofs.Calls.{refuses, push-refused, push-malformed, push-formed, settle-held, settle-gives, stored-state, stored-ready, gives-oldest}
 use borrow.Author.Needs.{needs}

@@ -5,7 +5,7 @@ use mathlib.Core.List.{_++_}
 use native.Mathlib.Omega.{arith}
 use lib.ListN.{length, take, drop, length-append, length-drop}
 use lib.Seq.{paste, length-take-le}
-use Rattle.smoother.specs.Frame.{trackCount}
+use Rattle.refined.specs.Frame.{trackCount}
 use Rattle.smoother.specs.Pass.{statesTo, emitted}
 use Rattle.smoother.specs.Window.{wordsIn, numbersIn, frameIn, framesIn}
 use Rattle.smoother.specs.Promise.{over, oldest}

@@ -3,7 +3,7 @@ use Prim.Native.Nat.{_+_, _-_, _*_, _≤_}
 use mathlib.Core.Path.{_≡_, ap}
 use native.Mathlib.Omega.{arith}
 use lib.ListN.{length}
-use Rattle.smoother.specs.Frame.{trackCount}
+use Rattle.refined.specs.Frame.{trackCount}
 use Rattle.smoother.specs.Window.{wordsIn, frameIn, framesIn, estimateOf}
 use Rattle.smoother.proofs.Chains.{tracks-of}
 use Rattle.smoother.proofs.Writing.{Stated, none-stated, one-stated}

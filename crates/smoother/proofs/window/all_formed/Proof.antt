@@ -6,7 +6,7 @@ use native.Mathlib.Omega.{arith}
 use borrow.Author.Tests.{not-true, not-false}
 use Rattle.engine.specs.Body.{all}
 use Rattle.engine.proofs.Every.{all-none, all-more, all-less}
-use Rattle.smoother.specs.Frame.{wellFormed}
+use Rattle.refined.specs.Frame.{wellFormed}
 use Rattle.smoother.specs.Window.{frameIn}
 use Rattle.smoother.proofs.Forms.{all-held}
 use Rattle.smoother.proofs.window.all_formed.Statement.{statement}

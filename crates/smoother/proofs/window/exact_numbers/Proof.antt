@@ -2,7 +2,7 @@
 use mathlib.Core.Path.{refl, sym}
 use native.Mathlib.Omega.{arith}
 use lib.Seq.{length-take-le}
-use Rattle.smoother.specs.Frame.{numbersLong}
+use Rattle.refined.specs.Frame.{numbersLong}
 use borrow.Author.Needs.{needs}
 use Rattle.smoother.proofs.window.exact_numbers.Statement.{statement}
 use Rattle.smoother.proofs.window.exact_numbers.Tie as tie

@@ -2,7 +2,7 @@
 use mathlib.Core.Path.{refl, sym}
 use native.Mathlib.Omega.{arith}
 use lib.Seq.{length-take-le}
-use Rattle.smoother.specs.Frame.{wordsLong}
+use Rattle.refined.specs.Frame.{wordsLong}
 use borrow.Author.Needs.{needs}
 use Rattle.smoother.proofs.window.exact_words.Statement.{statement}
 use Rattle.smoother.proofs.window.exact_words.Tie as tie

@@ -6,7 +6,7 @@ use native.Mathlib.Omega.{arith}
 use lib.ListN.{length, take}
 use lib.Ieee.{Float}
 use Rattle.smoother.specs.declared.FixedLagSmoother.{FixedLagSmoother}
-use Rattle.smoother.specs.Frame.{numbersLong}
+use Rattle.refined.specs.Frame.{numbersLong}
 use Rattle.smoother.specs.Window.{wide, deep, slotWords, numbersIn, Counted}
 use borrow.Author.Needs.{needs}
 use Rattle.smoother.proofs.window.frame_numbers.Statement.{statement}

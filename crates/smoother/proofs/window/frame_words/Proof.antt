@@ -5,7 +5,7 @@ use mathlib.Core.List.{List}
 use native.Mathlib.Omega.{arith}
 use lib.ListN.{length, take}
 use Rattle.smoother.specs.declared.FixedLagSmoother.{FixedLagSmoother}
-use Rattle.smoother.specs.Frame.{wordsLong}
+use Rattle.refined.specs.Frame.{wordsLong}
 use Rattle.smoother.specs.Window.{wide, slotWords, wordsIn, Counted}
 use borrow.Author.Needs.{needs}
 use Rattle.smoother.proofs.window.frame_words.Statement.{statement}

@@ -3,9 +3,10 @@ use mathlib.Core.Path.{sym, ap, _∙_}
 use native.Mathlib.Omega.{arith}
 use lib.ListN.{length, take}
 use borrow.Author.Tests.{not-true, not-false}
-use Rattle.smoother.specs.Frame.{frame, wordsLong, numbersLong, headOk, wellFormed}
+use Rattle.refined.specs.Frame.{frame, wordsLong, numbersLong, headOk, wellFormed}
 use Rattle.smoother.specs.Window.{wordsIn, numbersIn}
-use Rattle.smoother.proofs.Forms.{headed, malformed}
+use Rattle.refined.proofs.WellFormed.{headed}
+use Rattle.smoother.proofs.Forms.{malformed}
 use borrow.Author.Needs.{needs}
 use Rattle.smoother.proofs.window.slot_formed.Statement.{statement}
 use Rattle.smoother.proofs.window.slot_formed.Tie as tie

@@ -7,7 +7,7 @@ use lib.ListN.{length}
 use lib.Seq.{paste}
 use lib.Ieee.{Float}
 use Rattle.smoother.specs.declared.FixedLagSmoother.{FixedLagSmoother}
-use Rattle.smoother.specs.Frame.{SmootherFrame, wordsLong, numbersLong}
+use Rattle.refined.specs.Frame.{SmootherFrame, wordsLong, numbersLong}
 use Rattle.smoother.specs.Window.{slotOf, wide, deep, framesIn, more}
 use Rattle.smoother.proofs.Slots.{room}
 use Rattle.smoother.proofs.Storing.{stored}
