@@ -4,6 +4,7 @@ use crate::emit::emit_words;
 use crate::window::all_formed;
 use crate::window::dropped;
 use crate::window::store;
+use refined::frame;
 use scalar::bits;
 ghost use mathlib.Core.Path.{_≡_};
 ghost use Prim.Native.Nat.{_+_, _<_, _≤_};
