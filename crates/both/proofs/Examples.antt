@@ -17,7 +17,7 @@ use Rattle.engine.specs.Little.{little}
 use Rattle.engine.specs.Frame.{Frame}
 use Rattle.engine.specs.Body.{all, codeOk, presentOk, timeOk, trackOk, associationOk, observationOk, indexOk, headOk, tracksOk, associationsOk, observationsOk, indicesOk, refusal, rows, trackAt, observationAt, associationAt, frameOf, decode}
 use Rattle.engine.specs.Encode.{bytesOf, laid, encode}
-use Rattle.kf.specs.Cost.{added, step as costStep, run as costRun, closed}
+use Rattle.costs.specs.Cost.{added, step as costStep, run as costRun, closed}
 use Rattle.scalar.specs.Root.{floorRoot, nearRoot, rootOf}
 use Rattle.linalg.specs.Grown.{tabulate, grown, backed}
 use Rattle.linalg.specs.Matrix.{mul as matMul, mulVec, transpose, add as matAdd, sub as matSub, scale, halfSum}

@@ -19,7 +19,7 @@ use Rattle.engine.specs.Frame.{Frame, noAssociation}
 use Rattle.engine.specs.Body.{rows}
 use Rattle.engine.proofs.Passing.{length-rows}
 use Rattle.engine.proofs.Settings.{legal-tells}
-use Rattle.kf.specs.Cost.{detAt}
+use Rattle.costs.specs.Cost.{detAt}
 use Rattle.model.specs.declared.moves.FgoCounters.{FgoCounters}
 use Rattle.model.specs.Lists.{keep, times, find, foundIf}
 use Rattle.model.specs.Windows as windows

@@ -1,11 +1,11 @@
 // The refiner: open, push, take and counters.
+use costs::cost::DETECTIONS;
+use costs::cost::DOTS;
 use engine::body;
 use engine::config::FgoConfig;
 use engine::types::Associated;
 use engine::types::RefinedId;
 use engine::types::ScanIndex;
-use kf::cost::DETECTIONS;
-use kf::cost::DOTS;
 use ledger::own;
 use ledger::place;
 use ledger::place::ASSOCIATIONS;

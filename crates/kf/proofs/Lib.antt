@@ -1,4 +1,2 @@
 pub mod Textbook
-pub mod Logs
-pub mod Steps
 pub mod Handed

@@ -1,4 +1,3 @@
 pub mod Plain
 pub mod Filter
 pub mod Textbook
-pub mod Cost

@@ -1,4 +1,3 @@
-// The plain filter, and the cost of a window of detections.
-pub mod cost;
+// The plain filter: predict and update, by value and in a filter that is lent.
 pub mod filter;
 pub mod lent;

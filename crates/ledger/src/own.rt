@@ -1,6 +1,6 @@
 // Owning after a search: each engine id goes to the track that holds its latest detection.
 use crate::rule;
-use kf::cost::DETECTIONS;
+use costs::cost::DETECTIONS;
 use memory::gather::STARTS;
 use memory::state::OWNERS;
 ghost use mathlib.Core.Path.{_≡_};

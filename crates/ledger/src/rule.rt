@@ -1,8 +1,8 @@
 // The state rule, checked whole: 3 is answered where it is broken.
+use costs::cost::DETECTIONS;
 use engine::body;
 use engine::types::Associated;
 use engine::types::ScanIndex;
-use kf::cost::DETECTIONS;
 use memory::gather;
 use memory::gather::STARTS;
 use memory::state;

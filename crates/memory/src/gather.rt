@@ -2,12 +2,12 @@
 use crate::state;
 use crate::state::BODIES;
 use crate::state::COLUMNS;
+use costs::cost::DETECTIONS;
+use costs::cost::DOTS;
 use engine::body;
 use engine::config::FgoConfig;
 use engine::types::Associated;
 use engine::types::ScanIndex;
-use kf::cost::DETECTIONS;
-use kf::cost::DOTS;
 use scalar::bits;
 ghost use mathlib.Core.Path.{_≡_};
 ghost use Prim.Native.Nat.{_+_, _*_, _<_, _≤_};

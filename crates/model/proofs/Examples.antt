@@ -16,7 +16,7 @@ use Rattle.engine.specs.Config.{defaults}
 use Rattle.engine.specs.Little.{little}
 use Rattle.engine.specs.Body.{all, codeOk, presentOk, timeOk, trackOk, associationOk, observationOk, indexOk, headOk, tracksOk, associationsOk, observationsOk, indicesOk, refusal, rows, trackAt, observationAt, associationAt, frameOf, decode}
 use Rattle.engine.specs.Encode.{bytesOf}
-use Rattle.kf.specs.Cost.{added, step as costStep, run as costRun, closed}
+use Rattle.costs.specs.Cost.{added, step as costStep, run as costRun, closed}
 use Rattle.model.specs.Lists.{keep, any, upFrom, insert, find, put, assign}
 use Rattle.model.specs.Windows.{Dot, Prefix, classAmong, dotOf, under, window, present, price}
 use Rattle.model.specs.Placing.{place}

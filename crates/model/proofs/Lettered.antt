@@ -10,8 +10,8 @@ use Rattle.scalar.specs.Ln.{lnOf}
 use Rattle.scalar.specs.Root.{rootOf}
 use Rattle.engine.specs.Config.{defaults, sigma}
 use Rattle.kf.specs.declared.filter.Kf.{Kf}
-use Rattle.kf.specs.declared.cost.Fold.the-variants.{Fresh, Frozen}
-use Rattle.kf.specs.Cost.{Det, added, step, run, closed, cost}
+use Rattle.costs.specs.declared.cost.Fold.the-variants.{Fresh, Frozen}
+use Rattle.costs.specs.Cost.{Det, added, step, run, closed, cost}
 use Rattle.kf.specs.Filter.{predicted, updated}
 use Rattle.model.specs.Freezing.{five, mean}
 use Rattle.model.specs.Searching.{wins}

@@ -22,9 +22,9 @@ use Rattle.engine.specs.declared.types.Association.{Association}
 use Rattle.engine.specs.Config.{sigma}
 use Rattle.engine.specs.Frame.{Frame, noObservation}
 use Rattle.kf.specs.declared.filter.Kf.{Kf}
-use Rattle.kf.specs.declared.cost.Fold.{Fold}
-use Rattle.kf.specs.declared.cost.Fold.the-variants.{Fresh, Frozen}
-use Rattle.kf.specs.Cost.{Det, cost}
+use Rattle.costs.specs.declared.cost.Fold.{Fold}
+use Rattle.costs.specs.declared.cost.Fold.the-variants.{Fresh, Frozen}
+use Rattle.costs.specs.Cost.{Det, cost}
 use Rattle.model.specs.Lists.{keep, has, insert, find, isSome}
 
 -- a held scan: its frame, and the refined id of each association, 0 for clutter

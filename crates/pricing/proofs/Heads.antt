@@ -9,9 +9,9 @@ use lib.Seq.{length-take-le, take-add, take-all}
 use lib.Ieee.{Float}
 use Rattle.engine.specs.declared.config.FgoConfig.{FgoConfig}
 use Rattle.engine.specs.declared.types.ScanIndex.{ScanIndex}
-use Rattle.kf.specs.declared.cost.Fold.{Fold}
-use Rattle.kf.specs.Cost.{View, viewOf, dets, run, closed, cost, missesOf, Kept, Asks}
-use Rattle.kf.proofs.Steps.{run-append, dets-append, misses-run}
+use Rattle.costs.specs.declared.cost.Fold.{Fold}
+use Rattle.costs.specs.Cost.{View, viewOf, dets, run, closed, cost, missesOf, Kept, Asks}
+use Rattle.costs.proofs.Steps.{run-append, dets-append, misses-run}
 use Rattle.windows.specs.Rows.{segment}
 use Rattle.windows.proofs.Segments.{length-segment}
 use Rattle.pricing.specs.Price.{Fit, Until, rowCost, headOf, crossed, onTo}

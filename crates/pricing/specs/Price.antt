@@ -11,9 +11,9 @@ use Rattle.engine.specs.declared.config.FgoConfig.{FgoConfig}
 use Rattle.engine.specs.declared.types.RefinedId.{RefinedId}
 use Rattle.engine.specs.declared.types.ScanIndex.{ScanIndex}
 use Rattle.engine.specs.Config.{clutter}
-use Rattle.kf.specs.declared.cost.Fold.{Fold}
-use Rattle.kf.specs.declared.cost.Fold.the-variants.{Fresh, Frozen, Going}
-use Rattle.kf.specs.Cost.{View, viewOf, dets, run, closed, cost, missesOf, Kept}
+use Rattle.costs.specs.declared.cost.Fold.{Fold}
+use Rattle.costs.specs.declared.cost.Fold.the-variants.{Fresh, Frozen, Going}
+use Rattle.costs.specs.Cost.{View, viewOf, dets, run, closed, cost, missesOf, Kept}
 use Rattle.model.specs.declared.moves.PairMove.{PairMove}
 use Rattle.model.specs.declared.moves.PairMove.the-variants.{Stay, Swap, Merge}
 use Rattle.model.specs.declared.moves.TrackMove.{TrackMove}

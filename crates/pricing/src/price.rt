@@ -1,19 +1,19 @@
 // What rows cost, and the best move of a pair of rows and of one row.
+use costs::cost;
+use costs::cost::DOTS;
+use costs::cost::Fold;
+use costs::cost::LOGS;
+use costs::cost::SCANS;
 use engine::config::FgoConfig;
 use engine::types::RefinedId;
 use engine::types::ScanIndex;
-use kf::cost;
-use kf::cost::DOTS;
-use kf::cost::Fold;
-use kf::cost::LOGS;
-use kf::cost::SCANS;
 use kf::filter::Kf;
 use model::moves::PairMove;
 use model::moves::TrackMove;
 ghost use mathlib.Core.Path.{_≡_};
 ghost use Prim.Native.Nat.{_+_, _*_, _≤_, _<_};
 ghost use lib.ListN.{length};
-ghost use Rattle.kf.specs.Cost.{Kept};
+ghost use Rattle.costs.specs.Cost.{Kept};
 ghost use Rattle.model.specs.Searching.{pairGain, trackGain, betterPair, betterTrack};
 ghost use Rattle.pricing.specs.Price.{frozenAt, partAmong, cutAt, keptSlot, mergedRow, bothHave, sharedRows, marks, tryMergeRow, bestSwapRow, betterMerge, bestPairRow, frozenOne, bestSplitRow, bestDropRow, bestTrackRow, triedSwap, triedSplit, triedDrop, Priced, Fit, Until, viewIn};
 

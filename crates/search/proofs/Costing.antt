@@ -11,8 +11,8 @@ use lib.Seq.{getD-set-same, getD-set-other}
 use lib.Dec.{eqb}
 use lib.Ieee.{Float, nan}
 use borrow.Author.Count.{below-more}
-use Rattle.kf.specs.declared.cost.Fold.{Fold}
-use Rattle.kf.specs.Cost.{missesOf, Kept, Asks}
+use Rattle.costs.specs.declared.cost.Fold.{Fold}
+use Rattle.costs.specs.Cost.{missesOf, Kept, Asks}
 use Rattle.pricing.specs.Price.{frozenAt, partFrom, rowCost, Fit}
 use Rattle.search.specs.Pass.{Scene, viewOn, partOn, rowOn, costOn, Able, Listed, Costed}
 use Rattle.windows.proofs.RowSlots.{row-length}

@@ -11,7 +11,7 @@ use lib.Dec.{T, eqb, leb}
 use lib.Ieee.{Float, binary64, add, sub, lt}
 use mir.Facts.{and-yes, yes-and, or-yes, eqb-yes, yes-eqb, leb-yes, yes-leb}
 use borrow.Author.Tests.{eq-eqb, ne-eqb}
-use Rattle.kf.specs.Cost.{View, Det, detAt, dets}
+use Rattle.costs.specs.Cost.{View, Det, detAt, dets}
 use Rattle.model.specs.Lists.{any}
 use Rattle.model.proofs.Counting.{or-right}
 use Rattle.windows.specs.Near.{square, apart2, nearSlots, closeAt}

@@ -11,8 +11,8 @@ use lib.Ieee.{Float, binary64, add, sub, mul, ofInt}
 use Rattle.engine.specs.declared.config.FgoConfig.{FgoConfig}
 use Rattle.engine.specs.declared.types.RefinedId.{RefinedId}
 use Rattle.engine.specs.Config.{clutter}
-use Rattle.kf.specs.declared.cost.Fold.{Fold}
-use Rattle.kf.specs.Cost.{View}
+use Rattle.costs.specs.declared.cost.Fold.{Fold}
+use Rattle.costs.specs.Cost.{View}
 use Rattle.model.specs.declared.moves.PairMove.{PairMove}
 use Rattle.model.specs.declared.moves.PairMove.the-variants.{Stay, Swap, Merge}
 use Rattle.model.specs.Windows.{Scan, Prefix, window}

@@ -3,8 +3,8 @@ use Prim.Native.Nat.{ℕ}
 use mathlib.Core.Path.{_≡_, sym}
 use mathlib.Core.List.{List, map}
 use Rattle.engine.specs.declared.config.FgoConfig.{FgoConfig}
-use Rattle.kf.specs.declared.cost.Fold.{Fold}
-use Rattle.kf.specs.Cost.{Det, View, cost}
+use Rattle.costs.specs.declared.cost.Fold.{Fold}
+use Rattle.costs.specs.Cost.{Det, View, cost}
 use Rattle.model.specs.Lists.{find}
 use Rattle.model.specs.Windows.{Scan, Prefix, detOf, partOf, price, window}
 use Rattle.model.specs.Searching.{costOf}

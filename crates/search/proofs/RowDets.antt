@@ -8,7 +8,7 @@ use mathlib.Core.List.{List, [], _∷_, _++_, map, append-nil}
 use lib.ListN.{length, getD, take, drop, take-append-drop}
 use lib.Dec.{ltb, leb}
 use borrow.Author.Tests.{lt-ltb, le-ltb, le-leb, lt-leb}
-use Rattle.kf.specs.Cost.{Det, View, detAt, dets}
+use Rattle.costs.specs.Cost.{Det, View, detAt, dets}
 use Rattle.model.specs.Lists.{keep, upFrom}
 use Rattle.model.specs.Rule.{All}
 use Rattle.model.proofs.All.{All-weaken}

@@ -6,7 +6,7 @@ use mathlib.Core.Logic.{_⊎_}
 use mathlib.Core.List.{List, [], _∷_, map}
 use lib.ListN.{length, getD}
 use Rattle.engine.specs.Frame.{noAssociation}
-use Rattle.kf.specs.Cost.{detAt, dets}
+use Rattle.costs.specs.Cost.{detAt, dets}
 use Rattle.model.specs.declared.moves.PairMove.{PairMove}
 use Rattle.model.specs.declared.moves.PairMove.the-variants.{Stay, Swap, Merge}
 use Rattle.model.specs.declared.moves.TrackMove.{TrackMove}

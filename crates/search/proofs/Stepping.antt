@@ -8,7 +8,7 @@ use mathlib.Core.List.{List}
 use lib.ListN.{length}
 use lib.Dec.{ltb}
 use lib.Ieee.{Float, binary64, add}
-use Rattle.kf.specs.declared.cost.Fold.{Fold}
+use Rattle.costs.specs.declared.cost.Fold.{Fold}
 use Rattle.model.specs.declared.moves.PairMove.{PairMove}
 use Rattle.model.specs.declared.moves.TrackMove.{TrackMove}
 use Rattle.model.specs.declared.moves.TrackMove.the-variants.{Split, Drop, Stay as Rest}

@@ -7,7 +7,7 @@ use mathlib.Core.List.{List}
 use lib.ListN.{length, getD, take, drop}
 use lib.Ieee.{Float}
 use Rattle.engine.specs.Config.{radius}
-use Rattle.kf.specs.Cost.{Kept}
+use Rattle.costs.specs.Cost.{Kept}
 use Rattle.windows.specs.declared.moves.Tally.{Tally}
 use Rattle.windows.specs.Rows.{Tabled}
 use Rattle.windows.specs.Near.{square, closeScans, anyClose, CloseRows}

@@ -12,9 +12,9 @@ use lib.Dec.{T, ltb, ltb→lt}
 use lib.Ieee.{Float, binary64, add, sub}
 use Rattle.engine.specs.declared.config.FgoConfig.{FgoConfig}
 use Rattle.engine.specs.Config.{clutter}
-use Rattle.kf.specs.declared.cost.Fold.{Fold}
-use Rattle.kf.specs.declared.cost.Fold.the-variants.{Fresh}
-use Rattle.kf.specs.Cost.{Det, View, detAt, dets, cost}
+use Rattle.costs.specs.declared.cost.Fold.{Fold}
+use Rattle.costs.specs.declared.cost.Fold.the-variants.{Fresh}
+use Rattle.costs.specs.Cost.{Det, View, detAt, dets, cost}
 use Rattle.model.specs.declared.moves.TrackMove.{TrackMove}
 use Rattle.model.specs.declared.moves.TrackMove.the-variants.{Split, Drop, Stay as Rest}
 use Rattle.model.specs.Lists.{keep, upFrom, times, find, isSome}

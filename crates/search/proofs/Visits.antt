@@ -6,7 +6,7 @@ use mathlib.Core.Path.{_≡_, refl, sym, ap, _∙_, subst}
 use mathlib.Core.List.{List}
 use lib.ListN.{length, getD, take, drop}
 use lib.Ieee.{Float, nan}
-use Rattle.kf.specs.Cost.{Kept}
+use Rattle.costs.specs.Cost.{Kept}
 use Rattle.windows.specs.declared.moves.Tally.{Tally}
 use Rattle.windows.specs.Rows.{Starts}
 use Rattle.search.specs.Pass.{Scene, Search, rowOn, costOn, trackStep, visit, Listed, Costed}

@@ -8,7 +8,7 @@ use lib.ListN.{length, take, drop}
 use lib.Dec.{ltb, leb}
 use borrow.Author.Tests.{ne-eqb}
 use Rattle.engine.specs.declared.config.FgoConfig.{FgoConfig}
-use Rattle.kf.specs.Cost.{Det, View, detAt, dets}
+use Rattle.costs.specs.Cost.{Det, View, detAt, dets}
 use Rattle.model.specs.Lists.{keep, consIf}
 use Rattle.model.specs.Windows.{Dot, detOf}
 use Rattle.model.specs.Rule.{All}

@@ -11,7 +11,7 @@ use borrow.Author.Tests.{eq-eqb, ne-eqb}
 use Rattle.engine.specs.declared.config.FgoConfig.{FgoConfig}
 use Rattle.engine.specs.declared.types.Association.{Association}
 use Rattle.engine.specs.Frame.{Frame, noAssociation}
-use Rattle.kf.specs.Cost.{View, Det, detAt, dets}
+use Rattle.costs.specs.Cost.{View, Det, detAt, dets}
 use Rattle.model.specs.Lists.{has, times, upFrom}
 use Rattle.model.specs.Windows.{Scan, Prefix, Dot, dotOf, detOf, under, inScan, window}
 use Rattle.model.specs.Faithful.{Regular}

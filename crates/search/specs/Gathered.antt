@@ -7,7 +7,7 @@ use lib.Dec.{ltb}
 use Rattle.engine.specs.declared.types.Association.{Association}
 use Rattle.engine.specs.Frame.{noAssociation}
 use Rattle.engine.specs.Config.{maxPasses}
-use Rattle.kf.specs.Cost.{detAt}
+use Rattle.costs.specs.Cost.{detAt}
 use Rattle.model.specs.declared.moves.FgoCounters.{FgoCounters}
 use Rattle.model.specs.Lists.{keep, times, find}
 use Rattle.model.specs.Windows.{Scan, Prefix, dotOf, detOf, partOf}

@@ -7,8 +7,8 @@ use lib.ListN.{length, getD}
 use lib.Ieee.{Float, nan, binary64, add}
 use Rattle.engine.specs.declared.types.RefinedId.{RefinedId}
 use Rattle.engine.specs.Config.{radius}
-use Rattle.kf.specs.declared.cost.Fold.{Fold}
-use Rattle.kf.specs.Cost.{View, Kept}
+use Rattle.costs.specs.declared.cost.Fold.{Fold}
+use Rattle.costs.specs.Cost.{View, Kept}
 use Rattle.model.specs.declared.moves.PairMove.{PairMove}
 use Rattle.model.specs.declared.moves.TrackMove.{TrackMove}
 use Rattle.pricing.specs.declared.price.Hall.{Hall}

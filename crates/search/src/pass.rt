@@ -1,10 +1,10 @@
 // The passes of the search: every pair of tracks that come close, then every track.
+use costs::cost;
+use costs::cost::DETECTIONS;
+use costs::cost::DOTS;
+use costs::cost::LOGS;
+use costs::cost::SCANS;
 use engine::types::RefinedId;
-use kf::cost;
-use kf::cost::DETECTIONS;
-use kf::cost::DOTS;
-use kf::cost::LOGS;
-use kf::cost::SCANS;
 use model::moves::FgoCounters;
 use pricing::price;
 use pricing::price::FILTERS;
@@ -21,7 +21,7 @@ ghost use mathlib.Core.Path.{_≡_};
 ghost use mathlib.Core.List.{List};
 ghost use Prim.Native.Nat.{ℕ, _+_, _≤_, _<_};
 ghost use lib.ListN.{length, getD, take, drop};
-ghost use Rattle.kf.specs.Cost.{Kept};
+ghost use Rattle.costs.specs.Cost.{Kept};
 ghost use Rattle.model.specs.Windows.{Scan, Prefix};
 ghost use Rattle.engine.specs.Config.{radius, maxPasses};
 ghost use Rattle.windows.specs.Rows.{Tabled};

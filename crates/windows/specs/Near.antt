@@ -6,7 +6,7 @@ use mathlib.Core.List.{List, map}
 use lib.ListN.{getD}
 use lib.Dec.{eqb, leb}
 use lib.Ieee.{Float, binary64, add, sub, mul, lt}
-use Rattle.kf.specs.Cost.{dotAt}
+use Rattle.costs.specs.Cost.{dotAt}
 use Rattle.model.specs.Lists.{any, upFrom}
 use Rattle.windows.specs.Rows.{segment}
 

@@ -1,9 +1,9 @@
 // What a move does to the gathered ids, and what it counts.
 use crate::rows::STARTS;
+use costs::cost::DETECTIONS;
+use costs::cost::SCANS;
 use engine::types::RefinedId;
 use engine::types::ScanIndex;
-use kf::cost::DETECTIONS;
-use kf::cost::SCANS;
 use model::moves::FgoCounters;
 use model::moves::PairMove;
 use model::moves::TrackMove;

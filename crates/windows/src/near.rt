@@ -1,9 +1,9 @@
 // Which rows come close to each other, and in which scans.
 use crate::rows::ENTRY;
 use crate::rows::ROWS;
-use kf::cost;
-use kf::cost::DOTS;
-use kf::cost::SCANS;
+use costs::cost;
+use costs::cost::DOTS;
+use costs::cost::SCANS;
 ghost use mathlib.Core.Path.{_≡_};
 ghost use Prim.Native.Nat.{_+_, _*_, _<_};
 ghost use lib.ListN.{length, getD};

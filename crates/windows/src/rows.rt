@@ -1,6 +1,6 @@
 // Rows: for each scan one more than the place of a track's detection among those gathered, 0 where it has none.
-use kf::cost::DETECTIONS;
-use kf::cost::SCANS;
+use costs::cost::DETECTIONS;
+use costs::cost::SCANS;
 ghost use mathlib.Core.Path.{_≡_};
 ghost use mathlib.Core.List.{_++_};
 ghost use Prim.Native.Nat.{_+_, _*_, _≤_, _<_};

@@ -1,4 +1,4 @@
--- `fgo::own::hold_latest` meets its contract: the entries before k are told anew, the others are as they were. Assumes nothing.
+-- `ledger::own::hold_latest` meets its contract: the entries before k are told anew, the others are as they were. Assumes nothing.
 use Prim.Native.Nat.{ℕ, zero, suc, _+_, _-_, _*_, _≤_, _<_}
 use native.Mathlib.Decide.{ℕ-discrete}
 use native.Mathlib.Omega.{arith}

@@ -1,4 +1,4 @@
--- `fgo::place::assign` meets its contract. Assumes nothing.
+-- `ledger::place::assign` meets its contract. Assumes nothing.
 use Prim.Native.Nat.{_+_, _-_, _*_, _≤_}
 use native.Mathlib.Omega.{arith}
 use mathlib.Core.Path.{_≡_, refl, sym, ap, _∙_, subst}

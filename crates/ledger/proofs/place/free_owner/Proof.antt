@@ -1,4 +1,4 @@
--- `fgo::place::free_owner` meets its contract. Assumes nothing.
+-- `ledger::place::free_owner` meets its contract. Assumes nothing.
 use native.Mathlib.Omega.{arith}
 use mathlib.Core.Path.{_≡_, sym, _∙_}
 use denote.Ref.{now}

@@ -1,4 +1,4 @@
--- `fgo::place::place_all` meets its contract. The first j associations are placed. Assumes nothing.
+-- `ledger::place::place_all` meets its contract. The first j associations are placed. Assumes nothing.
 use Prim.Native.Nat.{ℕ, _+_, _-_, _≤_}
 use native.Mathlib.Numerals.{add-one}
 use native.Mathlib.Omega.{arith}

@@ -1,4 +1,4 @@
--- `fgo::place::place_one` meets its contract. Assumes nothing.
+-- `ledger::place::place_one` meets its contract. Assumes nothing.
 use native.Mathlib.Omega.{arith}
 use mathlib.Core.Path.{_∙_}
 use lib.ListN.{length-set}

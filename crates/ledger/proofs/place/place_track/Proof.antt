@@ -1,4 +1,4 @@
--- `fgo::place::place_track` meets its contract. Assumes nothing.
+-- `ledger::place::place_track` meets its contract. Assumes nothing.
 use native.Mathlib.Omega.{arith}
 use mathlib.Core.Path.{refl, ap, _∙_}
 use lib.ListN.{length-set, take}

@@ -1,4 +1,4 @@
--- `fgo::place::stands` meets its contract. Assumes nothing.
+-- `ledger::place::stands` meets its contract. Assumes nothing.
 use Prim.Native.Nat.{ℕ, zero, suc, _+_, _-_, _≤_, _<_}
 use native.Mathlib.Numerals.{add-one}
 use native.Mathlib.Omega.{arith}

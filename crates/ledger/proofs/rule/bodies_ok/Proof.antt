@@ -1,4 +1,4 @@
--- `fgo::rule::bodies_ok` meets its contract. Assumes nothing.
+-- `ledger::rule::bodies_ok` meets its contract. Assumes nothing.
 use Prim.Native.Nat.{ℕ, _-_, _≤_}
 use mathlib.Core.Path.{_≡_, sym, ap, _∙_}
 use mathlib.Core.Bool.{true}

@@ -1,4 +1,4 @@
--- `fgo::rule::count_in` meets its contract. Assumes nothing.
+-- `ledger::rule::count_in` meets its contract. Assumes nothing.
 use Prim.Native.Nat.{ℕ, suc, _+_, _-_, _≤_, _<_}
 use native.Mathlib.Numerals.{add-one}
 use native.Mathlib.Omega.{arith}

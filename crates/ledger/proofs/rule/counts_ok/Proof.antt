@@ -1,4 +1,4 @@
--- `fgo::rule::counts_ok` meets its contract. Assumes nothing.
+-- `ledger::rule::counts_ok` meets its contract. Assumes nothing.
 use Prim.Native.Nat.{_≤_, _<_}
 use mathlib.Core.Path.{_≡_, sym, _∙_}
 use mathlib.Core.Bool.{false≢true}

@@ -1,4 +1,4 @@
--- `fgo::rule::holder_in` meets its contract. Assumes nothing.
+-- `ledger::rule::holder_in` meets its contract. Assumes nothing.
 use Prim.Native.Nat.{ℕ, _+_, _-_, _<_, max}
 use native.Mathlib.Nat.{max-zero}
 use native.Mathlib.Omega.{arith}

@@ -1,4 +1,4 @@
--- `fgo::rule::is_distinct` meets its contract. Assumes nothing.
+-- `ledger::rule::is_distinct` meets its contract. Assumes nothing.
 use Prim.Native.Nat.{_-_, _<_}
 use native.Mathlib.Numerals.{add-one}
 use native.Mathlib.Omega.{arith}

@@ -1,4 +1,4 @@
--- `fgo::rule::is_frozen` meets its contract. Assumes nothing.
+-- `ledger::rule::is_frozen` meets its contract. Assumes nothing.
 use Prim.Native.Nat.{_-_}
 use native.Mathlib.Nat.{sub-zero}
 use native.Mathlib.Omega.{arith}

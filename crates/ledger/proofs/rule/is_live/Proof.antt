@@ -1,4 +1,4 @@
--- `fgo::rule::is_live` meets its contract. Assumes nothing.
+-- `ledger::rule::is_live` meets its contract. Assumes nothing.
 use native.Mathlib.Omega.{arith}
 use mathlib.Core.Path.{_≡_, sym, _∙_}
 use mathlib.Core.Bool.{Bool, true, false, _||_}

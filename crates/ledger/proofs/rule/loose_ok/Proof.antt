@@ -1,4 +1,4 @@
--- `fgo::rule::loose_ok` meets its contract. Assumes nothing.
+-- `ledger::rule::loose_ok` meets its contract. Assumes nothing.
 use borrow.Author.Needs.{needs}
 use Rattle.ledger.proofs.rule.loose_ok.Statement.{statement}
 use Rattle.ledger.proofs.rule.loose_ok.Tie as tie

@@ -1,4 +1,4 @@
--- `fgo::rule::owned_all` meets its contract. Assumes nothing.
+-- `ledger::rule::owned_all` meets its contract. Assumes nothing.
 use Prim.Native.Nat.{_-_, _≤_}
 use native.Mathlib.Omega.{arith}
 use mathlib.Core.Path.{_≡_, sym, _∙_}

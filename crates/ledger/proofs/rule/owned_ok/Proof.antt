@@ -1,4 +1,4 @@
--- `fgo::rule::owned_ok` meets its contract. Assumes nothing.
+-- `ledger::rule::owned_ok` meets its contract. Assumes nothing.
 use Prim.Native.Nat.{ℕ}
 use native.Mathlib.Omega.{arith}
 use mathlib.Core.Path.{_∙_}

@@ -1,4 +1,4 @@
--- `fgo::rule::owner_of` meets its contract. Assumes nothing.
+-- `ledger::rule::owner_of` meets its contract. Assumes nothing.
 use Prim.Native.Nat.{ℕ, _+_, _-_, _*_, _≤_, _<_}
 use native.Mathlib.Nat.{sub-zero}
 use native.Mathlib.Omega.{arith}

@@ -1,4 +1,4 @@
--- `fgo::rule::parts_ok` meets its contract. Assumes nothing.
+-- `ledger::rule::parts_ok` meets its contract. Assumes nothing.
 use Prim.Native.Nat.{_-_, _≤_}
 use native.Mathlib.Numerals.{add-one}
 use native.Mathlib.Omega.{arith}

@@ -1,4 +1,4 @@
--- `fgo::gather::engine_of` meets its contract. Assumes nothing.
+-- `memory::gather::engine_of` meets its contract. Assumes nothing.
 use mathlib.Core.Path.{ap, _∙_}
 use borrow.Author.Needs.{needs}
 use Rattle.engine.specs.declared.types.Association.{Association}

@@ -1,4 +1,4 @@
--- `fgo::gather::fill_starts` meets its contract. Assumes nothing.
+-- `memory::gather::fill_starts` meets its contract. Assumes nothing.
 use Prim.Native.Nat.{ℕ, _+_, _-_, _≤_, _<_}
 use native.Mathlib.Nat.{eq-or-lt-of-le}
 use native.Mathlib.Omega.{arith}

@@ -1,4 +1,4 @@
--- `fgo::gather::gather_scan` meets its contract. Assumes nothing.
+-- `memory::gather::gather_scan` meets its contract. Assumes nothing.
 use Prim.Native.Nat.{_-_, _<_}
 use native.Mathlib.Omega.{arith}
 use mathlib.Core.Logic.{⊎-elim}

@@ -1,4 +1,4 @@
--- `fgo::gather::put_dot` meets its contract. Assumes nothing.
+-- `memory::gather::put_dot` meets its contract. Assumes nothing.
 use mathlib.Core.Path.{_≡_, ap, _∙_}
 use lib.ListN.{getD}
 use mir.Facts.{toZ-ofZ}

@@ -1,4 +1,4 @@
--- `fgo::state::body_in` meets its contract. Assumes nothing.
+-- `memory::state::body_in` meets its contract. Assumes nothing.
 use Prim.Native.Nat.{_+_, _-_, _*_}
 use mathlib.Core.Path.{_≡_}
 use native.Mathlib.Omega.{arith}

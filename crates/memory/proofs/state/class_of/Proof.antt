@@ -1,4 +1,4 @@
--- `fgo::state::class_of` meets its contract. Assumes nothing.
+-- `memory::state::class_of` meets its contract. Assumes nothing.
 use borrow.Author.Tests.{lt-ltb, le-ltb}
 use borrow.Author.Needs.{needs}
 use Rattle.memory.proofs.state.class_of.Statement.{statement}

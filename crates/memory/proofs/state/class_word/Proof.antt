@@ -1,4 +1,4 @@
--- `fgo::state::class_word` meets its contract. Assumes nothing.
+-- `memory::state::class_word` meets its contract. Assumes nothing.
 use Prim.Native.Nat.{_<_}
 use mathlib.Core.Path.{refl}
 use borrow.Author.Tests.{lt-ltb}

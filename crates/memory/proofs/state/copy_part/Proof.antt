@@ -1,4 +1,4 @@
--- `fgo::state::copy_part` meets its contract. Assumes nothing.
+-- `memory::state::copy_part` meets its contract. Assumes nothing.
 use Prim.Native.Nat.{_*_}
 use mathlib.Core.Path.{_≡_, ap, _∙_}
 use lib.ListN.{length}

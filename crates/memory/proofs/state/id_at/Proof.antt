@@ -1,4 +1,4 @@
--- `fgo::state::id_at` meets its contract. Assumes nothing.
+-- `memory::state::id_at` meets its contract. Assumes nothing.
 use borrow.Author.Tests.{lt-ltb, le-ltb}
 use Rattle.memory.specs.Memory.{idAt}
 use borrow.Author.Needs.{needs}

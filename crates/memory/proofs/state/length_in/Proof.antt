@@ -1,4 +1,4 @@
--- `fgo::state::length_in` meets its contract. Assumes nothing.
+-- `memory::state::length_in` meets its contract. Assumes nothing.
 use native.Mathlib.Omega.{arith}
 use borrow.Author.Tests.{le-leb, lt-leb}
 use borrow.Author.Needs.{needs}

@@ -1,4 +1,4 @@
--- `fgo::state::prefix_at` meets its contract. Assumes nothing.
+-- `memory::state::prefix_at` meets its contract. Assumes nothing.
 use Prim.Native.Nat.{_+_, _*_}
 use mathlib.Core.Path.{_≡_, _∙_}
 use lib.ListN.{getD}

@@ -1,4 +1,4 @@
--- `fgo::state::put_prefix` meets its contract. Assumes nothing.
+-- `memory::state::put_prefix` meets its contract. Assumes nothing.
 use mathlib.Core.Path.{_≡_, ap, _∙_}
 use lib.ListN.{length}
 use mir.Syntax.{w64}

@@ -1,4 +1,4 @@
--- `fgo::state::stands_in` meets its contract. Assumes nothing.
+-- `memory::state::stands_in` meets its contract. Assumes nothing.
 use Prim.Native.Nat.{_-_}
 use mathlib.Core.Path.{_≡_, refl, sym, _∙_}
 use native.Mathlib.Omega.{arith}

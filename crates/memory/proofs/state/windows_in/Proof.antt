@@ -1,4 +1,4 @@
--- `fgo::state::windows_in` meets its contract. Assumes nothing.
+-- `memory::state::windows_in` meets its contract. Assumes nothing.
 use Prim.Native.Nat.{_+_, _-_}
 use mathlib.Core.Path.{_≡_, sym, _∙_}
 use native.Mathlib.Nat.{add-zero}

@@ -1,4 +1,4 @@
--- `fgo::state::words_at` meets its contract. Assumes nothing.
+-- `memory::state::words_at` meets its contract. Assumes nothing.
 use native.Mathlib.Nat.{add-zero}
 use Rattle.engine.specs.Body.{rows}
 use borrow.Author.Needs.{needs}

@@ -1,4 +1,4 @@
--- `search::price::best_drop` meets its contract. Assumes nothing.
+-- `pricing::price::best_drop` meets its contract. Assumes nothing.
 use borrow.Author.Tests.{lt-ltb, le-ltb}
 use mathlib.Core.Path.{_≡_, refl, sym, ap, _∙_}
 use mathlib.Core.Bool.{true, false}
@@ -10,9 +10,9 @@ use lib.ListN.{length, take, drop}
 use lib.Ieee.{Float, binary64, add, sub}
 use Rattle.engine.specs.declared.config.FgoConfig.{FgoConfig}
 use Rattle.engine.specs.Config.{clutter}
-use Rattle.kf.specs.declared.cost.Fold.{Fold}
-use Rattle.kf.specs.Cost.{View, Kept, dets, cost, closed}
-use Rattle.kf.proofs.Steps.{run-append}
+use Rattle.costs.specs.declared.cost.Fold.{Fold}
+use Rattle.costs.specs.Cost.{View, Kept, dets, cost, closed}
+use Rattle.costs.proofs.Steps.{run-append}
 use Rattle.model.specs.declared.moves.TrackMove.{TrackMove}
 use Rattle.model.specs.declared.moves.TrackMove.the-variants.{Drop}
 use Rattle.model.specs.Searching.{betterTrack}

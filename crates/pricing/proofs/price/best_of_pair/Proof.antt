@@ -1,4 +1,4 @@
--- `search::price::best_of_pair` meets its contract. Assumes nothing.
+-- `pricing::price::best_of_pair` meets its contract. Assumes nothing.
 use borrow.Author.Needs.{needs}
 use mathlib.Core.Path.{ap, _∙_}
 use Rattle.pricing.specs.Price.{bestPairRow, betterMerge, viewIn}

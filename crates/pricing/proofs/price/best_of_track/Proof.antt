@@ -1,4 +1,4 @@
--- `search::price::best_of_track` meets its contract. Assumes nothing.
+-- `pricing::price::best_of_track` meets its contract. Assumes nothing.
 use borrow.Author.Needs.{needs}
 use borrow.Author.Tests.{lt-ltb, le-ltb}
 use mathlib.Core.Path.{sym, ap, _∙_}
@@ -7,8 +7,8 @@ use mathlib.Core.List.{List}
 use Prim.Native.Nat.{ℕ, _+_, _≤_, _<_}
 use native.Mathlib.Omega.{arith}
 use lib.ListN.{length}
-use Rattle.kf.specs.declared.cost.Fold.{Fold}
-use Rattle.kf.specs.declared.cost.Fold.the-variants.{Fresh, Frozen, Going}
+use Rattle.costs.specs.declared.cost.Fold.{Fold}
+use Rattle.costs.specs.declared.cost.Fold.the-variants.{Fresh, Frozen, Going}
 use Rattle.model.specs.Lists.{upFrom}
 use Rattle.model.proofs.Counting.{count-le}
 use Rattle.pricing.specs.Price.{marked, marks, frozenOne, bestSplitRow, bestDropRow, bestTrackRow, viewIn}

@@ -1,4 +1,4 @@
--- `search::price::best_split` meets its contract. Assumes nothing.
+-- `pricing::price::best_split` meets its contract. Assumes nothing.
 use borrow.Author.Tests.{lt-ltb, le-ltb}
 use mathlib.Core.Path.{_≡_, refl, sym, ap, _∙_}
 use mathlib.Core.Bool.{Bool, true, false, cond}
@@ -9,9 +9,9 @@ use native.Mathlib.Omega.{arith}
 use lib.ListN.{length, drop}
 use lib.Ieee.{Float, binary64, add, sub}
 use Rattle.engine.specs.declared.config.FgoConfig.{FgoConfig}
-use Rattle.kf.specs.declared.cost.Fold.{Fold}
-use Rattle.kf.specs.declared.cost.Fold.the-variants.{Fresh}
-use Rattle.kf.specs.Cost.{View, Kept, dets, cost, closed}
+use Rattle.costs.specs.declared.cost.Fold.{Fold}
+use Rattle.costs.specs.declared.cost.Fold.the-variants.{Fresh}
+use Rattle.costs.specs.Cost.{View, Kept, dets, cost, closed}
 use Rattle.model.specs.declared.moves.TrackMove.{TrackMove}
 use Rattle.model.specs.declared.moves.TrackMove.the-variants.{Split}
 use Rattle.model.specs.Searching.{betterTrack}

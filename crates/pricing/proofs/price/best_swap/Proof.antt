@@ -1,4 +1,4 @@
--- `search::price::best_swap` meets its contract. Assumes nothing.
+-- `pricing::price::best_swap` meets its contract. Assumes nothing.
 use mathlib.Core.Path.{_≡_, refl, sym, ap, _∙_}
 use mathlib.Core.Bool.{Bool, true, false}
 use mathlib.Core.List.{List}
@@ -8,8 +8,8 @@ use native.Mathlib.Omega.{arith}
 use lib.ListN.{length, drop}
 use lib.Ieee.{Float, binary64, add, sub}
 use Rattle.engine.specs.declared.config.FgoConfig.{FgoConfig}
-use Rattle.kf.specs.declared.cost.Fold.{Fold}
-use Rattle.kf.specs.Cost.{View, Kept, dets, cost}
+use Rattle.costs.specs.declared.cost.Fold.{Fold}
+use Rattle.costs.specs.Cost.{View, Kept, dets, cost}
 use Rattle.model.specs.declared.moves.PairMove.the-variants.{Swap}
 use Rattle.model.specs.Searching.{betterPair}
 use Rattle.pricing.specs.declared.price.Heads.{Heads}

@@ -1,4 +1,4 @@
--- `search::price::better_merge` meets its contract. Assumes nothing.
+-- `pricing::price::better_merge` meets its contract. Assumes nothing.
 use borrow.Author.Needs.{needs}
 use mathlib.Core.Path.{_≡_, sym, ap, _∙_}
 use mathlib.Core.Bool.{true, false}
@@ -9,8 +9,8 @@ use lib.IntN.{pos}
 use Rattle.engine.specs.declared.config.FgoConfig.{FgoConfig}
 use Rattle.engine.specs.declared.types.RefinedId.{RefinedId}
 use Rattle.engine.specs.Config.{clutter}
-use Rattle.kf.specs.declared.cost.Fold.{Fold}
-use Rattle.kf.specs.Cost.{View}
+use Rattle.costs.specs.declared.cost.Fold.{Fold}
+use Rattle.costs.specs.Cost.{View}
 use Rattle.model.specs.declared.moves.PairMove.the-variants.{Merge}
 use Rattle.model.specs.Searching.{betterPair, pairGain}
 use Rattle.pricing.specs.Price.{betterMerge, tryMergeRow, rowCost, sharedRows, viewIn}

@@ -1,4 +1,4 @@
--- `search::price::better_pair` meets its contract. Assumes nothing.
+-- `pricing::price::better_pair` meets its contract. Assumes nothing.
 use borrow.Author.Needs.{needs}
 use Rattle.pricing.proofs.price.better_pair.Statement.{statement}
 use Rattle.pricing.proofs.price.better_pair.Tie as tie

@@ -1,4 +1,4 @@
--- `search::price::better_track` meets its contract. Assumes nothing.
+-- `pricing::price::better_track` meets its contract. Assumes nothing.
 use borrow.Author.Needs.{needs}
 use Rattle.pricing.proofs.price.better_track.Statement.{statement}
 use Rattle.pricing.proofs.price.better_track.Tie as tie

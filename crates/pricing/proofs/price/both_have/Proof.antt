@@ -1,4 +1,4 @@
--- `search::price::both_have` meets its contract. Assumes nothing.
+-- `pricing::price::both_have` meets its contract. Assumes nothing.
 use borrow.Author.Tests.{eq-eqb, ne-eqb}
 use Rattle.pricing.proofs.price.both_have.Statement.{statement}
 use Rattle.pricing.proofs.price.both_have.Tie as tie

@@ -1,4 +1,4 @@
--- `search::price::is_cut` meets its contract. Assumes nothing.
+-- `pricing::price::is_cut` meets its contract. Assumes nothing.
 use borrow.Author.Needs.{needs}
 use borrow.Author.Tests.{eq-eqb, ne-eqb}
 use mathlib.Core.Path.{_≡_}

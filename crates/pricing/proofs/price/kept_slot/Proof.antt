@@ -1,4 +1,4 @@
--- `search::price::kept_slot` meets its contract. Assumes nothing.
+-- `pricing::price::kept_slot` meets its contract. Assumes nothing.
 use borrow.Author.Tests.{eq-eqb, ne-eqb}
 use Rattle.pricing.proofs.price.kept_slot.Statement.{statement}
 use Rattle.pricing.proofs.price.kept_slot.Tie as tie

@@ -1,4 +1,4 @@
--- `search::price::length_of` meets its contract. Assumes nothing.
+-- `pricing::price::length_of` meets its contract. Assumes nothing.
 use borrow.Author.Tests.{lt-ltb, le-ltb}
 use mathlib.Core.Path.{_≡_, ap}
 use mathlib.Core.Logic.{⊎-elim}

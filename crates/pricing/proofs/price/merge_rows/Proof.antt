@@ -1,4 +1,4 @@
--- `search::price::merge_rows` meets its contract. Assumes nothing.
+-- `pricing::price::merge_rows` meets its contract. Assumes nothing.
 use mathlib.Core.Path.{refl, sym, _∙_}
 use Prim.Native.Nat.{_-_}
 use native.Mathlib.Omega.{arith}

@@ -1,4 +1,4 @@
--- `search::price::part_of` meets its contract. Assumes nothing.
+-- `pricing::price::part_of` meets its contract. Assumes nothing.
 use borrow.Author.Tests.{eq-eqb, ne-eqb}
 use mathlib.Core.Path.{_≡_, sym, ap, _∙_}
 use mathlib.Core.Bool.{cond}
@@ -9,7 +9,7 @@ use native.Mathlib.Omega.{arith}
 use lib.Dec.{eqb}
 use lib.Ieee.{Float}
 use lib.ListN.{getD}
-use Rattle.kf.specs.declared.cost.Fold.the-variants.{Fresh}
+use Rattle.costs.specs.declared.cost.Fold.the-variants.{Fresh}
 use Rattle.pricing.specs.Price.{frozenAt, partFrom}
 use Rattle.pricing.proofs.price.part_of.Statement.{statement}
 use Rattle.pricing.proofs.price.part_of.Tie as tie

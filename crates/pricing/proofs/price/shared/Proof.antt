@@ -1,4 +1,4 @@
--- `search::price::shared` meets its contract. Assumes nothing.
+-- `pricing::price::shared` meets its contract. Assumes nothing.
 use mathlib.Core.Path.{_≡_}
 use Prim.Native.Nat.{_+_, _-_, _≤_}
 use native.Mathlib.Omega.{arith}

@@ -1,4 +1,4 @@
--- `search::price::try_drop` meets its contract. Assumes nothing.
+-- `pricing::price::try_drop` meets its contract. Assumes nothing.
 use borrow.Author.Needs.{needs}
 use mathlib.Core.Path.{ap, _∙_}
 use native.Mathlib.Numerals.{add-one}
@@ -7,7 +7,7 @@ use Prim.Native.Nat.{ℕ, _+_, _≤_}
 use lib.Ieee.{Float, binary64, add, sub}
 use lib.ListN.{drop}
 use Rattle.engine.specs.Config.{clutter}
-use Rattle.kf.specs.Cost.{dets, cost}
+use Rattle.costs.specs.Cost.{dets, cost}
 use Rattle.model.specs.declared.moves.TrackMove.the-variants.{Drop}
 use Rattle.model.specs.Searching.{betterTrack}
 use Rattle.pricing.specs.Price.{triedDrop, scanAt, viewIn, onTo}

@@ -1,4 +1,4 @@
--- `search::price::try_merge` meets its contract. Assumes nothing.
+-- `pricing::price::try_merge` meets its contract. Assumes nothing.
 use borrow.Author.Needs.{needs}
 use mathlib.Core.Path.{sym, ap, _∙_}
 use native.Mathlib.Omega.{arith}

@@ -1,9 +1,9 @@
--- `search::price::try_split` meets its contract. Assumes nothing.
+-- `pricing::price::try_split` meets its contract. Assumes nothing.
 use borrow.Author.Needs.{needs}
 use mathlib.Core.Path.{refl, ap, _∙_}
 use lib.Ieee.{binary64, add, sub}
-use Rattle.kf.specs.declared.cost.Fold.the-variants.{Fresh}
-use Rattle.kf.specs.Cost.{closed}
+use Rattle.costs.specs.declared.cost.Fold.the-variants.{Fresh}
+use Rattle.costs.specs.Cost.{closed}
 use Rattle.model.specs.declared.moves.TrackMove.the-variants.{Split}
 use Rattle.model.specs.Searching.{betterTrack}
 use Rattle.pricing.specs.Price.{triedSplit, scanAt, viewIn}

@@ -1,4 +1,4 @@
--- `smoother::copy::numbers36` meets its contract. Assumes nothing.
+-- `refined::copy::numbers36` meets its contract. Assumes nothing.
 use Prim.Native.Nat.{_+_, _-_}
 use mathlib.Core.Path.{refl, _∙_}
 use native.Mathlib.Omega.{arith}

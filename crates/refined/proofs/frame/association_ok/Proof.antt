@@ -1,4 +1,4 @@
--- `smoother::frame::association_ok` meets its contract. Assumes nothing.
+-- `refined::frame::association_ok` meets its contract. Assumes nothing.
 use mathlib.Core.Path.{ap}
 use borrow.Author.Tests.{le-leb, lt-leb, eq-eqb, ne-eqb}
 use lib.Dec.{eqb}

@@ -1,4 +1,4 @@
--- `smoother::frame::associations_ok` meets its contract. Assumes nothing.
+-- `refined::frame::associations_ok` meets its contract. Assumes nothing.
 use Prim.Native.Nat.{_-_, _≤_}
 use mathlib.Core.Path.{_≡_, sym, _∙_}
 use mathlib.Core.Bool.{true}

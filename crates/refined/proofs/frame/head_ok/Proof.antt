@@ -1,4 +1,4 @@
--- `smoother::frame::head_ok` meets its contract. Assumes nothing.
+-- `refined::frame::head_ok` meets its contract. Assumes nothing.
 use mathlib.Core.Path.{sym, _∙_}
 use borrow.Author.Tests.{le-leb, lt-leb, not-true, not-false}
 use Rattle.engine.specs.Body.{codeOk}

@@ -1,4 +1,4 @@
--- `smoother::frame::is_exact` meets its contract. Assumes nothing.
+-- `refined::frame::is_exact` meets its contract. Assumes nothing.
 use borrow.Author.Tests.{eq-eqb, ne-eqb}
 use Rattle.refined.specs.Frame.{exact}
 use borrow.Author.Needs.{needs}

@@ -1,4 +1,4 @@
--- `smoother::frame::rows_ok` meets its contract. Assumes nothing.
+-- `refined::frame::rows_ok` meets its contract. Assumes nothing.
 use mathlib.Core.Path.{sym, _∙_}
 use borrow.Author.Tests.{not-true, not-false}
 use Rattle.refined.specs.Frame.{rowsOk}

@@ -1,4 +1,4 @@
--- `smoother::frame::sensors_ok` meets its contract. Assumes nothing.
+-- `refined::frame::sensors_ok` meets its contract. Assumes nothing.
 use Prim.Native.Nat.{ℕ, _+_, _-_, _≤_, _<_}
 use mathlib.Core.Path.{_≡_, sym, subst}
 use mathlib.Core.List.{List}

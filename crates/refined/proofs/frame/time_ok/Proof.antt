@@ -1,4 +1,4 @@
--- `smoother::frame::time_ok` meets its contract. Assumes nothing.
+-- `refined::frame::time_ok` meets its contract. Assumes nothing.
 use mathlib.Core.Path.{ap, _∙_}
 use mir.Syntax.{w64}
 use mir.Val.{toZ, ofZ}

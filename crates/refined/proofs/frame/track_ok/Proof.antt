@@ -1,4 +1,4 @@
--- `smoother::frame::track_ok` meets its contract. Assumes nothing.
+-- `refined::frame::track_ok` meets its contract. Assumes nothing.
 use borrow.Author.Tests.{le-leb, lt-leb}
 use Rattle.refined.specs.Frame.{trackOk}
 use borrow.Author.Needs.{needs}

@@ -1,4 +1,4 @@
--- `smoother::frame::well_formed` meets its contract. Assumes nothing.
+-- `refined::frame::well_formed` meets its contract. Assumes nothing.
 use mathlib.Core.Path.{sym, _∙_}
 use native.Mathlib.Omega.{arith}
 use borrow.Author.Tests.{not-true, not-false}

@@ -1,4 +1,4 @@
--- `fgo::emit::association_words` meets its contract. Assumes nothing.
+-- `release::emit::association_words` meets its contract. Assumes nothing.
 use borrow.Author.Needs.{needs}
 use Prim.Native.Nat.{ℕ, zero, suc}
 use mathlib.Core.Path.{_≡_, refl}

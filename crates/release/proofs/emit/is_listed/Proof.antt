@@ -1,4 +1,4 @@
--- `fgo::emit::is_listed` meets its contract. Assumes nothing.
+-- `release::emit::is_listed` meets its contract. Assumes nothing.
 use borrow.Author.Needs.{needs}
 use mir.Facts.{toZ-ofZ}
 use Rattle.release.proofs.Times.{passed-on}

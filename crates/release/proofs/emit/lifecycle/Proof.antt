@@ -1,4 +1,4 @@
--- `fgo::emit::lifecycle` meets its contract. Assumes nothing.
+-- `release::emit::lifecycle` meets its contract. Assumes nothing.
 use borrow.Author.Tests.{le-leb, lt-leb}
 use Rattle.release.proofs.emit.lifecycle.Statement.{statement}
 use Rattle.release.proofs.emit.lifecycle.Tie as tie

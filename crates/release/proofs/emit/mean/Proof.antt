@@ -1,4 +1,4 @@
--- `fgo::emit::mean` meets its contract. The sum so far is that of the heights passed. Assumes nothing.
+-- `release::emit::mean` meets its contract. The sum so far is that of the heights passed. Assumes nothing.
 use Prim.Native.Nat.{ℕ, suc, _+_, _-_, _<_, _≤_}
 use native.Mathlib.Nat.{zero-add}
 use native.Mathlib.Omega.{arith}

@@ -1,4 +1,4 @@
--- `fgo::emit::put_associations` meets its contract. The words of the first j associations are written. Assumes nothing.
+-- `release::emit::put_associations` meets its contract. The words of the first j associations are written. Assumes nothing.
 use borrow.Author.Needs.{needs}
 use Prim.Native.Nat.{ℕ, _+_, _-_, _*_, _<_, _≤_}
 use native.Mathlib.Numerals.{add-one}

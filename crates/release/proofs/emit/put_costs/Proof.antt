@@ -1,4 +1,4 @@
--- `fgo::emit::put_costs` meets its contract. Assumes nothing.
+-- `release::emit::put_costs` meets its contract. Assumes nothing.
 use Prim.Native.Nat.{_-_}
 use native.Mathlib.Omega.{arith}
 use mathlib.Core.Path.{sym, ap, _∙_}

@@ -1,4 +1,4 @@
--- `fgo::emit::put_frame` meets its contract. Assumes nothing.
+-- `release::emit::put_frame` meets its contract. Assumes nothing.
 use borrow.Author.Needs.{needs}
 use Prim.Native.Nat.{_≤_}
 use native.Mathlib.Omega.{arith}

@@ -1,4 +1,4 @@
--- `fgo::emit::put_head` meets its contract. Assumes nothing.
+-- `release::emit::put_head` meets its contract. Assumes nothing.
 use borrow.Author.Needs.{needs}
 use mathlib.Core.Path.{_∙_}
 use Rattle.release.proofs.Times.{passed-on}

@@ -1,4 +1,4 @@
--- `fgo::emit::put_sensors` meets its contract. Assumes nothing.
+-- `release::emit::put_sensors` meets its contract. Assumes nothing.
 use Prim.Native.Nat.{_-_}
 use native.Mathlib.Omega.{arith}
 use Rattle.engine.specs.Body.{narrow, sensorCount, frameOf}

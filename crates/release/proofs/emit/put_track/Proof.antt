@@ -1,4 +1,4 @@
--- `fgo::emit::put_track` meets its contract. Assumes nothing.
+-- `release::emit::put_track` meets its contract. Assumes nothing.
 use borrow.Author.Needs.{needs}
 use Prim.Native.Nat.{ℕ, _+_, _*_, _≤_}
 use native.Mathlib.Omega.{arith}

@@ -1,4 +1,4 @@
--- `fgo::emit::put_tracks` meets its contract. The listed ones of the first k frozen parts are written. Assumes nothing.
+-- `release::emit::put_tracks` meets its contract. The listed ones of the first k frozen parts are written. Assumes nothing.
 use Prim.Native.Nat.{_-_, _≤_}
 use native.Mathlib.Omega.{arith}
 use mathlib.Core.Path.{_≡_, sym, _∙_}

@@ -1,4 +1,4 @@
--- `fgo::emit::track_numbers` meets its contract. Assumes nothing.
+-- `release::emit::track_numbers` meets its contract. Assumes nothing.
 use borrow.Author.Needs.{needs}
 use borrow.Author.Tests.{le-leb}
 use mir.Facts.{toZ-ofZ}

@@ -1,4 +1,4 @@
--- `fgo::emit::track_words` meets its contract. Assumes nothing.
+-- `release::emit::track_words` meets its contract. Assumes nothing.
 use borrow.Author.Needs.{needs}
 use mir.Facts.{toZ-ofZ}
 use Rattle.model.specs.Emitting.{report}

@@ -1,4 +1,4 @@
--- `fgo::freeze::age_of` meets its contract. Assumes nothing.
+-- `release::freeze::age_of` meets its contract. Assumes nothing.
 use mir.Facts.{toZ-ofZ}
 use Rattle.release.proofs.Times.{age-fits}
 use Rattle.release.proofs.freeze.age_of.Statement.{statement}

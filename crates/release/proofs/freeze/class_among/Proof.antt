@@ -1,4 +1,4 @@
--- `fgo::freeze::class_among` meets its contract. Assumes nothing.
+-- `release::freeze::class_among` meets its contract. Assumes nothing.
 use Prim.Native.Nat.{_≤_, _<_, _-_, suc}
 use mathlib.Core.Path.{_≡_, sym, ap, _∙_}
 use native.Mathlib.Omega.{arith}

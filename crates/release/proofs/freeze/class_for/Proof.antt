@@ -1,4 +1,4 @@
--- `fgo::freeze::class_for` meets its contract. Assumes nothing.
+-- `release::freeze::class_for` meets its contract. Assumes nothing.
 use borrow.Author.Needs.{needs}
 use Rattle.release.proofs.freeze.class_for.Statement.{statement}
 use Rattle.release.proofs.freeze.class_for.Tie as tie

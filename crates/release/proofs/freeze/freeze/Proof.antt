@@ -1,4 +1,4 @@
--- `fgo::freeze::freeze` meets its contract. Assumes nothing.
+-- `release::freeze::freeze` meets its contract. Assumes nothing.
 use mathlib.Core.Path.{_≡_}
 use native.Mathlib.Numerals.{add-one}
 use borrow.Author.Tests.{le-leb}

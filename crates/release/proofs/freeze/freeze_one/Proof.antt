@@ -1,4 +1,4 @@
--- `fgo::freeze::freeze_one` meets its contract. Assumes nothing.
+-- `release::freeze::freeze_one` meets its contract. Assumes nothing.
 use Prim.Native.Nat.{_<_}
 use mathlib.Core.Path.{_≡_}
 use mathlib.Core.Logic.{⊎-elim}

@@ -1,4 +1,4 @@
--- `fgo::freeze::freeze_scan` meets its contract. Assumes nothing.
+-- `release::freeze::freeze_scan` meets its contract. Assumes nothing.
 use Prim.Native.Nat.{_+_, _-_, _≤_, _<_}
 use mathlib.Core.Path.{_≡_, sym, ap, _∙_}
 use mathlib.Core.Logic.{⊎-elim}

@@ -1,4 +1,4 @@
--- `fgo::freeze::fresh` meets its contract. Assumes nothing.
+-- `release::freeze::fresh` meets its contract. Assumes nothing.
 use mathlib.Core.Path.{_≡_}
 use mir.Syntax.{w64}
 use mir.Val.{toZ, ofZ}

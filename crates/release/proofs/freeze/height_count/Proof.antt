@@ -1,4 +1,4 @@
--- `fgo::freeze::height_count` meets its contract. Assumes nothing.
+-- `release::freeze::height_count` meets its contract. Assumes nothing.
 use native.Mathlib.Numerals.{add-one}
 use borrow.Author.Tests.{lt-ltb, le-ltb}
 use borrow.Author.Needs.{needs}

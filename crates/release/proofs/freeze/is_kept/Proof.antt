@@ -1,4 +1,4 @@
--- `fgo::freeze::is_kept` meets its contract. Assumes nothing.
+-- `release::freeze::is_kept` meets its contract. Assumes nothing.
 use mathlib.Core.Path.{_≡_, sym, _∙_}
 use mir.Syntax.{w64}
 use mir.Val.{toZ, ofZ}

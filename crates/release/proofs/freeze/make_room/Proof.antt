@@ -1,4 +1,4 @@
--- `fgo::freeze::make_room` meets its contract. Assumes nothing.
+-- `release::freeze::make_room` meets its contract. Assumes nothing.
 use Prim.Native.Nat.{_-_, _≤_}
 use native.Mathlib.Omega.{arith}
 use Rattle.release.proofs.Raising.{Raising, raising-none, raising-more, raising-done}

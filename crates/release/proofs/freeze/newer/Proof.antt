@@ -1,4 +1,4 @@
--- `fgo::freeze::newer` meets its contract. Assumes nothing.
+-- `release::freeze::newer` meets its contract. Assumes nothing.
 use borrow.Author.Needs.{needs}
 use Rattle.release.proofs.freeze.newer.Statement.{statement}
 use Rattle.release.proofs.freeze.newer.Tie as tie

@@ -1,4 +1,4 @@
--- `fgo::freeze::place_of` meets its contract. Assumes nothing.
+-- `release::freeze::place_of` meets its contract. Assumes nothing.
 use Prim.Native.Nat.{_+_, _-_, _≤_}
 use mathlib.Core.Path.{_≡_, sym, _∙_}
 use native.Mathlib.Omega.{arith}

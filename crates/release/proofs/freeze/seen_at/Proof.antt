@@ -1,4 +1,4 @@
--- `fgo::freeze::seen_at` meets its contract. Assumes nothing.
+-- `release::freeze::seen_at` meets its contract. Assumes nothing.
 use mathlib.Core.Path.{_≡_, _∙_}
 use mir.Syntax.{w64}
 use mir.Val.{toZ, ofZ}

@@ -1,4 +1,4 @@
--- `fgo::freeze::with_height` meets its contract. Assumes nothing.
+-- `release::freeze::with_height` meets its contract. Assumes nothing.
 use mathlib.Core.Path.{_≡_}
 use lib.ListN.{length}
 use Rattle.release.proofs.Heights.{few-heights, full-heights}

@@ -2,7 +2,7 @@
 use mathlib.Core.Path.{_≡_, subst}
 use Prim.Native.Nat.{ℕ, _-_, _≤_}
 use native.Mathlib.Omega.{arith}
-use Rattle.kf.specs.Cost.{Kept}
+use Rattle.costs.specs.Cost.{Kept}
 use Rattle.search.specs.Pass.{sceneOf, Costed}
 use Rattle.search.proofs.Costing.{costed-start, costed-more}
 use Rattle.search.proofs.pass.fill_costs.Statement.{statement}

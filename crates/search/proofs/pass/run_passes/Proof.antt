@@ -5,7 +5,7 @@ use Prim.Native.Nat.{ℕ}
 use native.Mathlib.Omega.{arith}
 use lib.ListN.{length-replicate}
 use Rattle.engine.specs.Config.{maxPasses}
-use Rattle.kf.proofs.Logs.{kept-none}
+use Rattle.costs.proofs.Logs.{kept-none}
 use Rattle.search.specs.Pass.{sceneOf}
 use Rattle.search.proofs.Passes.{Ran, ran-none, ran-more, ran-still, ran-all}
 use Rattle.search.proofs.pass.run_passes.Statement.{statement}

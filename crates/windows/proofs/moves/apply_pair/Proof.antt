@@ -1,4 +1,4 @@
--- `search::moves::apply_pair` meets its contract. Assumes nothing.
+-- `windows::moves::apply_pair` meets its contract. Assumes nothing.
 use Rattle.windows.specs.Moves.{pairTargets, hasSlot, pairIds}
 use Prim.Native.Nat.{_-_, _+_}
 use native.Mathlib.Omega.{arith}

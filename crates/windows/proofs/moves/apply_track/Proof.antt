@@ -1,4 +1,4 @@
--- `search::moves::apply_track` meets its contract. Assumes nothing.
+-- `windows::moves::apply_track` meets its contract. Assumes nothing.
 use Rattle.windows.specs.Moves.{trackTargets, trackIds}
 use Prim.Native.Nat.{_-_, _+_}
 use native.Mathlib.Omega.{arith}

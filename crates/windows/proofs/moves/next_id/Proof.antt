@@ -1,4 +1,4 @@
--- `search::moves::next_id` meets its contract. Assumes nothing.
+-- `windows::moves::next_id` meets its contract. Assumes nothing.
 use borrow.Author.Needs.{needs}
 use Rattle.windows.proofs.moves.next_id.Statement.{statement}
 use Rattle.windows.proofs.moves.next_id.Tie as tie

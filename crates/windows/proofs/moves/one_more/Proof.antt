@@ -1,4 +1,4 @@
--- `search::moves::one_more` meets its contract. Assumes nothing.
+-- `windows::moves::one_more` meets its contract. Assumes nothing.
 use borrow.Author.Needs.{needs}
 use borrow.Author.Tests.{lt-ltb, le-ltb}
 use Rattle.windows.proofs.moves.one_more.Statement.{statement}

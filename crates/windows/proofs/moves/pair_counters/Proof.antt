@@ -1,4 +1,4 @@
--- `search::moves::pair_counters` meets its contract. Assumes nothing.
+-- `windows::moves::pair_counters` meets its contract. Assumes nothing.
 use borrow.Author.Needs.{needs}
 use Rattle.windows.proofs.moves.pair_counters.Statement.{statement}
 use Rattle.windows.proofs.moves.pair_counters.Tie as tie

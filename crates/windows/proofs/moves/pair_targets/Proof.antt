@@ -1,4 +1,4 @@
--- `search::moves::pair_targets` meets its contract. Assumes nothing.
+-- `windows::moves::pair_targets` meets its contract. Assumes nothing.
 use borrow.Author.Tests.{eq-eqb, ne-eqb, le-leb, lt-leb}
 use borrow.Author.Needs.{needs}
 use Rattle.windows.proofs.moves.pair_targets.Statement.{statement}

@@ -1,4 +1,4 @@
--- `search::moves::rename_scan` meets its contract. Assumes nothing.
+-- `windows::moves::rename_scan` meets its contract. Assumes nothing.
 use Rattle.windows.proofs.Segments.{over-none, over-turn, over-skip}
 use mathlib.Core.Path.{_≡_, sym, _∙_}
 use Prim.Native.Nat.{_≤_, _-_}

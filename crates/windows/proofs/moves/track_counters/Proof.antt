@@ -1,4 +1,4 @@
--- `search::moves::track_counters` meets its contract. Assumes nothing.
+-- `windows::moves::track_counters` meets its contract. Assumes nothing.
 use borrow.Author.Needs.{needs}
 use Rattle.windows.proofs.moves.track_counters.Statement.{statement}
 use Rattle.windows.proofs.moves.track_counters.Tie as tie

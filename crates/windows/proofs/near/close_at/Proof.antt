@@ -1,4 +1,4 @@
--- `search::near::close_at` meets its contract. Assumes nothing.
+-- `windows::near::close_at` meets its contract. Assumes nothing.
 use borrow.Author.Needs.{needs}
 use Rattle.windows.specs.Near.{closeAt}
 use Rattle.windows.proofs.near.close_at.Statement.{statement}

@@ -1,4 +1,4 @@
--- `search::near::close_scans` meets its contract. Assumes nothing.
+-- `windows::near::close_scans` meets its contract. Assumes nothing.
 use mathlib.Core.Path.{_≡_, refl, sym, ap, _∙_}
 use mathlib.Core.Bool.{Bool, false, _||_, or-true, or-false}
 use mathlib.Core.List.{List, [], _∷_}

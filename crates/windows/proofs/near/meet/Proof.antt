@@ -1,4 +1,4 @@
--- `search::near::meet` meets its contract. Assumes nothing.
+-- `windows::near::meet` meets its contract. Assumes nothing.
 use borrow.Author.Needs.{needs}
 use borrow.Author.Tests.{le-leb, lt-leb}
 use mathlib.Core.Path.{_≡_}

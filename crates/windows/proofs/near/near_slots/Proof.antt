@@ -1,4 +1,4 @@
--- `search::near::near_slots` meets its contract. Assumes nothing.
+-- `windows::near::near_slots` meets its contract. Assumes nothing.
 use borrow.Author.Needs.{needs}
 use borrow.Author.Tests.{eq-eqb, ne-eqb}
 use Rattle.windows.specs.Near.{nearSlots}

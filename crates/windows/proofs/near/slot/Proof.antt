@@ -1,4 +1,4 @@
--- `search::near::slot` meets its contract. Assumes nothing.
+-- `windows::near::slot` meets its contract. Assumes nothing.
 use borrow.Author.Needs.{needs}
 use mathlib.Core.Path.{sym}
 use lib.ListN.{List·getD-eq-default}

@@ -1,4 +1,4 @@
--- `search::rows::end_of` meets its contract. Assumes nothing.
+-- `windows::rows::end_of` meets its contract. Assumes nothing.
 use mathlib.Core.Path.{_≡_, refl, sym, ap, _∙_}
 use mathlib.Core.List.{List}
 use mathlib.Core.Bool.{Bool, cond}

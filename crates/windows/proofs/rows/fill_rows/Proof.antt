@@ -1,4 +1,4 @@
--- `search::rows::fill_rows` meets its contract. Assumes nothing.
+-- `windows::rows::fill_rows` meets its contract. Assumes nothing.
 use mathlib.Core.Path.{_≡_, refl, ap, _∙_, subst}
 use Prim.Native.Nat.{ℕ, _-_, _≤_}
 use native.Mathlib.Omega.{arith}

@@ -1,4 +1,4 @@
--- `search::rows::first_in` meets its contract. Assumes nothing.
+-- `windows::rows::first_in` meets its contract. Assumes nothing.
 use mathlib.Core.Path.{_≡_}
 use mathlib.Core.List.{List}
 use Prim.Native.Nat.{ℕ, suc, _+_, _-_, _≤_, _<_}

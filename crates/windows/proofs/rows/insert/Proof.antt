@@ -1,4 +1,4 @@
--- `search::rows::insert` meets its contract. Assumes nothing.
+-- `windows::rows::insert` meets its contract. Assumes nothing.
 use mathlib.Core.Logic.{⊎-elim}
 use native.Mathlib.Omega.{arith}
 use Rattle.windows.proofs.Ascending.{place-fits, inserted-old, inserted-new}

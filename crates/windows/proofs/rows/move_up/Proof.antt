@@ -1,4 +1,4 @@
--- `search::rows::move_up` meets its contract. Assumes nothing.
+-- `windows::rows::move_up` meets its contract. Assumes nothing.
 use mathlib.Core.Path.{_≡_}
 use Prim.Native.Nat.{_≤_}
 use native.Mathlib.Numerals.{add-one}

@@ -1,4 +1,4 @@
--- `search::rows::place_of` meets its contract. Assumes nothing.
+-- `windows::rows::place_of` meets its contract. Assumes nothing.
 use mathlib.Core.Path.{_≡_, ap}
 use mathlib.Core.List.{List}
 use Prim.Native.Nat.{ℕ, suc, _+_, _-_, _≤_, _<_}

@@ -1,4 +1,4 @@
--- `search::rows::present` meets its contract. Assumes nothing.
+-- `windows::rows::present` meets its contract. Assumes nothing.
 use native.Mathlib.Omega.{arith}
 use Rattle.windows.proofs.Ascending.{Presenting, presenting-start, presenting-some, presenting-none, presenting-end}
 use Rattle.windows.proofs.rows.present.Statement.{statement}

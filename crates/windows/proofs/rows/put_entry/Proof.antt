@@ -1,4 +1,4 @@
--- `search::rows::put_entry` meets its contract. Assumes nothing.
+-- `windows::rows::put_entry` meets its contract. Assumes nothing.
 use mathlib.Core.Path.{_≡_, refl, sym, ap, _∙_}
 use mathlib.Core.List.{List, _++_, append-assoc}
 use Prim.Native.Nat.{ℕ, _+_, _-_, _*_, _≤_, _<_}

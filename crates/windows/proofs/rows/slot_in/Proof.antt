@@ -1,4 +1,4 @@
--- `search::rows::slot_in` meets its contract. Assumes nothing.
+-- `windows::rows::slot_in` meets its contract. Assumes nothing.
 use mathlib.Core.Path.{_≡_, refl, sym, _∙_}
 use mathlib.Core.List.{List}
 use Prim.Native.Nat.{ℕ, suc, _+_, _-_, _≤_, _<_}

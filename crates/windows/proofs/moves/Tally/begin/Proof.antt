@@ -1,4 +1,4 @@
--- `search::moves::Tally::begin` meets its contract. Assumes nothing.
+-- `windows::moves::Tally::begin` meets its contract. Assumes nothing.
 use borrow.Author.Needs.{needs}
 use Rattle.windows.proofs.moves.Tally.begin.Statement.{statement}
 use Rattle.windows.proofs.moves.Tally.begin.Tie as tie

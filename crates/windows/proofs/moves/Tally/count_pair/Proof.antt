@@ -1,4 +1,4 @@
--- `search::moves::Tally::count_pair` meets its contract. Assumes nothing.
+-- `windows::moves::Tally::count_pair` meets its contract. Assumes nothing.
 use borrow.Author.Needs.{needs}
 use Rattle.windows.proofs.moves.Tally.count_pair.Statement.{statement}
 use Rattle.windows.proofs.moves.Tally.count_pair.Tie as tie

@@ -1,14 +1,14 @@
--- `kf::cost::run_on` meets its contract. Assumes nothing.
+-- `costs::cost::run_on` meets its contract. Assumes nothing.
 use mathlib.Core.Path.{refl}
 use mathlib.Core.Logic.{⊎-elim}
 use Prim.Native.Nat.{_+_, _-_}
 use native.Mathlib.Omega.{arith}
 use lib.ListN.{length, drop}
-use Rattle.kf.specs.declared.cost.Fold.the-variants.{Going}
-use Rattle.kf.specs.Cost.{run, dets, viewOf, Kept}
-use Rattle.kf.proofs.Steps.{Inv, skips, takes, ends}
-use Rattle.kf.proofs.cost.run_on.Statement.{statement}
-use Rattle.kf.proofs.cost.run_on.Tie as tie
+use Rattle.costs.specs.declared.cost.Fold.the-variants.{Going}
+use Rattle.costs.specs.Cost.{run, dets, viewOf, Kept}
+use Rattle.costs.proofs.Steps.{Inv, skips, takes, ends}
+use Rattle.costs.proofs.cost.run_on.Statement.{statement}
+use Rattle.costs.proofs.cost.run_on.Tie as tie
 
 abbrev Inv-loop : tie.InvT-loop
 Inv-loop c slots begin k first dots logs₀ r₀ i₀ logs r i = Inv c (viewOf first dots) (run c (Going r₀) (dets (viewOf first dots) (k + i₀) (drop i₀ slots))) (r₀ .misses) slots k r i × Kept logs

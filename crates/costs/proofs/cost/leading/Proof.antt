@@ -1,13 +1,13 @@
--- `kf::cost::leading` meets its contract. Assumes nothing.
+-- `costs::cost::leading` meets its contract. Assumes nothing.
 use mathlib.Core.Path.{sym, ap}
 use Prim.Native.Nat.{_-_}
 use native.Mathlib.Nat.{add-zero}
 use native.Mathlib.Omega.{arith}
 use lib.ListN.{length}
-use Rattle.kf.specs.Cost.{dets}
-use Rattle.kf.proofs.Steps.{Passed, passes}
-use Rattle.kf.proofs.cost.leading.Statement.{statement}
-use Rattle.kf.proofs.cost.leading.Tie as tie
+use Rattle.costs.specs.Cost.{dets}
+use Rattle.costs.proofs.Steps.{Passed, passes}
+use Rattle.costs.proofs.cost.leading.Statement.{statement}
+use Rattle.costs.proofs.cost.leading.Tie as tie
 
 abbrev Inv-loop : tie.InvT-loop
 Inv-loop slots i₀ i = Passed slots i

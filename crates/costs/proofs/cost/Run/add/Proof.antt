@@ -1,9 +1,9 @@
--- `kf::cost::Run::add` meets its contract. Assumes nothing.
+-- `costs::cost::Run::add` meets its contract. Assumes nothing.
 use borrow.Author.Needs.{needs}
 use mathlib.Core.Path.{refl}
-use Rattle.kf.specs.Cost.{added}
-use Rattle.kf.proofs.cost.Run.add.Statement.{statement}
-use Rattle.kf.proofs.cost.Run.add.Tie as tie
+use Rattle.costs.specs.Cost.{added}
+use Rattle.costs.proofs.cost.Run.add.Statement.{statement}
+use Rattle.costs.proofs.cost.Run.add.Tie as tie
 
 skipped-requires : tie.Need-skipped-requires
 skipped-requires c κs = search needs

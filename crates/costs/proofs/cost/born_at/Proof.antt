@@ -1,7 +1,7 @@
--- `kf::cost::born_at` meets its contract. Assumes nothing.
+-- `costs::cost::born_at` meets its contract. Assumes nothing.
 use borrow.Author.Needs.{needs}
-use Rattle.kf.proofs.cost.born_at.Statement.{statement}
-use Rattle.kf.proofs.cost.born_at.Tie as tie
+use Rattle.costs.proofs.cost.born_at.Statement.{statement}
+use Rattle.costs.proofs.cost.born_at.Tie as tie
 
 start-requires : tie.Need-start-requires
 start-requires c κs = search needs

@@ -9,11 +9,11 @@ use lib.ListN.{length, getD, drop}
 use lib.Seq.{drop-cons}
 use Rattle.engine.specs.declared.config.FgoConfig.{FgoConfig}
 use Rattle.engine.specs.declared.types.ScanIndex.{ScanIndex}
 use Rattle.kf.specs.declared.filter.Kf.{Kf}
-use Rattle.kf.specs.declared.cost.Run.{Run}
-use Rattle.kf.specs.declared.cost.Fold.{Fold}
-use Rattle.kf.specs.declared.cost.Fold.the-variants.{Fresh, Frozen, Going}
-use Rattle.kf.specs.Cost.{Det, View, added, born, resumed, step, run, detAt, dets, missesOf, Leading}
+use Rattle.costs.specs.declared.cost.Run.{Run}
+use Rattle.costs.specs.declared.cost.Fold.{Fold}
+use Rattle.costs.specs.declared.cost.Fold.the-variants.{Fresh, Frozen, Going}
+use Rattle.costs.specs.Cost.{Det, View, added, born, resumed, step, run, detAt, dets, missesOf, Leading}
 
 -- a fold over head and tail is the fold over the tail from where the head ended
 pub run-append : (c : FgoConfig) (s : Fold) (ds es : List Det) → run c s (ds ++ es) ≡ run c (run c s ds) es

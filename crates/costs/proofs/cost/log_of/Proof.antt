@@ -1,4 +1,4 @@
--- `kf::cost::log_of` meets its contract. Assumes nothing.
+-- `costs::cost::log_of` meets its contract. Assumes nothing.
 use borrow.Author.Needs.{needs}
 use mathlib.Core.Path.{sym, subst}
 use native.Mathlib.Omega.{arith}
@@ -6,11 +6,11 @@ use lib.Dec.{T}
 use lib.Ieee.{binary64, fits}
 use denote.Ref.{now}
 use Rattle.scalar.proofs.Positive.{positive-no-nan}
-use Rattle.kf.proofs.Logs.{found, stored}
+use Rattle.costs.proofs.Logs.{found, stored}
 use Prim.Native.Nat.{_<_, _/_, _%_}
 use lib.Ieee.{toBits}
-use Rattle.kf.proofs.cost.log_of.Statement.{statement}
-use Rattle.kf.proofs.cost.log_of.Tie as tie
+use Rattle.costs.proofs.cost.log_of.Statement.{statement}
+use Rattle.costs.proofs.cost.log_of.Tie as tie
 
 held : (c : tie.Start) → T (fits binary64 (c .args .s))
 held c = subst T (sym (c .good .0 .1)) tt

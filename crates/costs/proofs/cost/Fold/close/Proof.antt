@@ -1,9 +1,9 @@
--- `kf::cost::Fold::close` meets its contract. Assumes nothing.
+-- `costs::cost::Fold::close` meets its contract. Assumes nothing.
 use borrow.Author.Needs.{needs}
 use mathlib.Core.Path.{refl}
-use Rattle.kf.specs.Cost.{closed}
-use Rattle.kf.proofs.cost.Fold.close.Statement.{statement}
-use Rattle.kf.proofs.cost.Fold.close.Tie as tie
+use Rattle.costs.specs.Cost.{closed}
+use Rattle.costs.proofs.cost.Fold.close.Statement.{statement}
+use Rattle.costs.proofs.cost.Fold.close.Tie as tie
 
 enum-told : tie.Need-enum-told
 enum-told c = search needs

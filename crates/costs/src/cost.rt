@@ -2,15 +2,15 @@
 //
 // A window is given as a row: for each scan held one more than the place of its detection among the dots, 0 where it has none. Four numbers stand
 // for each dot: x, y, the variance of its position, and its scan's time in seconds.
-use crate::filter::Kf;
 use engine::config::FgoConfig;
 use engine::types::ScanIndex;
+use kf::filter::Kf;
 use scalar::log;
 ghost use mathlib.Core.Path.{_≡_};
 ghost use Prim.Native.Nat.{_+_, _<_};
 ghost use lib.ListN.{drop};
-ghost use Rattle.kf.specs.declared.cost.Fold.the-variants.{Going};
-ghost use Rattle.kf.specs.Cost.{dotAt, gap, added, born, run, closed, cost, dets, detOf, viewOf, Kept, Recalled, Asks, Leading};
+ghost use Rattle.costs.specs.declared.cost.Fold.the-variants.{Going};
+ghost use Rattle.costs.specs.Cost.{dotAt, gap, added, born, run, closed, cost, dets, detOf, viewOf, Kept, Recalled, Asks, Leading};
 
 // Scans held at most: those of the lag, and the one that is pushed.
 pub const SCANS: usize = 17;

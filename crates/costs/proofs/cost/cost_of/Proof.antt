@@ -1,9 +1,9 @@
--- `kf::cost::cost_of` meets its contract. Assumes nothing.
+-- `costs::cost::cost_of` meets its contract. Assumes nothing.
 use borrow.Author.Needs.{needs}
 use mathlib.Core.Path.{ap, _∙_}
-use Rattle.kf.specs.Cost.{closed}
-use Rattle.kf.proofs.cost.cost_of.Statement.{statement}
-use Rattle.kf.proofs.cost.cost_of.Tie as tie
+use Rattle.costs.specs.Cost.{closed}
+use Rattle.costs.proofs.cost.cost_of.Statement.{statement}
+use Rattle.costs.proofs.cost.cost_of.Tie as tie
 
 run-window-requires : tie.Need-run-window-requires
 run-window-requires c κs = search needs

@@ -1,9 +1,9 @@
--- `kf::cost::dot_at` meets its contract. Assumes nothing.
+-- `costs::cost::dot_at` meets its contract. Assumes nothing.
 use borrow.Author.Needs.{needs}
 use borrow.Author.Tests.{lt-ltb, le-ltb}
 use lib.Ieee.{ofBits, div}
-use Rattle.kf.proofs.cost.dot_at.Statement.{statement}
-use Rattle.kf.proofs.cost.dot_at.Tie as tie
+use Rattle.costs.proofs.cost.dot_at.Statement.{statement}
+use Rattle.costs.proofs.cost.dot_at.Tie as tie
 
 mul-t5 : tie.Need-mul-t5
 mul-t5 c = search needs

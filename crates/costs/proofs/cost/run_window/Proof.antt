@@ -1,12 +1,12 @@
--- `kf::cost::run_window` meets its contract. Assumes nothing.
+-- `costs::cost::run_window` meets its contract. Assumes nothing.
 use borrow.Author.Needs.{needs}
 use mathlib.Core.Path.{sym, ap, subst}
 use Prim.Native.Nat.{_<_}
 use native.Mathlib.Omega.{arith}
-use Rattle.kf.specs.Cost.{run, viewOf, missesOf}
-use Rattle.kf.proofs.Steps.{leads-none, leads-born, leads-frozen}
-use Rattle.kf.proofs.cost.run_window.Statement.{statement}
-use Rattle.kf.proofs.cost.run_window.Tie as tie
+use Rattle.costs.specs.Cost.{run, viewOf, missesOf}
+use Rattle.costs.proofs.Steps.{leads-none, leads-born, leads-frozen}
+use Rattle.costs.proofs.cost.run_window.Statement.{statement}
+use Rattle.costs.proofs.cost.run_window.Tie as tie
 
 leading-requires : tie.Need-leading-requires
 leading-requires c κs = tt

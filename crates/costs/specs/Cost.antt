@@ -10,14 +10,14 @@ use lib.Ieee.{Float, nan, binary64, fits, isNan, ofBits, ofInt, add, mul, lt}
 use Rattle.engine.specs.declared.config.FgoConfig.{FgoConfig}
 use Rattle.engine.specs.declared.types.ScanIndex.{ScanIndex}
 use Rattle.engine.specs.Config.{birth, miss, density, variance}
 use Rattle.kf.specs.declared.filter.Kf.{Kf}
-use Rattle.kf.specs.declared.cost.Run.{Run}
-use Rattle.kf.specs.declared.cost.Dot.{Dot}
-use Rattle.kf.specs.declared.cost.Fold.{Fold}
-use Rattle.kf.specs.declared.cost.Fold.the-variants.{Fresh, Frozen, Going}
+use Rattle.costs.specs.declared.cost.Run.{Run}
+use Rattle.costs.specs.declared.cost.Dot.{Dot}
+use Rattle.costs.specs.declared.cost.Fold.{Fold}
+use Rattle.costs.specs.declared.cost.Fold.the-variants.{Fresh, Frozen, Going}
 use Rattle.scalar.specs.F64.{f64}
 use Rattle.kf.specs.Plain.{logTerm}
 use Rattle.kf.specs.Filter.{started, predicted, updated}
 
 -- a detection of a window: the number of its scan, that scan's time in seconds, where it lies, and the variance of its position
 pub record Det : Type 0 where

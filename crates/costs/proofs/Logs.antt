@@ -12,8 +12,8 @@ use lib.Ieee.{Float, nan, binary64, fits, isNan, ofBits, toBits, lt}
 use lib.Ieee.Bits.{ofBits-toBits}
 use Rattle.scalar.specs.F64.{f64}
 use Rattle.scalar.proofs.Positive.{positive-no-nan}
 use Rattle.kf.specs.Plain.{logTerm}
-use Rattle.kf.specs.Cost.{Kept, Recalled}
+use Rattle.costs.specs.Cost.{Kept, Recalled}
 
 abbrev nought : Float
 nought = ofBits binary64 0

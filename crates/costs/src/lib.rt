@@ -1,0 +1,2 @@
+// The cost of a window of detections.
+pub mod cost;
