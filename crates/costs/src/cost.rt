@@ -188,7 +188,8 @@ fn run_on<'a>(
     r
 }
 
-// The fold over a part of a row that begins at the held scan k.
+// The fold over a part of a row that begins at the held scan k. It asks that the part ends by scan 17, for few misses so far, scan numbers below 2^33, and
+// logarithms that are right.
 pub fn run_window<'a>(
     c: FgoConfig,
     from: Fold,
@@ -224,7 +225,7 @@ pub fn run_window<'a>(
     }
 }
 
-// The cost of a window, from a frozen part or from none.
+// The cost of a window, from a frozen part or from none. It asks what `run_window` asks.
 pub fn cost_of<'a>(
     c: FgoConfig,
     from: Fold,

@@ -13,7 +13,7 @@ use Rattle.model.specs.Refiner as model
 use Rattle.memory.specs.declared.state.FixedLagRefiner.{FixedLagRefiner}
 use Rattle.fgo.specs.declared.refiner.Pushed.{Pushed}
 use Rattle.memory.specs.Memory.{Memory, stateOf}
-use Rattle.release.specs.Writing.{Roomy}
+use Rattle.emitting.specs.Writing.{Roomy}
 use Rattle.ledger.specs.Sound.{soundIn, soundOk}
 use Rattle.fgo.specs.Promise.{refusedAs, roomy, releaseOf, takeAnswer, Ends}
 use Rattle.ledger.proofs.SoundLaw.{sound-rule}

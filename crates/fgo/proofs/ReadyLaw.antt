@@ -16,7 +16,7 @@ use Rattle.model.specs.Windows.{detections}
 use Rattle.model.specs.Rule.{All, prefixOk, risesOk}
 use Rattle.memory.specs.declared.state.FixedLagRefiner.{FixedLagRefiner}
 use Rattle.memory.specs.Memory.{Memory, scansIn, entryIn, tableIn}
-use Rattle.release.specs.Frozen.{Ordered, PartOk}
+use Rattle.freezing.specs.Frozen.{Ordered, PartOk}
 use Rattle.ledger.specs.Sound.{bodiesOk, columnsOk, partsOk, countsOk, soundIn, soundOk}
 use Rattle.fgo.specs.Promise.{Ready}
 use Rattle.memory.proofs.Rows.{row-of}

@@ -32,17 +32,17 @@ use Rattle.model.proofs.Counting.{count-le, keep-same}
 use Rattle.model.proofs.Windows.{detections-cons}
 use Rattle.model.proofs.Growing.{freeze-length}
 use Rattle.memory.specs.declared.state.FixedLagRefiner.{FixedLagRefiner}
-use Rattle.release.specs.declared.emit.Size.{Size}
+use Rattle.emitting.specs.declared.emit.Size.{Size}
 use Rattle.fgo.specs.declared.refiner.Answer.the-variants.{Frame as Gives}
 use Rattle.memory.specs.Memory.{Memory, memory, bodyAt, scanIn, scansIn, entryIn, tableIn, ownersIn, stateOf}
-use Rattle.release.specs.Frozen.{FreezesScan, PartOk, PartsOk}
-use Rattle.release.specs.Writing.{Roomy, frameIn, PutsFrame, PutFrame}
+use Rattle.freezing.specs.Frozen.{FreezesScan, PartOk, PartsOk}
+use Rattle.emitting.specs.Writing.{Roomy, frameIn, PutsFrame, PutFrame}
 use Rattle.ledger.specs.Sound.{bodiesOk, liveIn}
 use Rattle.fgo.specs.Promise.{Ready, Ends, releaseOf, keptOwners}
 use Rattle.memory.proofs.Rows.{rows-all, row-of}
 use Rattle.memory.proofs.Cells.{length-rows, rows-first}
-use Rattle.release.proofs.Times.{time-fits}
-use Rattle.release.proofs.Order.{frozen-fits}
+use Rattle.freezing.proofs.Times.{time-fits}
+use Rattle.freezing.proofs.Order.{frozen-fits}
 use Rattle.ledger.proofs.SoundLaw.{live-rule}
 
 -- ---- frozen parts of which ages can be told

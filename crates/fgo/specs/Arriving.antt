@@ -16,7 +16,7 @@ use Rattle.windows.specs.declared.moves.Tally.{Tally}
 use Rattle.search.specs.Gathered.{Spare}
 use Rattle.memory.specs.declared.state.FixedLagRefiner.{FixedLagRefiner}
 use Rattle.memory.specs.Memory.{Memory, bodyAt, scansIn, tableIn, ownersIn, stateOf}
-use Rattle.release.specs.Frozen.{Ordered}
+use Rattle.freezing.specs.Frozen.{Ordered}
 use Rattle.memory.specs.Gathering.{Held}
 use Rattle.ledger.specs.Placing.{placedAll, begins}
 use Rattle.ledger.specs.Sound.{soundOk}

@@ -25,7 +25,7 @@ use Rattle.fgo.specs.declared.refiner.Counted.{Counted}
 use Rattle.fgo.specs.declared.refiner.Counted.the-variants as counted
 use Rattle.fgo.specs.declared.refiner.Pushed.{Pushed}
 use Rattle.memory.specs.Memory.{Memory, bodyAt, scansIn, tableIn, entryIn, stateOf, over}
-use Rattle.release.specs.Frozen.{Ordered, PartOk}
+use Rattle.freezing.specs.Frozen.{Ordered, PartOk}
 use Rattle.ledger.specs.Sound.{bodiesOk, soundOk, liveIn}
 
 -- ---- document 01's numbers

@@ -1,0 +1,3 @@
+pub mod Associations
+pub mod Listing
+pub mod Framing

@@ -1,0 +1,65 @@
+-- One detection frozen into the table, on the lent memory. Assumes nothing.
+use Prim.Native.Nat.{ℕ, suc, _+_, _≤_, _<_}
+use mathlib.Core.Path.{_≡_, refl, sym, ap, _∙_}
+use mathlib.Core.Bool.{Bool, true, false, cond}
+use mathlib.Core.List.{List, []}
+use mathlib.Core.Option.{none, some}
+use native.Mathlib.Nat.{zero-add}
+use native.Mathlib.Numerals.{add-one}
+use native.Mathlib.Omega.{arith}
+use borrow.Author.Tests.{leb-true}
+use lib.ListN.{length}
+use lib.Dec.{leb}
+use lib.Ieee.{Float, nan}
+use Rattle.engine.specs.declared.config.FgoConfig.{FgoConfig}
+use Rattle.model.specs.Lists.{find, put}
+use Rattle.model.specs.Windows as windows
+use Rattle.model.specs.Windows.{Dot}
+use Rattle.model.specs.Freezing.{freeze}
+use Rattle.memory.specs.declared.state.Prefix.{Prefix}
+use Rattle.memory.specs.Memory.{cells, keyIn, prefixIn, entryIn, tableIn, partOf, Put, keysIn}
+use Rattle.freezing.specs.Frozen.{Moves, placeOf, Raised, Ordered, frozenBy}
+use Rattle.freezing.proofs.Table.{found, replaced, inserted}
+use Rattle.freezing.proofs.Order.{ordered-at, absent}
+
+-- a part by value that has a height has at most five
+heights-by : (l : List Float) (n : ℕ) (b : Bool) → leb n 5 ≡ b → 1 ≤ length (cond b (cells nan l 0 n) []) → n ≤ 5
+heights-by l n true e h = leb-true n 5 e
+heights-by l n false e h = absurd (omega arith)
+
+module _ (c : FgoConfig) (t : List ℕ) (f : List Float) (n x k : ℕ) (d : Dot) (place : k ≡ placeOf x (keysIn t n)) where
+  abbrev T : List (ℕ × windows.Prefix)
+  T = tableIn t f n
+
+  -- a part of a table in order can move on
+  pub can-move : (b : ℕ) → suc b < 18446744073709551616 → Ordered b 0 T → k < n → (p : Prefix) → partOf p ≡ prefixIn t f k → Moves p
+  can-move b s o h p e =
+      let w = ordered-at (entryIn t f) b 0 0 n k o h in
+      let z : 0 + k ≡ k = zero-add k in
+      let l : 1 ≤ length (prefixIn t f k .heights) = rw z at (w .0) in
+      let m : prefixIn t f k .count ≤ b = rw z at (w .1) in
+      let q : p .count ≡ prefixIn t f k .count = ap (λ u. u .count) e in
+      record { heights = heights-by (p .heights) (p .«height_count») (leb (p .«height_count») 5) refl (rw (← ap (λ u. u .heights) e) at l); count = omega arith }
+
+  -- the track has a frozen part
+  pub one-moved : k < n → keyIn t k ≡ x → (p q : Prefix) → partOf p ≡ prefixIn t f k → partOf q ≡ freeze c (some (partOf p)) d → {t′ : List ℕ} {f′ : List Float} → Put k x q t f t′ f′ → tableIn t′ f′ n ≡ frozenBy c x d T
+  one-moved h q p r ep er {t′} {f′} u =
+      let z : 0 + k ≡ k = zero-add k in
+      let fd : find x T ≡ some (prefixIn t f k) = found (entryIn t f) x 0 n k place h (rw z q) ∙ ap (λ (j : ℕ). some (prefixIn t f j)) z in
+      let w : freeze c (find x T) d ≡ partOf r = rw (fd, ← ep) (sym er) in
+      replaced (entryIn t f) x (partOf r) (entryIn t′ f′) 0 n k place h (rw z q) (rw z (u .here)) (λ j ne. u .others j (λ (v : j ≡ k). ne (v ∙ sym z)))
+      ∙ ap (λ a. put x a T) (sym w)
+
+  -- it has none
+  pub one-begun : (b : ℕ) → Ordered b 0 T → (k < n → keyIn t k ≡ x → ⊥) → (q : Prefix) → partOf q ≡ freeze c none d
+      → {t₁ : List ℕ} {f₁ : List Float} → Raised k n t f t₁ f₁ → {t′ : List ℕ} {f′ : List Float} → Put k x q t₁ f₁ t′ f′ → tableIn t′ f′ (n + 1) ≡ frozenBy c x d T
+  one-begun b o ne r er ra {t′} {f′} u =
+      let z : 0 + k ≡ k = zero-add k in
+      let gone : k < n → entryIn t f (0 + k) .0 ≡ x → ⊥ = λ h v. ne h (rw z at v) in
+      let fd : find x T ≡ none = absent (entryIn t f) x b 0 0 n k place o gone in
+      let w : freeze c (find x T) d ≡ partOf r = rw fd (sym er) in
+      rw add-one
+      (inserted (entryIn t f) x (partOf r) (entryIn t′ f′) 0 n k place gone (rw z (u .here))
+      (λ j l. u .others j (λ (v : j ≡ k). omega arith) ∙ ra .below j (omega arith))
+      (λ j l m. u .others (suc j) (λ (v : suc j ≡ k). omega arith) ∙ ra .above j (omega arith) (omega arith))
+      ∙ ap (λ a. put x a T) (sym w))

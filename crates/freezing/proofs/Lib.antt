@@ -1,0 +1,10 @@
+pub mod Times
+pub mod Heights
+pub mod Classes
+pub mod Places
+pub mod Raising
+pub mod Table
+pub mod Order
+pub mod FrozenOne
+pub mod FrozenScan
+pub mod Forgetting

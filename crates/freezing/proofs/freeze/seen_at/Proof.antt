@@ -1,0 +1,38 @@
+-- `freezing::freeze::seen_at` meets its contract. Assumes nothing.
+use mathlib.Core.Path.{_≡_, _∙_}
+use mir.Syntax.{w64}
+use mir.Val.{toZ, ofZ}
+use mir.Facts.{toZ-ofZ}
+use Rattle.engine.specs.Body.{narrow, frameOf}
+use Rattle.model.specs.Windows.{dotOf}
+use borrow.Author.Needs.{needs}
+use Rattle.freezing.proofs.freeze.seen_at.Statement.{statement}
+use Rattle.freezing.proofs.freeze.seen_at.Tie as tie
+
+association-requires : tie.Need-association-requires
+association-requires c κs = search needs
+
+observation-requires : tie.Need-observation-requires
+observation-requires c κs = search needs
+
+class-for-requires : tie.Need-class-for-requires
+class-for-requires c κs = search needs
+
+time-of-requires : tie.Need-time-of-requires
+time-of-requires c κs = search needs
+
+returns : tie.Need-returns
+unfolding dotOf
+returns c = λ h.
+    let e : toZ w64 (ofZ w64 (c .time-of .result)) ≡ frameOf narrow (c .before .before .before .before .before .before .args .s .now) .time = toZ-ofZ (record { sfits = c .time-of .ok }) ∙ c .time-of .ensures h in
+    rw (e, c .before .class-for .ensures h, c .before .before .observation .ensures h, c .before .before .before .before .association .ensures h)
+
+pub seen-at-spec : {M : Type 1} → statement M
+seen-at-spec =
+    tie.close
+    (tie.spec
+    association-requires
+    observation-requires
+    class-for-requires
+    time-of-requires
+    returns)

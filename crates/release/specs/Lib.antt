@@ -1,2 +1,0 @@
-pub mod Frozen
-pub mod Writing
