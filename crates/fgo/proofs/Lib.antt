@@ -1,17 +1,7 @@
-pub mod Joining
-pub mod Compacting
-pub mod ReadyLaw
 pub mod Numbered
 pub mod FrameSize
 pub mod SentLaw
 pub mod FinishLaw
 pub mod Releasing
 pub mod Answering
-pub mod Placements
-pub mod Refusals
-pub mod HeldScans
-pub mod Accepted
-pub mod HeldFrame
-pub mod ArrivedState
 pub mod PushLaw
-pub mod SearchGathered

@@ -19,11 +19,11 @@ use Rattle.fgo.specs.declared.refiner.Answer.the-variants.{Held}
 use Rattle.fgo.specs.declared.refiner.Pushed.{Pushed}
 use Rattle.memory.specs.Memory.{Memory, scanIn, stateOf}
 use Rattle.ledger.specs.Sound.{bodiesOk, soundOk}
-use Rattle.fgo.specs.Refusing.{Refuses, pushRefusal}
+use Rattle.refusing.specs.Refusing.{Refuses, pushRefusal}
 use Rattle.fgo.specs.Promise.{roomy, checked, pushAnswer, releaseOf, Unchanged, Ends}
-use Rattle.fgo.specs.Arriving.{Arrived}
-use Rattle.fgo.proofs.ReadyLaw.{sound-kept, sound-ready}
-use Rattle.fgo.proofs.Refusals.{push-refused, push-accepted}
+use Rattle.arrival.specs.Arriving.{Arrived}
+use Rattle.arrival.proofs.ReadyLaw.{sound-kept, sound-ready}
+use Rattle.refusing.proofs.Refusals.{push-refused, push-accepted}
 
 -- counts that are few
 pub refuses : (r : FixedLagRefiner) (m : Memory) → soundOk r m ≡ true → Refuses r

@@ -38,7 +38,9 @@ use Rattle.memory.specs.Memory.{Memory, memory, bodyAt, scanIn, scansIn, entryI
 use Rattle.freezing.specs.Frozen.{FreezesScan, PartOk, PartsOk}
 use Rattle.emitting.specs.Writing.{Roomy, frameIn, PutsFrame, PutFrame}
 use Rattle.ledger.specs.Sound.{bodiesOk, liveIn}
-use Rattle.fgo.specs.Promise.{Ready, Ends, releaseOf, keptOwners}
+use Rattle.arrival.specs.Arriving.{Ready}
+use Rattle.fgo.specs.Promise.{Ends, releaseOf}
+use Rattle.ledger.specs.Sound.{keptOwners}
 use Rattle.memory.proofs.Rows.{rows-all, row-of}
 use Rattle.memory.proofs.Cells.{length-rows, rows-first}
 use Rattle.freezing.proofs.Times.{time-fits}

@@ -1,4 +1,2 @@
-pub mod Refusing
 pub mod Promise
 pub mod Sent
-pub mod Arriving

@@ -1,5 +1,5 @@
 -- What open, push, take and counters promise, for any refiner value, any bytes, any buffers and any contents of the lent memory. Definitions only.
-use Prim.Native.Nat.{ℕ, suc, _+_, _≤_, _<_}
+use Prim.Native.Nat.{ℕ}
 use mathlib.Core.Path.{_≡_}
 use mathlib.Core.Bool.{Bool, true, false, _&&_}
 use mathlib.Core.List.{List}
@@ -8,14 +8,10 @@ use lib.ListN.{length}
 use lib.Dec.{leb}
 use lib.Ieee.{Float}
 use Rattle.engine.specs.declared.config.FgoConfig.{FgoConfig}
-use Rattle.engine.specs.Config.{legal}
-use Rattle.engine.specs.Body.{narrow, refusal}
 use Rattle.model.specs.declared.moves.FgoCounters.{FgoCounters}
-use Rattle.model.specs.Lists.{keep}
-use Rattle.model.specs.Windows.{detections}
-use Rattle.model.specs.Emitting.{Emitted, wordsOf, numbersOf}
+use Rattle.model.specs.Emitting.{wordsOf, numbersOf}
 use Rattle.model.specs.Refiner as model
-use Rattle.model.specs.Refiner.{State, refused, waits, gives, new}
+use Rattle.model.specs.Refiner.{State, refused, waits, gives}
 use Rattle.memory.specs.declared.state.FixedLagRefiner.{FixedLagRefiner}
 use Rattle.fgo.specs.declared.refiner.Answer.{Answer}
 use Rattle.fgo.specs.declared.refiner.Answer.the-variants.{Refused, Held, Frame}
@@ -24,9 +20,8 @@ use Rattle.fgo.specs.declared.refiner.Opened.the-variants as opened
 use Rattle.fgo.specs.declared.refiner.Counted.{Counted}
 use Rattle.fgo.specs.declared.refiner.Counted.the-variants as counted
 use Rattle.fgo.specs.declared.refiner.Pushed.{Pushed}
-use Rattle.memory.specs.Memory.{Memory, bodyAt, scansIn, tableIn, entryIn, stateOf, over}
-use Rattle.freezing.specs.Frozen.{Ordered, PartOk}
-use Rattle.ledger.specs.Sound.{bodiesOk, soundOk, liveIn}
+use Rattle.memory.specs.Memory.{Memory, stateOf, over}
+use Rattle.ledger.specs.Sound.{bodiesOk, soundOk}
 
 -- ---- document 01's numbers
 
@@ -121,20 +116,3 @@ pub record Ends (a : model.Answer × State) (r : FixedLagRefiner) (m : Memory) (
 abbrev pub countedBy : Bool → FgoCounters → Counted
 countedBy true k = counted.Moves k
 countedBy false k = counted.Refused 3
-
--- ---- owners
-
--- the entries of the owner table that have a live owner
-unfoldable pub keptOwners : List ℕ → List ℕ → ℕ → ℕ → List ℕ → ℕ → List (ℕ × ℕ) → List (ℕ × ℕ)
-keptOwners bodies columns first held tracks frozen os = keep (λ o. liveIn bodies columns first held tracks frozen (o .1)) os
-
--- ---- what the inner steps ask: a refiner that meets the rule, except that it may hold one scan more
-
-pub record Ready (r : FixedLagRefiner) (m : Memory) : Type 0 where
-  pub few : r .held ≤ 17
-  pub early : r .first .0 + r .held ≤ 4294967296
-  pub passes : (i : ℕ) → i < r .held → refusal narrow (bodyAt (m .bodies) (m .columns) (r .first .0 + i)) ≡ 0
-  pub ordered : Ordered 4294967295 0 (tableIn (m .tracks) (m .filters) (r .frozen))
-  pub parts : (k : ℕ) → k < r .frozen → PartOk (entryIn (m .tracks) (m .filters) k)
-  pub room : r .frozen + detections (scansIn (m .bodies) (m .columns) (r .first .0) (r .held)) ≤ 128
-  pub owners : r .owned ≤ 256

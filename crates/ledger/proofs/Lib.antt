@@ -7,3 +7,4 @@ pub mod SoundLaw
 pub mod Owners
 pub mod OwnedGathered
 pub mod PlacingSteps
+pub mod Compacting

@@ -1,13 +1,17 @@
-// Owning after a search: each engine id goes to the track that holds its latest detection.
+// Owning: after a search each engine id goes to the track that holds its latest detection, and an owner stays while it is live.
 use crate::rule;
 use costs::cost::DETECTIONS;
+use engine::types::ScanIndex;
 use memory::gather::STARTS;
+use memory::state::BODIES;
+use memory::state::COLUMNS;
 use memory::state::OWNERS;
+use memory::state::TRACKS;
 ghost use mathlib.Core.Path.{_≡_};
-ghost use Prim.Native.Nat.{_≤_};
+ghost use Prim.Native.Nat.{_+_, _≤_};
 ghost use lib.ListN.{length};
 ghost use Rattle.memory.specs.Memory.{ownersIn};
-ghost use Rattle.ledger.specs.Sound.{Starts};
+ghost use Rattle.ledger.specs.Sound.{Starts, keptOwners};
 ghost use Rattle.memory.specs.Gathering.{heldLatest};
 
 // The owners, each changed to the holder of the latest detection of its engine id, if a window has one.
@@ -30,4 +34,33 @@ pub fn hold_latest<'a>(
         }
         k += 1;
     }
+}
+
+// The entries of the owner table that have a live owner, moved together; how many they are. It asks for 128 frozen parts and 256 owners at most.
+pub fn keep_owners<'a, 'b>(
+    bodies: &'b [u8; BODIES],
+    columns: &'b [u64; COLUMNS],
+    first: ScanIndex,
+    held: usize,
+    tracks: &'b [u64; TRACKS],
+    frozen: usize,
+    owners: &'a mut [u64],
+    owned: usize,
+) -> usize
+    requires { ⌜ (first .0 + held ≤ 4294967296) × (frozen ≤ 128) × (owned ≤ 256) × (length (now owners) ≡ 512) ⌝ }
+    ensures { λ r. ⌜ ownersIn (now (owners .exit)) r ≡ keptOwners (now (bodies .entry)) (now (columns .entry)) (first .0) held (now (tracks .entry)) frozen (ownersIn (now (owners .entry)) owned) ⌝ }
+{
+    let mut w: usize = 0;
+    let mut k: usize = 0;
+    while k < owned {
+        let e = owners[2 * k];
+        let x = owners[2 * k + 1];
+        if rule::is_live(bodies, columns, first, held, tracks, frozen, x) {
+            owners[2 * w] = e;
+            owners[2 * w + 1] = x;
+            w += 1;
+        }
+        k += 1;
+    }
+    w
 }

@@ -4,7 +4,7 @@ use mathlib.Core.Path.{sym, _∙_}
 use native.Mathlib.Omega.{arith}
 use borrow.Author.Tests.{not-true, not-false}
 use Rattle.memory.specs.Memory.{memory}
-use Rattle.fgo.proofs.ReadyLaw.{sound-ready}
+use Rattle.arrival.proofs.ReadyLaw.{sound-ready}
 use Rattle.fgo.proofs.Answering.{sound-is, roomy-room, refusal-ends, take-unsound, take-narrow, take-none, take-ends}
 use Rattle.fgo.proofs.refiner.take.Statement.{statement}
 use Rattle.fgo.proofs.refiner.take.Tie as tie

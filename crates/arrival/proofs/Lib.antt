@@ -1,0 +1,7 @@
+pub mod ReadyLaw
+pub mod Placements
+pub mod HeldScans
+pub mod Accepted
+pub mod HeldFrame
+pub mod ArrivedState
+pub mod SearchGathered

@@ -1,0 +1,110 @@
+-- `arrival::arrive::put_column` meets its contract. Assumes nothing.
+use Prim.Native.Nat.{ℕ, _+_, _-_, _*_, _<_}
+use native.Mathlib.Nat.{add-zero}
+use native.Mathlib.Omega.{arith}
+use mathlib.Core.Path.{_≡_, refl, sym, ap, _∙_}
+use mathlib.Core.List.{List, [], _∷_}
+use lib.ListN.{length, length-set, take, set}
+use lib.Seq.{length-take-le, getD-take}
+use Rattle.memory.specs.Memory.{over}
+use Rattle.arrival.specs.Arriving.{columnWords}
+use Rattle.memory.proofs.Over.{over-more}
+use Rattle.memory.proofs.Writes.{Writes, writes-none, writes-more, writes-all}
+use Rattle.arrival.proofs.arrive.put_column.Statement.{statement}
+use Rattle.arrival.proofs.arrive.put_column.Tie as tie
+
+-- one number written
+one-over : (l : List ℕ) (o x : ℕ) → o < length l → set l o x ≡ over o (x ∷ []) l
+one-over l o x h =
+    ap (λ (i : ℕ). set l i x) (sym (add-zero o))
+    ∙ writes-all o (x ∷ []) l (writes-more o (x ∷ []) l 0 x (writes-none o (x ∷ []) l (omega arith)) (omega arith) refl) (omega arith)
+
+abbrev Inv-loop : tie.InvT-loop
+Inv-loop columns₀ size count ids o j₀ columns j = Writes (o + 1) (take count ids) columns₀ j columns
+
+abbrev μ-loop : tie.MeasureT-loop
+μ-loop columns₀ size count ids o j₀ columns j = count - j
+
+slot-of-requires : tie.Need-slot-of-requires Inv-loop μ-loop
+slot-of-requires c κs = tt
+
+mul-o : tie.Need-mul-o Inv-loop μ-loop
+mul-o c = omega arith
+
+mul-columns : tie.Need-mul-columns Inv-loop μ-loop
+mul-columns c = omega arith
+
+element-write-columns : tie.Need-element-write-columns Inv-loop μ-loop
+element-write-columns c = omega arith
+
+loop-holds : tie.Need-loop-holds Inv-loop μ-loop
+loop-holds c =
+    let h = c .before .pre in
+    let l = length-set (c .before .args .columns .now) (33 * c .slot-of .result) (c .before .args .size) in
+    let n = length-take-le (c .before .args .count) (c .before .args .ids .now) (omega arith) in
+    writes-none _ _ _ (omega (arith, c .slot-of .ensures .1))
+
+mul-columns-2 : tie.Need-mul-columns-2 Inv-loop μ-loop
+mul-columns-2 c = omega arith
+
+element-copy-out-columns : tie.Need-element-copy-out-columns Inv-loop μ-loop
+element-copy-out-columns c = omega arith
+
+add-columns : tie.Need-add-columns Inv-loop μ-loop
+add-columns c = omega arith
+
+add-columns-2 : tie.Need-add-columns-2 Inv-loop μ-loop
+add-columns-2 c = omega arith
+
+mul-columns-3 : tie.Need-mul-columns-3 Inv-loop μ-loop
+mul-columns-3 c = omega arith
+
+element-write-columns-2 : tie.Need-element-write-columns-2 Inv-loop μ-loop
+element-write-columns-2 c = omega arith
+
+add-j : tie.Need-add-j Inv-loop μ-loop
+add-j c = omega arith
+
+loop-less : tie.Need-loop-less Inv-loop μ-loop
+loop-less c = omega arith
+
+loop-again : tie.Need-loop-again Inv-loop μ-loop
+loop-again c =
+    let f = c .before .before .before .before .args in
+    let h = c .before .before .before .before .pre in
+    let n = length-take-le (f .count) (f .ids .now) (omega arith) in
+    writes-more _ _ _ 0 _ (c .before .before .loop .inv) (omega arith) (sym (getD-take (f .count) (f .ids .now) (c .before .before .loop .j) 0 (c .before .loop-test .taken)))
+
+returns : tie.Need-returns Inv-loop μ-loop
+returns c =
+    let f = c .before .before .before .args in
+    let h = c .before .before .before .pre in
+    let n = length-take-le (f .count) (f .ids .now) (omega arith) in
+    let k = c .before .before .slot-of .result in
+    let e = one-over (f .columns .now) (33 * k) (f .size) (omega (arith, c .before .before .slot-of .ensures .1)) in
+    writes-all _ _ _ (c .before .loop .inv) (omega (arith, n, c .loop-test .left))
+    ∙ ap (over (33 * k + 1) (take (f .count) (f .ids .now))) e
+    ∙ over-more (33 * k) (f .size ∷ []) (f .columns .now) (omega (arith, c .before .before .slot-of .ensures .1)) (take (f .count) (f .ids .now))
+    ∙ ap (λ (i : ℕ). over (33 * i) (columnWords (f .size) (f .count) (f .ids .now)) (f .columns .now)) (c .before .before .slot-of .ensures .0)
+
+pub put-column-spec : {M : Type 1} → statement M
+put-column-spec =
+    tie.close
+    (tie.spec
+    Inv-loop
+    μ-loop
+    slot-of-requires
+    mul-o
+    mul-columns
+    element-write-columns
+    loop-holds
+    mul-columns-2
+    element-copy-out-columns
+    add-columns
+    add-columns-2
+    mul-columns-3
+    element-write-columns-2
+    add-j
+    loop-less
+    loop-again
+    returns)

@@ -1,0 +1,2 @@
+// A frame arrives that nothing refuses: it is placed, held and searched.
+pub mod arrive;

@@ -1,0 +1,102 @@
+-- The refusal that the code finds is the one of the refiner as defined, and a push is what that refusal leaves. Assumes nothing.
+use Prim.Native.Nat.{ℕ, zero, suc, _+_, _*_, _^_}
+use native.Mathlib.Omega.{arith}
+use mathlib.Core.Path.{_≡_, refl, ap, _∙_}
+use mathlib.Core.Bool.{Bool, true, false, _||_}
+use mathlib.Core.List.{List, foldr}
+use mathlib.Core.Option.{Option, none}
+use lib.ListN.{length, getD}
+use lib.Dec.{leb, ltb}
+use Rattle.engine.specs.declared.config.FgoConfig.{FgoConfig}
+use Rattle.engine.specs.Frame.{Frame}
+use Rattle.engine.specs.Body.{narrow, refusal, frameOf, decodedBy, decode}
+use Rattle.engine.proofs.Passing.{length-rows}
+use Rattle.model.specs.Windows.{detections}
+use Rattle.model.specs.Refiner as model
+use Rattle.model.specs.Refiner.{State, refused, full8, full9, full10, idCount, join, firstOf, pushBy, pushRead, pushFrame}
+use Rattle.memory.specs.declared.state.FixedLagRefiner.{FixedLagRefiner}
+use Rattle.memory.specs.Memory.{Memory, scanIn, scansIn, entryIn, stateOf}
+use Rattle.refusing.specs.Refusing.{fullIn, joinedIn, numberOr, refusedBy, pushRefusal}
+use Rattle.ledger.proofs.SoundLaw.{map-rows}
+
+module _ (r : FixedLagRefiner) (m : Memory) (s : List ℕ) where
+  abbrev t : State
+  t = stateOf r m
+
+  abbrev f : Frame
+  f = frameOf narrow s
+
+  -- 8, 9 and 10, on the lent memory
+  abbrev pub found : Option ℕ
+  found =
+      firstOf (fullIn r) (ltb 128 (r .frozen + detections (scansIn (m .bodies) (m .columns) (r .first .0) (r .held)) + idCount (f .associations)))
+      (ltb 256 (length (joinedIn (m .owners) (r .owned) s 0)))
+
+  eight : full8 t ≡ fullIn r
+  unfolding full8 fullIn stateOf
+  eight =
+      ap
+      (λ (n : ℕ). leb 4294967295 (r .first .0 + n)
+      || (ltb (2 ^ 60) (r .next .0)
+      || (ltb (2 ^ 60) (r .counters .swaps) || (ltb (2 ^ 60) (r .counters .merges) || (ltb (2 ^ 60) (r .counters .splits) || ltb (2 ^ 60) (r .counters .drops))))))
+      (length-rows (scanIn (m .bodies) (m .columns)) (r .first .0) (r .held))
+
+  nine : full9 t f ≡ ltb 128 (r .frozen + detections (scansIn (m .bodies) (m .columns) (r .first .0) (r .held)) + idCount (f .associations))
+  unfolding full9 stateOf
+  nine =
+      ap (λ (n : ℕ). ltb 128 (n + detections (scansIn (m .bodies) (m .columns) (r .first .0) (r .held)) + idCount (f .associations)))
+      (length-rows (entryIn (m .tracks) (m .filters)) 0 (r .frozen))
+
+  ten : full10 t f ≡ ltb 256 (length (joinedIn (m .owners) (r .owned) s 0))
+  unfolding full10 joinedIn stateOf
+  ten =
+      ap (λ (l : List ℕ). ltb 256 (length (foldr (λ a. join (a .track)) l (f .associations))))
+      (map-rows (λ o. o .0) (λ k. (getD (m .owners) (2 * k) 0, getD (m .owners) (2 * k + 1) 0)) 0 (r .owned))
+
+  pub found-same : firstOf (full8 t) (full9 t f) (full10 t f) ≡ found
+  found-same = ap (λ b. firstOf b (full9 t f) (full10 t f)) eight ∙ ap (λ b. firstOf (fullIn r) b (full10 t f)) nine ∙ ap (firstOf (fullIn r) _) ten
+
+  -- no number refuses the frame
+  pub none-found : pushRefusal r (m .bodies) (m .columns) (m .owners) s ≡ 0 → (refusal narrow s ≡ 0) × (found ≡ none)
+  unfolding pushRefusal
+  none-found = by (refusal narrow s) (fullIn r) _ _
+    where
+      by : (n : ℕ) (a b d : Bool) → refusedBy n (numberOr (firstOf a b d)) ≡ 0 → (n ≡ 0) × (firstOf a b d ≡ none)
+      by zero true b d e = absurd (omega arith)
+      by zero false true d e = absurd (omega arith)
+      by zero false false true e = absurd (omega arith)
+      by zero false false false e = (refl, refl)
+      by (suc n) a b d e = absurd (omega arith)
+
+  -- ---- push
+
+  abbrev c : FgoConfig
+  c = r .config
+
+  abbrev pushedBy : ℕ → Option ℕ → model.Answer × State
+  pushedBy zero o = pushBy o c t f
+  pushedBy (suc n) o = (refused (suc n), t)
+
+  push-by : model.push c t s ≡ pushedBy (refusal narrow s) found
+  unfolding model.push decode pushFrame
+  push-by = by (refusal narrow s)
+    where
+      by : (n : ℕ) → pushRead c t (decodedBy n f) ≡ pushedBy n found
+      by zero = ap (λ o. pushBy o c t f) found-same
+      by (suc n) = refl
+
+  -- a number refuses it
+  pub push-refused : (k : ℕ) → pushRefusal r (m .bodies) (m .columns) (m .owners) s ≡ suc k → model.push c t s ≡ (refused (suc k), t)
+  unfolding pushRefusal
+  push-refused k h = push-by ∙ by (refusal narrow s) (fullIn r) _ _ h
+    where
+      by : (n : ℕ) (a b d : Bool) → refusedBy n (numberOr (firstOf a b d)) ≡ suc k → pushedBy n (firstOf a b d) ≡ (refused (suc k), t)
+      by zero true b d e = ap (λ (i : ℕ). (refused i, t)) e
+      by zero false true d e = ap (λ (i : ℕ). (refused i, t)) e
+      by zero false false true e = ap (λ (i : ℕ). (refused i, t)) e
+      by zero false false false e = absurd (omega arith)
+      by (suc n) a b d e = ap (λ (i : ℕ). (refused i, t)) e
+
+  -- none does: the frame arrives
+  pub push-accepted : pushRefusal r (m .bodies) (m .columns) (m .owners) s ≡ 0 → model.push c t s ≡ pushBy none c t f
+  push-accepted h = let a = none-found h in push-by ∙ ap (λ (n : ℕ). pushedBy n found) (a .0) ∙ ap (λ o. pushBy o c t f) (a .1)
