@@ -21,6 +21,7 @@ use engine::types::Association;
 use libc::STDIN_FILENO;
 use libc::STDOUT_FILENO;
 use scalar::bits;
+use vetting::vet;
 
 fn print_number(n: u64) {
     io::write_all(STDOUT_FILENO, b" ");
@@ -74,7 +75,7 @@ fn print_frame(s: &[u8]) {
 }
 
 fn print_body(s: &[u8]) {
-    let refusal = body::refusal_of(s);
+    let refusal = vet::refusal_of(s);
     io::print_decimal(STDOUT_FILENO, refusal as u64);
     if refusal == 0 {
         print_frame(s);

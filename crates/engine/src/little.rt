@@ -1,4 +1,4 @@
-// Little-endian numbers at a place of a byte slice.
+// Little-endian numbers at a place of a byte slice: each asks that its bytes lie in the slice.
 use scalar::bits;
 ghost use mathlib.Core.Path.{_≡_};
 ghost use Prim.Native.Nat.{_+_, _≤_};

@@ -12,6 +12,7 @@ use memory::state::FixedLagRefiner;
 use memory::state::OWNERS;
 use memory::state::TRACKS;
 use scalar::bits;
+use vetting::vet;
 ghost use mathlib.Core.Path.{_≡_};
 ghost use Prim.Native.Nat.{_+_, _<_, _≤_};
 ghost use Rattle.engine.specs.Body.{narrow, associationCount, refusal};
@@ -64,7 +65,7 @@ fn bodies_ok<'a>(
     let mut i: usize = 0;
     while i < held {
         let n = ScanIndex(first.0 + i as u64);
-        if body::refusal_of(state::body_in(bodies, columns, n)) != 0 {
+        if vet::refusal_of(state::body_in(bodies, columns, n)) != 0 {
             return false;
         }
         i += 1;
@@ -206,7 +207,7 @@ fn part_ok(first: u64, next: u64, tracks: &[u64; TRACKS], k: usize, before: u64)
     if first <= tracks[o + 1] {
         return false;
     }
-    body::time_ok(bits::from_word(tracks[o + 2]))
+    vet::time_ok(bits::from_word(tracks[o + 2]))
 }
 
 fn parts_ok(first: u64, next: u64, tracks: &[u64; TRACKS], frozen: usize) -> bool

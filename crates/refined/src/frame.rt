@@ -1,6 +1,6 @@
 // The form of a smoother frame: a list of words and a list of numbers.
-use engine::body;
 use scalar::bits;
+use vetting::vet;
 ghost use mathlib.Core.Path.{_≡_};
 ghost use Prim.Native.Nat.{_+_, _*_, _<_, _≤_};
 ghost use lib.ListN.{length};
@@ -12,7 +12,7 @@ ghost use Rattle.refined.specs.Frame.{frame, trackCount, associationCoun
 fn time_ok(word: u64) -> bool
     ensures { λ r. ⌜ r ≡ timeOk (signed word) ⌝ }
 {
-    body::time_ok(bits::from_word(word))
+    vet::time_ok(bits::from_word(word))
 }
 
 // The counts, the codes and the time are in bounds, with at most `most` tracks.

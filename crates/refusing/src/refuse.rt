@@ -6,6 +6,7 @@ use memory::state::BODIES;
 use memory::state::COLUMNS;
 use memory::state::FixedLagRefiner;
 use memory::state::OWNERS;
+use vetting::vet;
 ghost use mathlib.Core.Path.{_≡_};
 ghost use Prim.Native.Nat.{_+_, _<_, _≤_};
 ghost use lib.ListN.{length};
@@ -147,7 +148,7 @@ pub fn push_refusal<'a>(
     requires { ⌜ Refuses r ⌝ }
     ensures { λ n. ⌜ n ≡ pushRefusal r (now (bodies .entry)) (now (columns .entry)) (now (owners .entry)) (now (s .entry)) ⌝ }
 {
-    let code = body::refusal_of(s);
+    let code = vet::refusal_of(s);
     if code != 0 {
         return code;
     }
