@@ -32,8 +32,9 @@ use Rattle.windows.specs.Rows.{Starts, columnAt}
 use Rattle.pricing.specs.Price.{frozenAt, partFrom, partAmong}
 use Rattle.search.specs.Pass.{Scene, sceneOf, viewOn, Able}
 use Rattle.search.specs.Gathered as search
-use Rattle.search.specs.Gathered.{picked, spread, putBack, GatheredFrom, Spare}
-use Rattle.search.proofs.Spreads.{above}
+use Rattle.windows.specs.Columns.{picked, spread, putBack}
+use Rattle.search.specs.Gathered.{GatheredFrom, Spare}
+use Rattle.windows.proofs.Spreads.{above}
 use Rattle.memory.specs.Memory.{prefixIn, entryIn, tableIn, bodyAt, scanIn, scansIn, over}
 use Rattle.memory.specs.Gathering.{Gathered, gatheredIn, gathered, numbersFor, dotsOf, foundIn, foundOf, Held, GatheredAll, spreadAll, Scattered}
 use Rattle.memory.proofs.Over.{length-over, over-in}

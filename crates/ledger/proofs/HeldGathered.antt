@@ -13,7 +13,7 @@ use Rattle.model.specs.Windows.{Scan}
 use Rattle.model.specs.Owning.{orElse, latest}
 use Rattle.model.proofs.Ties.{TiedScan}
 use Rattle.windows.specs.Rows.{columnAt}
-use Rattle.search.specs.Gathered.{putBack}
+use Rattle.windows.specs.Columns.{putBack}
 use Rattle.memory.specs.Memory.{scanIn, scansIn}
 use Rattle.memory.specs.Gathering.{gathered, foundOf, latestOf, Held, GatheredAll}
 use Rattle.memory.proofs.Over.{length-over}

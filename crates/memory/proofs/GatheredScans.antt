@@ -16,7 +16,7 @@ use Rattle.model.specs.Lists.{keep}
 use Rattle.model.specs.Windows.{Scan, inWindows, detections}
 use Rattle.model.proofs.Windows.{detections-cons}
 use Rattle.windows.specs.Rows.{segment, columnAt}
-use Rattle.search.specs.Gathered.{picked, spread, putBack}
+use Rattle.windows.specs.Columns.{picked, spread, putBack}
 use Rattle.memory.specs.Memory.{over}
 use Rattle.memory.specs.Gathering.{engineOf, Gathered, gatheredIn, gatheredOf, gathered, idsOf, enginesOf}
 use Rattle.memory.proofs.Cells.{rows-first, rows-parts}

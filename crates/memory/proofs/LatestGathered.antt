@@ -16,7 +16,7 @@ use Rattle.model.specs.Windows.{Scan}
 use Rattle.model.specs.Owning.{isEngine, holderIn, orElse, latest}
 use Rattle.model.proofs.Ties.{Engine, Tied, TiedScan}
 use Rattle.windows.specs.Rows.{segment, columnAt}
-use Rattle.search.specs.Gathered.{picked, spread, putBack}
+use Rattle.windows.specs.Columns.{picked, spread, putBack}
 use Rattle.memory.specs.Gathering.{engineOf, holderOf, latestOf}
 
 -- something of each scan of a list, by its number: the first is the k-th

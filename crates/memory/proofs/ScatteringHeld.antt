@@ -13,7 +13,7 @@ use Rattle.engine.specs.Body.{narrow, associationCount, frameOf, rows}
 use Rattle.model.specs.Lists.{keep}
 use Rattle.model.specs.Windows.{Scan, inWindows, detections}
 use Rattle.model.proofs.Windows.{detections-cons}
-use Rattle.search.specs.Gathered.{spread}
+use Rattle.windows.specs.Columns.{spread}
 use Rattle.memory.specs.Memory.{slotAt, bodyAt, idAt, scanIn, scansIn}
 use Rattle.memory.specs.Gathering.{countIn, Held, ScatteredScan, spreadAll, Scattered}
 use Rattle.memory.proofs.Cells.{rows-more, rows-same}

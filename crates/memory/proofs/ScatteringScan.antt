@@ -14,8 +14,8 @@ use Rattle.engine.specs.Body.{rows}
 use Rattle.model.specs.Lists.{keep}
 use Rattle.model.specs.Windows.{inWindows}
 use Rattle.model.proofs.Counting.{bump, count-snoc, count-append}
-use Rattle.search.specs.Gathered.{spread}
-use Rattle.search.proofs.Spreads.{above}
+use Rattle.windows.specs.Columns.{spread}
+use Rattle.windows.proofs.Spreads.{above}
 use Rattle.memory.specs.Memory.{cells, slotAt, idAt}
 use Rattle.memory.specs.Gathering.{countIn, ScatteredScan}
 use Rattle.memory.proofs.Cells.{rows-more, rows-parts, rows-same}

@@ -15,7 +15,7 @@ use Rattle.engine.specs.Frame.{Frame, noAssociation}
 use Rattle.engine.specs.Body.{narrow, associationCount, refusal, frameOf, rows}
 use Rattle.model.specs.Windows.{Scan, Dot, inWindows, detections, dotOf, noise}
 use Rattle.model.specs.Owning.{orElse}
-use Rattle.search.specs.Gathered.{spread}
+use Rattle.windows.specs.Columns.{spread}
 use Rattle.memory.specs.Memory.{slotAt, bodyAt, idAt, scansIn, over}
 
 -- the engine id of an association, 0 where it has none

@@ -19,7 +19,7 @@ use Rattle.model.proofs.Counting.{keep-append, keep-const}
 use Rattle.windows.specs.Near.{square, nearSlots, closeAt, closeScans}
 use Rattle.pricing.specs.Price.{cutAt, cutsOf}
 use Rattle.search.specs.Pass.{Scene, viewOn, rowOn, closeOn}
-use Rattle.search.specs.Gathered.{putBack}
+use Rattle.windows.specs.Columns.{putBack}
 use Rattle.windows.proofs.Filled.{map-up-length, map-up-at}
 use Rattle.search.proofs.Standing.{Held, scansNow, Standing, CutRows}
 use Rattle.windows.proofs.RowSlots.{row-length, row-at}

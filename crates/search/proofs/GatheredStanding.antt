@@ -11,9 +11,10 @@ use Rattle.model.specs.Faithful.{Regular}
 use Rattle.model.specs.Rule.{All}
 use Rattle.windows.specs.Rows.{Starts}
 use Rattle.search.specs.Pass.{Scene}
-use Rattle.search.specs.Gathered.{spread, putBack, GatheredScan, GatheredFrom, Gathered}
+use Rattle.windows.specs.Columns.{spread, putBack}
+use Rattle.search.specs.Gathered.{GatheredScan, GatheredFrom, Gathered}
 use Rattle.search.proofs.Standing.{HeldScan, HeldFrom, scansNow, Standing}
-use Rattle.search.proofs.Spreads.{picked-length, spread-self}
+use Rattle.windows.proofs.Spreads.{picked-length, spread-self}
 use Rattle.search.proofs.WindowRows.{column-length}
 
 module _ (e : Scene) (ids : List ℕ) where

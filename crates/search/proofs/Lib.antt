@@ -1,5 +1,4 @@
 pub mod Standing
-pub mod Spreads
 pub mod WindowRows
 pub mod OtherRows
 pub mod MoveRows

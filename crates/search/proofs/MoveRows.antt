@@ -20,10 +20,10 @@ use Rattle.windows.specs.declared.moves.Targets.{Targets}
 use Rattle.windows.specs.Rows.{Starts, columnAt}
 use Rattle.windows.specs.Moves.{retarget, same, keeperTarget, otherTarget, pairTargets, trackTargets, renamedFrom, hasSlot, pairIds, trackIds}
 use Rattle.search.specs.Pass.{Scene, rowOn}
-use Rattle.search.specs.Gathered.{spread, putBack}
+use Rattle.windows.specs.Columns.{spread, putBack}
 use Rattle.windows.proofs.Renamed.{renamed-column}
 use Rattle.search.proofs.Standing.{HeldScan, HeldFrom, scansNow, Standing, Fits, PairIds, TrackIds}
-use Rattle.search.proofs.Spreads.{spread-map}
+use Rattle.windows.proofs.Spreads.{spread-map}
 use Rattle.windows.proofs.RowSlots.{row-at}
 use Rattle.search.proofs.WindowRows.{slot-now}
 

@@ -11,11 +11,11 @@ use Rattle.model.specs.Windows.{Scan, Prefix, present}
 use Rattle.model.proofs.Counting.{keep-append}
 use Rattle.windows.specs.Rows.{segment, Starts, columnAt, presentIn}
 use Rattle.search.specs.Pass.{Scene}
-use Rattle.search.specs.Gathered.{spread, putBack}
+use Rattle.windows.specs.Columns.{spread, putBack}
 use Rattle.windows.proofs.Segments.{segment-none}
 use Rattle.windows.proofs.Renamed.{starts-ordered}
 use Rattle.search.proofs.Standing.{HeldFrom, Standing, PresentRows}
-use Rattle.search.proofs.Spreads.{spread-keep}
+use Rattle.windows.proofs.Spreads.{spread-keep}
 use Rattle.search.proofs.WindowRows.{held-fills}
 
 segment-join : {A : Type 0} (a b c : ℕ) (l : List A) → a ≤ b → b ≤ c → segment a b l ++ segment b c l ≡ segment a c l

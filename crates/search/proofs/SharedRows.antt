@@ -13,9 +13,9 @@ use Rattle.model.specs.Searching.{shared}
 use Rattle.windows.specs.Rows.{Starts, columnAt, slotAt, rowOf}
 use Rattle.pricing.specs.Price.{bothHave, sharedRows}
 use Rattle.search.specs.Pass.{Scene}
-use Rattle.search.specs.Gathered.{spread, putBack}
+use Rattle.windows.specs.Columns.{spread, putBack}
 use Rattle.search.proofs.Standing.{HeldFrom, Standing, SharedRows}
-use Rattle.search.proofs.Spreads.{above}
+use Rattle.windows.proofs.Spreads.{above}
 use Rattle.search.proofs.WindowRows.{slot-now, slot-empty}
 
 both-have : (x y : ℕ) → bothHave x y ≡ cond (ltb 0 x && ltb 0 y) 1 0

@@ -19,7 +19,7 @@ use Rattle.windows.specs.Rows.{Starts, presentIn}
 use Rattle.pricing.specs.Price.{cutsOf, sharedRows}
 use Rattle.windows.specs.Moves.{pairIds, trackIds}
 use Rattle.search.specs.Pass.{Scene, viewOn, partOn, rowOn, closeOn, pairBest, trackBest}
-use Rattle.search.specs.Gathered.{picked, putBack}
+use Rattle.windows.specs.Columns.{picked, putBack}
 
 -- the k-th scan as it was gathered: s has the ids that it had then
 pub record HeldScan (e : Scene) (k : ℕ) (s : Scan) : Type 0 where

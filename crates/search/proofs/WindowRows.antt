@@ -20,11 +20,11 @@ use Rattle.model.proofs.Counting.{times-here, times-past}
 use Rattle.model.proofs.Windows.{under-absent}
 use Rattle.windows.specs.Rows.{Starts, columnAt, slotIn, slotAt, rowOf}
 use Rattle.search.specs.Pass.{Scene, viewOn}
-use Rattle.search.specs.Gathered.{picked, spread, putBack}
+use Rattle.windows.specs.Columns.{picked, spread, putBack}
 use Rattle.windows.proofs.Segments.{length-segment, segment-none}
 use Rattle.windows.proofs.Renamed.{starts-within}
 use Rattle.search.proofs.Standing.{HeldScan, HeldFrom, Standing, WindowRow}
-use Rattle.search.proofs.Spreads.{Fills, picked-length, spread-has, slot-has}
+use Rattle.windows.proofs.Spreads.{Fills, picked-length, spread-has, slot-has}
 
 -- ---- the gathered ids of a scan
 

@@ -1,10 +1,9 @@
 -- The gathered detections and the held scans of the refiner, and what the search finds: the model's. Definitions only.
-use Prim.Native.Nat.{ℕ, zero, suc, _+_, _≤_, _<_}
+use Prim.Native.Nat.{ℕ, suc, _+_, _≤_, _<_}
 use mathlib.Core.Path.{_≡_}
 use mathlib.Core.List.{List, [], _∷_}
 use lib.ListN.{length, getD}
 use lib.Dec.{ltb}
-use Rattle.engine.specs.declared.types.Association.{Association}
 use Rattle.engine.specs.Frame.{noAssociation}
 use Rattle.engine.specs.Config.{maxPasses}
 use Rattle.costs.specs.Cost.{detAt}
@@ -16,26 +15,8 @@ use Rattle.model.specs.Faithful.{Regular}
 use Rattle.model.specs.Rule.{All}
 use Rattle.windows.specs.declared.moves.Tally.{Tally}
 use Rattle.windows.specs.Rows.{columnAt}
+use Rattle.windows.specs.Columns.{picked, putBack}
 use Rattle.search.specs.Pass.{Scene, viewOn, partOn}
-
--- the associations of a scan that lie in windows
-unfoldable pub picked : List ℕ → List Association → List Association
-picked is [] = []
-picked [] (a ∷ l) = []
-picked (zero ∷ is) (a ∷ l) = picked is l
-picked (suc i ∷ is) (a ∷ l) = a ∷ picked is l
-
--- a column again, from the ids of those gathered: what was clutter stays clutter
-unfoldable pub spread : List ℕ → List ℕ → List ℕ
-spread [] gs = []
-spread (zero ∷ is) gs = 0 ∷ spread is gs
-spread (suc i ∷ is) [] = 0 ∷ spread is []
-spread (suc i ∷ is) (g ∷ gs) = g ∷ spread is gs
-
--- the scans with the gathered ids put back; the first of them is the k-th
-unfoldable pub putBack : List ℕ → List ℕ → ℕ → List Scan → List Scan
-putBack starts ids k [] = []
-putBack starts ids k (s ∷ ss) = record { frame = s .frame; ids = spread (s .ids) (columnAt starts ids k) } ∷ putBack starts ids (suc k) ss
 
 -- the k-th scan is gathered: its ids above 0, and the dots of their associations
 pub record GatheredScan (e : Scene) (ids : List ℕ) (k : ℕ) (s : Scan) : Type 0 where

@@ -3,3 +3,4 @@ pub mod Filled
 pub mod Ascending
 pub mod RowSlots
 pub mod Renamed
+pub mod Spreads

@@ -9,8 +9,8 @@ use lib.Dec.{eqb, ltb}
 use borrow.Author.Tests.{ne-eqb, lt-ltb}
 use Rattle.engine.specs.declared.types.Association.{Association}
 use Rattle.model.specs.Lists.{keep, any, has}
 use Rattle.windows.specs.Rows.{slotIn}
-use Rattle.search.specs.Gathered.{picked, spread}
+use Rattle.windows.specs.Columns.{picked, spread}
 
 -- there is one id to each entry of a column that is above 0
 abbrev pub Fills : List ℕ → List ℕ → Type 0
