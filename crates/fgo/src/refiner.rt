@@ -1,4 +1,5 @@
 // The refiner: open, push, take and counters.
+use arrival::arrive;
 use emitting::emit;
 use engine::body;
 use engine::config::FgoConfig;
@@ -15,6 +16,7 @@ use memory::state::FixedLagRefiner;
 use memory::state::OWNERS;
 use memory::state::TRACKS;
 use model::moves::FgoCounters;
+use refusing::refuse;
 ghost use mathlib.Core.Path.{_≡_};
 ghost use Prim.Native.Nat.{_≤_};
 ghost use Rattle.engine.specs.Config.{legal};
@@ -23,8 +25,6 @@ ghost use Rattle.emitting.specs.Writing.{Roomy};
 ghost use Rattle.ledger.specs.Sound.{soundIn};
 ghost use Rattle.fgo.specs.Promise.{newBy, openedBy, refusedAs, roomy, pushAnswer, takeAnswer, releaseOf, Ends, countedBy};
 ghost use Rattle.arrival.specs.Arriving.{Ready};
-use arrival::arrive;
-use refusing::refuse;
 
 pub enum Answer {
     Refused(u8),

@@ -1,2 +1,2 @@
-// What the moves of the search would cost, and which is best.
+// What the rows of tracks cost, and what their windows go on from.
 pub mod price;

@@ -11,7 +11,7 @@ use Rattle.model.specs.Lists.{keep, consIf, any, upFrom}
 use Rattle.model.proofs.All.{mem-All}
 use Rattle.model.proofs.Counting.{any-All, or-right}
 use Rattle.windows.specs.Near.{closeAt, closeScans, anyClose}
-use Rattle.pricing.specs.Price.{cutAt, cutsOf}
+use Rattle.pair_moves.specs.Pair.{cutAt, cutsOf}
 use Rattle.windows.proofs.Filled.{map-up-length}
 use Rattle.search.proofs.CutTests.{or-left, same-answer}
 

@@ -17,7 +17,7 @@ use Rattle.model.specs.Searching.{close, isCut, cuts}
 use Rattle.model.specs.Rule.{All}
 use Rattle.model.proofs.Counting.{keep-append, keep-const}
 use Rattle.windows.specs.Near.{square, nearSlots, closeAt, closeScans}
-use Rattle.pricing.specs.Price.{cutAt, cutsOf}
+use Rattle.pair_moves.specs.Pair.{cutAt, cutsOf}
 use Rattle.search.specs.Pass.{Scene, viewOn, rowOn, closeOn}
 use Rattle.windows.specs.Columns.{putBack}
 use Rattle.windows.proofs.Filled.{map-up-length, map-up-at}

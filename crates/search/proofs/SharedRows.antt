@@ -11,7 +11,7 @@ use Rattle.model.specs.Lists.{has, upFrom}
 use Rattle.model.specs.Windows.{Scan, Prefix}
 use Rattle.model.specs.Searching.{shared}
 use Rattle.windows.specs.Rows.{Starts, columnAt, slotAt, rowOf}
-use Rattle.pricing.specs.Price.{bothHave, sharedRows}
+use Rattle.pair_moves.specs.Pair.{bothHave, sharedRows}
 use Rattle.search.specs.Pass.{Scene}
 use Rattle.windows.specs.Columns.{spread, putBack}
 use Rattle.search.proofs.Standing.{HeldFrom, Standing, SharedRows}

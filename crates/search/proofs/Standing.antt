@@ -16,7 +16,7 @@ use Rattle.model.specs.Searching.{afterPair, afterTrack, cuts, bestOfPair, best
 use Rattle.model.specs.Faithful.{Regular}
 use Rattle.model.specs.Rule.{All}
 use Rattle.windows.specs.Rows.{Starts, presentIn}
-use Rattle.pricing.specs.Price.{cutsOf, sharedRows}
+use Rattle.pair_moves.specs.Pair.{cutsOf, sharedRows}
 use Rattle.windows.specs.Moves.{pairIds, trackIds}
 use Rattle.search.specs.Pass.{Scene, viewOn, partOn, rowOn, closeOn, pairBest, trackBest}
 use Rattle.windows.specs.Columns.{picked, putBack}

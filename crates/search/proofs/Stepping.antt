@@ -14,7 +14,8 @@ use Rattle.model.specs.declared.moves.TrackMove.{TrackMove}
 use Rattle.model.specs.declared.moves.TrackMove.the-variants.{Split, Drop, Stay as Rest}
 use Rattle.windows.specs.declared.moves.Tally.{Tally}
 use Rattle.windows.specs.Rows.{Starts}
-use Rattle.pricing.specs.Price.{bestPairRow, bestTrackRow}
+use Rattle.pair_moves.specs.Pair.{bestPairRow}
+use Rattle.track_moves.specs.Track.{bestTrackRow}
 use Rattle.windows.specs.Moves.{pairIds, trackIds, pairStays, trackStays, pairTally, trackTally, nextId}
 use Rattle.search.specs.Pass.{Scene, Search, idOf, viewOn, partOn, rowOn, costOn, pairBest, pairMoved, pairStep, trackBest, trackMoved, trackStep}
 use Rattle.search.proofs.OtherRows.{pair-other, track-other}

@@ -25,7 +25,7 @@ use Rattle.model.specs.Faithful.{before, from, Regular}
 use Rattle.model.proofs.All.{All-keep, mem-All}
 use Rattle.model.proofs.Windows.{under-absent}
 use Rattle.model.proofs.Cutting.{swap-says, drop-says}
-use Rattle.pricing.specs.Price.{marked, marks, frozenOne, trySplitRow, tryDropRow, bestSplitRow, bestDropRow, bestTrackRow}
+use Rattle.track_moves.specs.Track.{marked, marks, frozenOne, trySplitRow, tryDropRow, bestSplitRow, bestDropRow, bestTrackRow}
 use Rattle.search.specs.Pass.{Scene, viewOn, partOn, rowOn}
 use Rattle.search.proofs.Standing.{Standing, PartsOk, WindowRow, TrackBest, scansNow}
 use Rattle.search.proofs.RowDets.{dets-scans, dets-at}

@@ -15,7 +15,7 @@ use Rattle.model.specs.declared.moves.TrackMove.the-variants.{Split, Drop, Stay
 use Rattle.model.specs.Windows.{Scan, Prefix}
 use Rattle.model.specs.Searching.{Search as Model, afterPair, afterTrack, countPair, countTrack, nextAfter, pairMoves, trackMoves, bestOfPair, bestOfTrack, pairStep as onPair, trackStep as onTrack}
 use Rattle.windows.specs.declared.moves.Tally.{Tally}
-use Rattle.pricing.specs.Price.{cutsOf}
+use Rattle.pair_moves.specs.Pair.{cutsOf}
 use Rattle.windows.specs.Moves.{oneMore, pairStays, trackStays, pairTally, trackTally}
 use Rattle.search.specs.Pass.{Scene, Search, pairBest, pairMoved, pairStep, trackBest, trackMoved, trackStep}
 use Rattle.search.proofs.Standing.{Standing, scansNow, Fits}

@@ -15,7 +15,8 @@ use Rattle.model.specs.Rule.{All}
 use Rattle.model.specs.Faithful.{before, from, joined, beside}
 use Rattle.model.proofs.All.{map-All}
 use Rattle.model.proofs.Counting.{eq-compare, lt-compare, gt-compare}
-use Rattle.pricing.specs.Price.{crossed, keptSlot, mergedRow}
+use Rattle.pricing.specs.Price.{crossed}
+use Rattle.pair_moves.specs.Pair.{keptSlot, mergedRow}
 use Rattle.search.proofs.RowDets.{dets-from, dets-before, dets-onward, dets-cut}
 
 -- ---- lists

@@ -15,7 +15,9 @@ use Rattle.pricing.specs.declared.price.Hall.{Hall}
 use Rattle.windows.specs.declared.moves.Tally.{Tally}
 use Rattle.windows.specs.Rows.{Starts, rowOf, presentIn}
 use Rattle.windows.specs.Near.{square, closeScans, anyClose}
-use Rattle.pricing.specs.Price.{viewIn, partAmong, rowCost, bestPairRow, bestTrackRow}
+use Rattle.pricing.specs.Price.{viewIn, partAmong, rowCost}
+use Rattle.pair_moves.specs.Pair.{bestPairRow}
+use Rattle.track_moves.specs.Track.{bestTrackRow}
 use Rattle.windows.specs.Moves.{pairIds, trackIds, pairStays, trackStays, begun, pairTally, trackTally}
 
 -- what a search changes

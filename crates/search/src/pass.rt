@@ -6,10 +6,12 @@ use costs::cost::LOGS;
 use costs::cost::SCANS;
 use engine::types::RefinedId;
 use model::moves::FgoCounters;
+use pair_moves::pair;
 use pricing::price;
 use pricing::price::FILTERS;
 use pricing::price::Hall;
 use pricing::price::TRACKS;
+use track_moves::track;
 use windows::moves;
 use windows::moves::Tally;
 use windows::near;
@@ -100,7 +102,7 @@ fn pair_step<'a>(
     let pa = price::part_of(a, hall.frozen, tracks, filters);
     let pb = price::part_of(b, hall.frozen, tracks, filters);
     let base = costs[i] + costs[j];
-    let m = price::best_of_pair(
+    let m = pair::best_of_pair(
         hall,
         RefinedId(a),
         RefinedId(b),
@@ -260,7 +262,7 @@ fn track_step<'a>(
     let mut row = [0usize; SCANS];
     rows::fill_row(a, starts, ids, &mut row);
     let p = price::part_of(a, hall.frozen, tracks, filters);
-    let m = price::best_of_track(hall, p, &row, base, dots, logs);
+    let m = track::best_of_track(hall, p, &row, base, dots, logs);
     if moves::track_stays(m) {
         return t;
     }

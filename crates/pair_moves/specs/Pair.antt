@@ -1,0 +1,84 @@
+-- The best move of a pair of rows: document 01's candidates, in its order. Definitions only.
+use Prim.Native.Nat.{ℕ, _+_, _-_}
+use mathlib.Core.Bool.{Bool, true, false, cond}
+use mathlib.Core.List.{List, [], _∷_, map, foldl}
+use lib.ListN.{getD, drop}
+use lib.Dec.{eqb}
+use lib.IntN.{pos}
+use lib.Ieee.{Float, binary64, ofInt}
+use Rattle.engine.specs.declared.config.FgoConfig.{FgoConfig}
+use Rattle.engine.specs.declared.types.RefinedId.{RefinedId}
+use Rattle.engine.specs.Config.{clutter}
+use Rattle.costs.specs.declared.cost.Fold.{Fold}
+use Rattle.costs.specs.Cost.{View, dets, cost}
+use Rattle.model.specs.declared.moves.PairMove.{PairMove}
+use Rattle.model.specs.declared.moves.PairMove.the-variants.{Stay, Swap, Merge}
+use Rattle.model.specs.Lists.{keep, upFrom}
+use Rattle.model.specs.Searching.{betterPair}
+use Rattle.pair_moves.specs.declared.pair.Heads.{Heads}
+use Rattle.pricing.specs.Price.{_⊕_, _⊖_, _⊗_, rowCost, crossed, scanAt, onTo}
+
+-- ---- rows
+
+-- of two detections in one scan the keeper's own is kept, or the other's
+abbrev pub keptSlot : Bool → ℕ → ℕ → ℕ
+keptSlot own x y = cond (eqb x 0) y (cond (eqb y 0) x (cond own x y))
+
+unfoldable pub mergedRow : Bool → List ℕ → List ℕ → List ℕ
+mergedRow own [] b = []
+mergedRow own (x ∷ a) [] = x ∷ a
+mergedRow own (x ∷ a) (y ∷ b) = keptSlot own x y ∷ mergedRow own a b
+
+abbrev pub bothHave : ℕ → ℕ → ℕ
+bothHave x y = cond (eqb x 0) 0 (cond (eqb y 0) 0 1)
+
+-- the scans that both rows have
+unfoldable pub sharedRows : List ℕ → List ℕ → ℕ
+sharedRows [] b = 0
+sharedRows (x ∷ a) [] = 0
+sharedRows (x ∷ a) (y ∷ b) = bothHave x y + sharedRows a b
+
+-- ---- the best move of a pair
+
+-- "The cuts of a pair are all its f and f + 1", of the scans noted
+abbrev pub cutAt : List Bool → ℕ → Bool
+cutAt close g = cond (getD close g false) true (cond (eqb g 0) false (getD close (g - 1) false))
+
+unfoldable pub cutsOf : List Bool → List ℕ
+cutsOf close = keep (cutAt close) (upFrom 0 18)
+
+-- "d = (new cost of a + new cost of b) − base"
+unfoldable pub trySwapRow : FgoConfig → View → Fold → Fold → List ℕ → List ℕ → Float → ℕ → PairMove
+trySwapRow c v pa pb a b base g = Swap (scanAt v g) (rowCost c v pa (crossed g a b) ⊕ rowCost c v pb (crossed g b a) ⊖ base)
+
+-- "d = (cost + losers·clutter_cost) − base"
+unfoldable pub tryMergeRow : FgoConfig → View → RefinedId → Bool → Fold → List ℕ → List ℕ → ℕ → Float → PairMove
+tryMergeRow c v k own p a b lost base = Merge k own (rowCost c v p (mergedRow own a b) ⊕ ofInt binary64 (pos lost) ⊗ clutter c ⊖ base)
+
+unfoldable pub bestSwapRow : FgoConfig → View → Fold → Fold → List Bool → List ℕ → List ℕ → Float → PairMove
+bestSwapRow c v pa pb close a b base = foldl betterPair Stay (map (trySwapRow c v pa pb a b base) (cutsOf close))
+
+-- "For each keeper there are two forms": "first the keeper's own detections are kept, then the other track's"
+unfoldable pub betterMerge : FgoConfig → View → RefinedId → Fold → List ℕ → List ℕ → Float → PairMove → PairMove
+betterMerge c v k p a b base best =
+    let lost = sharedRows a b in
+    betterPair (betterPair best (tryMergeRow c v k true p a b lost base)) (tryMergeRow c v k false p a b lost base)
+
+-- "Merges are tried next, with a as the keeper and then with b"
+unfoldable pub bestPairRow : FgoConfig → View → RefinedId → RefinedId → Fold → Fold → List Bool → List ℕ → List ℕ → Float → PairMove
+bestPairRow c v x y pa pb close a b base =
+    betterMerge c v y pb b a base (betterMerge c v x pa a b base (bestSwapRow c v pa pb close a b base))
+
+-- ---- heads: the folds over the scans before a cut are kept and go on to the next cut
+
+-- the swap at cut g, by the heads of both rows
+unfoldable pub triedSwap : FgoConfig → View → List ℕ → List ℕ → Float → Heads → ℕ → Heads
+triedSwap c v a b base h g =
+    let ha = onTo c v (h .done) g a (h .a) in
+    let hb = onTo c v (h .done) g b (h .b) in
+    record {
+      best = betterPair (h .best) (Swap (scanAt v g) (cost c ha (dets v g (drop g b)) ⊕ cost c hb (dets v g (drop g a)) ⊖ base));
+      a = ha;
+      b = hb;
+      done = g;
+    }

@@ -1,0 +1,61 @@
+-- `track_moves::track::length_of` meets its contract. Assumes nothing.
+use borrow.Author.Tests.{lt-ltb, le-ltb}
+use mathlib.Core.Path.{_≡_, ap}
+use mathlib.Core.Logic.{⊎-elim}
+use Prim.Native.Nat.{_+_, _-_, _≤_}
+use native.Mathlib.Nat.{zero-add}
+use native.Mathlib.Omega.{arith}
+use lib.ListN.{length}
+use Rattle.track_moves.specs.Track.{marked, marks}
+use Rattle.pricing.proofs.Left.{left, left-yes, left-no, left-none}
+use Rattle.track_moves.proofs.track.length_of.Statement.{statement}
+use Rattle.track_moves.proofs.track.length_of.Tie as tie
+
+abbrev Inv-loop : tie.InvT-loop
+Inv-loop row n₀ k₀ n k = (k ≤ 17) × (n ≤ k) × (n + length (left (marked row) 17 k) ≡ length (marks row))
+
+abbrev μ-loop : tie.MeasureT-loop
+μ-loop row n₀ k₀ n k = 17 - k
+
+loop-holds : tie.Need-loop-holds Inv-loop μ-loop
+unfolding marks
+loop-holds c = (omega arith, omega arith, zero-add (length (marks (c .args .row .now))))
+
+mul-if1 : tie.Need-mul-if1 Inv-loop μ-loop
+mul-if1 c = omega arith
+
+element-copy-out-if1 : tie.Need-element-copy-out-if1 Inv-loop μ-loop
+element-copy-out-if1 c = omega arith
+
+add-n : tie.Need-add-n Inv-loop μ-loop
+add-n c = omega arith
+
+add-k : tie.Need-add-k Inv-loop μ-loop
+add-k c = omega arith
+
+loop-less : tie.Need-loop-less Inv-loop μ-loop
+loop-less c = omega arith
+
+loop-again : tie.Need-loop-again Inv-loop μ-loop
+loop-again c = ⊎-elim
+    (λ w. let e = ap length (left-yes (marked (c .before .before .before .before .args .row .now)) 17 (c .before .before .before .loop .k) (omega arith) (lt-ltb _ _ (w .0 .taken))) in let q = w .1 in (omega arith, omega arith, omega arith))
+    (λ w. let e = ap length (left-no (marked (c .before .before .before .before .args .row .now)) 17 (c .before .before .before .loop .k) (omega arith) (le-ltb _ _ (w .0 .left))) in let q = w .1 in (omega arith, omega arith, omega arith))
+    (c .if1 .came)
+
+returns : tie.Need-returns Inv-loop μ-loop
+returns c = let e = ap length (left-none (marked (c .before .before .args .row .now)) 17 (c .before .loop .k) (omega arith)) in omega arith
+
+pub length-of-spec : {M : Type 1} → statement M
+length-of-spec =
+    tie.close
+    (tie.spec
+    Inv-loop
+    μ-loop
+    loop-holds
+    mul-if1
+    element-copy-out-if1
+    add-n
+    add-k
+    loop-less
+    loop-again
+    returns)

@@ -1,0 +1,78 @@
+-- The best move of one row: document 01's candidates, in its order. Definitions only.
+use Prim.Native.Nat.{ℕ, suc, _+_}
+use mathlib.Core.Bool.{Bool, cond}
+use mathlib.Core.List.{List, _++_, map, foldl}
+use lib.ListN.{length, getD, take, drop}
+use lib.Dec.{ltb}
+use lib.Ieee.{Float}
+use Rattle.engine.specs.declared.config.FgoConfig.{FgoConfig}
+use Rattle.engine.specs.Config.{clutter}
+use Rattle.costs.specs.declared.cost.Fold.{Fold}
+use Rattle.costs.specs.declared.cost.Fold.the-variants.{Fresh, Frozen, Going}
+use Rattle.costs.specs.Cost.{View, dets, closed, cost}
+use Rattle.model.specs.declared.moves.TrackMove.{TrackMove}
+use Rattle.model.specs.declared.moves.TrackMove.the-variants.{Split, Drop, Stay as Rest}
+use Rattle.model.specs.Lists.{keep, upFrom}
+use Rattle.model.specs.Searching.{betterTrack}
+use Rattle.track_moves.specs.declared.track.Head.{Head}
+use Rattle.pricing.specs.Price.{_⊕_, _⊖_, rowCost, scanAt, onTo}
+
+-- ---- rows
+
+abbrev pub marked : List ℕ → ℕ → Bool
+marked r k = ltb 0 (getD r k 0)
+
+-- the scans in which a row has a detection
+unfoldable pub marks : List ℕ → List ℕ
+marks r = keep (marked r) (upFrom 0 17)
+
+-- ---- the best move of a track
+
+-- "d = (cost of the head + cost of the tail) − base"; "The tail has no frozen part"
+unfoldable pub trySplitRow : FgoConfig → View → Fold → List ℕ → Float → ℕ → TrackMove
+trySplitRow c v p r base k = Split (scanAt v k) (rowCost c v p (take k r) ⊕ cost c Fresh (dets v k (drop k r)) ⊖ base)
+
+-- "d = (cost + clutter_cost) − base"
+unfoldable pub tryDropRow : FgoConfig → View → Fold → List ℕ → Float → ℕ → TrackMove
+tryDropRow c v p r base k = Drop (scanAt v k) (cost c p (dets v 0 (take k r) ++ dets v (suc k) (drop (suc k) r)) ⊕ clutter c ⊖ base)
+
+abbrev pub frozenOne : Fold → ℕ
+frozenOne Fresh = 0
+frozenOne (Frozen k l) = 1
+frozenOne (Going s) = 1
+
+-- "Splits of the window are tried after its detection 1, 2 and so on"
+unfoldable pub bestSplitRow : FgoConfig → View → Fold → List ℕ → Float → TrackMove
+bestSplitRow c v p r base = foldl betterTrack Rest (map (trySplitRow c v p r base) (drop 1 (marks r)))
+
+-- "the drop of each single detection is tried"
+unfoldable pub bestDropRow : FgoConfig → View → Fold → List ℕ → Float → TrackMove → TrackMove
+bestDropRow c v p r base best = foldl betterTrack best (map (tryDropRow c v p r base) (marks r))
+
+-- "if the window's length, plus 1 where there is a frozen part, exceeds 1"
+unfoldable pub bestTrackRow : FgoConfig → View → Fold → List ℕ → Float → TrackMove
+bestTrackRow c v p r base =
+    let best = bestSplitRow c v p r base in
+    cond (ltb 1 (length (marks r) + frozenOne p)) (bestDropRow c v p r base best) best
+
+-- ---- heads: the folds over the scans before a cut are kept and go on to the next cut
+
+-- the split before scan k, by the head
+unfoldable pub triedSplit : FgoConfig → View → List ℕ → Float → Head → ℕ → Head
+triedSplit c v r base h k =
+    let f = onTo c v (h .done) k r (h .fold) in
+    record {
+      best = betterTrack (h .best) (Split (scanAt v k) (closed c f ⊕ cost c Fresh (dets v k (drop k r)) ⊖ base));
+      fold = f;
+      done = k;
+    }
+
+-- the drop of the detection in scan k, by the head
+unfoldable pub triedDrop : FgoConfig → View → List ℕ → Float → Head → ℕ → Head
+triedDrop c v r base h k =
+    let f = onTo c v (h .done) k r (h .fold) in
+    record {
+      best = betterTrack (h .best) (Drop (scanAt v k) (cost c f (dets v (suc k) (drop (suc k) r)) ⊕ clutter c ⊖ base));
+      fold = f;
+      done = k;
+    }
