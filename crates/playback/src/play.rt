@@ -1,4 +1,4 @@
-// A recording, played: every frame is pushed to the refiner, at the end all are taken, then all from the smoother if there is one; last are the counters.
+// A recording, played: every frame is pushed to the refiner, at the end all are taken, then all from the smoother, if there is one; last come the counters.
 use crate::print;
 use crate::sink;
 use crate::sink::NUMBERS;
@@ -94,7 +94,7 @@ fn put_step<'a, 'b, 'c, 'd, 'e, 'f>(
     Player { refiner, printer }
 }
 
-// All the steps with a recording of n frames: at its end at most a lag of frames is held.
+// All the steps with a recording of n frames. When the last is pushed at most LAG are held.
 fn steps<'a, 'b, 'c, 'd, 'e, 'f, 'g, 'h, 'i, 'j, 'k>(
     first: Player,
     s: &'k [u8],
@@ -127,7 +127,7 @@ fn steps<'a, 'b, 'c, 'd, 'e, 'f, 'g, 'h, 'i, 'j, 'k>(
     p
 }
 
-// The line of the counters, or of their refusal.
+// The line of the counters.
 fn put_counted(out: &mut [u8; ROOM], at: usize, k: Counted) -> usize {
     match k {
         Counted::Refused(code) => lines::put_refused(out, at, code),
@@ -135,7 +135,14 @@ fn put_counted(out: &mut [u8; ROOM], at: usize, k: Counted) -> usize {
     }
 }
 
-// A run over a recording of n frames: all the steps, what a smoother then holds, and the counters.
+// The line of a refusal alone.
+fn put_refusal(code: u8) {
+    let mut out = [0u8; ROOM];
+    let n = lines::put_refused(&mut out, 0, code);
+    lines::flush(&out, n);
+}
+
+// A recording of n frames, played from this start: all the steps, then what a smoother holds, then the counters.
 fn run<'a, 'b, 'c>(
     s: &'c [u8],
     n: usize,
@@ -176,7 +183,7 @@ fn run<'a, 'b, 'c>(
     lines::flush(&out, end);
 }
 
-// A run without a smoother.
+// A recording of n frames, played without a smoother.
 fn run_plain(s: &[u8], n: usize, refiner: FixedLagRefiner, sink: Sink)
     requires { ⌜ n ≤ 256 ⌝ }
 {
@@ -187,14 +194,7 @@ fn run_plain(s: &[u8], n: usize, refiner: FixedLagRefiner, sink: Sink)
     run(s, n, first, &mut window, &mut values);
 }
 
-// The line of a refusal alone.
-fn put_refusal(code: u8) {
-    let mut out = [0u8; ROOM];
-    let n = lines::put_refused(&mut out, 0, code);
-    lines::flush(&out, n);
-}
-
-// A run with a smoother of the refiner's lag and density, over this window.
+// Played with a smoother of the refiner's lag and density over this window; or the smoother's refusal.
 fn run_over<'a, 'b, 'c>(
     s: &'c [u8],
     n: usize,
@@ -228,7 +228,7 @@ fn slots_of(lag: usize) -> usize
     lag % 17 + 1
 }
 
-// The same with as much of a window as the lag asks for.
+// The same over as much of the longest window as the lag asks for.
 fn run_smoothed(s: &[u8], n: usize, refiner: FixedLagRefiner)
     requires { ⌜ n ≤ 256 ⌝ }
 {
@@ -240,7 +240,7 @@ fn run_smoothed(s: &[u8], n: usize, refiner: FixedLagRefiner)
     run_over(s, n, refiner, &mut window[..w], &mut values[..x]);
 }
 
-// A run in the form that is asked for.
+// Played in the form that is asked for.
 fn run_as(s: &[u8], n: usize, refiner: FixedLagRefiner, form: Form)
     requires { ⌜ n ≤ 256 ⌝ }
 {
@@ -257,7 +257,7 @@ fn run_as(s: &[u8], n: usize, refiner: FixedLagRefiner, form: Form)
     }
 }
 
-// A run with these settings.
+// Played with these settings; or their refusal.
 fn open(s: &[u8], n: usize, config: FgoConfig, form: Form)
     requires { ⌜ n ≤ 256 ⌝ }
 {

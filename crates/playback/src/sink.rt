@@ -1,4 +1,7 @@
 // Where the refiner's frames go: to standard output, in short or in full; or to a smoother, whose frames are printed in full.
+//
+// A frame that the refiner emits stands at the front of fw and fx. A smoother has its window in window and values, which are empty where there is none, and
+// writes its frames to words and numbers.
 use crate::print;
 use fgo::refiner::Answer;
 use lines::ROOM;
@@ -15,7 +18,7 @@ pub enum Sink {
     Smoother(FixedLagSmoother),
 }
 
-// A sink, and the bytes gathered for output.
+// A sink, and how many bytes are gathered for output.
 pub struct Printer {
     pub sink: Sink,
     pub gathered: usize,
@@ -116,7 +119,7 @@ fn put_frame<'a, 'b, 'c, 'd, 'e, 'f>(
     }
 }
 
-// The line of a refusal; nothing where a frame is held; or the frame at the front of fw and fx, to where it goes.
+// The line of a refusal; nothing where a frame is held; or so many words and numbers of a frame, to where it goes.
 pub fn put_answer<'a, 'b, 'c, 'd, 'e, 'f>(
     p: Printer,
     answer: Answer,
