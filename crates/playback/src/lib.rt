@@ -1,3 +1,4 @@
-// Plays a recording through the refiner and prints what comes out.
+// Plays a recording through the refiner, and where it is asked for through the smoother, and prints what comes out.
 pub mod play;
 pub mod print;
+mod sink;

@@ -1,10 +1,17 @@
-// A recording, played: every frame is pushed, at the end all are taken, then the counters are printed.
+// A recording, played: every frame is pushed to the refiner, at the end all are taken, then all from the smoother, if there is one; last come the counters.
 use crate::print;
+use crate::sink;
+use crate::sink::NUMBERS;
+use crate::sink::Printer;
+use crate::sink::Sink;
+use crate::sink::WORDS;
 use engine::config::FgoConfig;
 use fgo::refiner;
 use fgo::refiner::Answer;
 use fgo::refiner::Counted;
 use fgo::refiner::Opened;
+use fgo::refiner::Pushed;
+use libc::STDIN_FILENO;
 use lines::ROOM;
 use memory::state::BODIES;
 use memory::state::COLUMNS;
@@ -13,229 +20,119 @@ use memory::state::FixedLagRefiner;
 use memory::state::OWNERS;
 use memory::state::TRACKS;
 use recording::Contents;
+use smoother::FixedLagSmoother;
+ghost use Prim.Native.Nat.{_≤_};
 
-// The words and numbers of the longest frame.
-const WORDS: usize = 910;
+// How the frames are printed: as the refiner emits them, in short or in full; or smoothed, in full.
+pub enum Form {
+    Short,
+    Full,
+    Smoothed,
+}
 
-const NUMBERS: usize = 5408;
+// The longest lag.
+const LAG: usize = 16;
 
-// Where a run stands: the refiner, and the bytes gathered for output.
+// A smoother's window for the longest lag: 17 frames.
+const WINDOW: usize = 15470;
+
+const VALUES: usize = 91936;
+
+// The most tracks of a frame.
+const MOST: usize = 128;
+
+// A recording of the greatest length, and one byte that tells a longer one.
+const RECORDING: usize = 65537;
+
+// Where a run stands: the refiner, and what is printed of its answers.
 struct Player {
     refiner: FixedLagRefiner,
-    gathered: usize,
+    printer: Printer,
 }
 
-// The line of a refusal; nothing where a frame is held; or a frame, in full or in short.
-fn put_answer<'a>(
-    out: &mut [u8; ROOM],
-    n: usize,
-    full: bool,
-    answer: Answer,
-    words: &'a [u64],
-    numbers: &'a [f64],
-) -> usize {
-    match answer {
-        Answer::Refused(code) => lines::put_refused(out, n, code),
-        Answer::Held => n,
-        Answer::Frame {
-            words: w,
-            numbers: x,
-        } => {
-            if full {
-                return lines::put_front(out, n, words, w, numbers, x);
-            }
-            print::put_frame(out, n, words, numbers)
-        }
-    }
-}
-
-// Frame i of a recording, pushed.
-fn push_one<'a, 'b, 'c, 'd, 'e, 'f, 'g, 'h, 'i>(
-    p: Player,
-    s: &'g [u8],
+// Step i with a recording of n frames: frame i is pushed; past the last, the oldest frame held is taken, if there is one.
+fn step<'a, 'b, 'c, 'd, 'e, 'f, 'g, 'h>(
+    r: FixedLagRefiner,
+    s: &'h [u8],
     i: usize,
-    full: bool,
+    n: usize,
     bodies: &'a mut [u8; BODIES],
     columns: &'b mut [u64; COLUMNS],
     owners: &'c mut [u64; OWNERS],
     tracks: &'d mut [u64; TRACKS],
     filters: &'e mut [f64; FILTERS],
-    words: &'h mut [u64; WORDS],
-    numbers: &'i mut [f64; NUMBERS],
-    out: &'f mut [u8; ROOM],
-) -> Player {
-    let r = p.refiner;
-    let body = recording::frame_at(s, i);
-    let t = refiner::push(
-        r,
-        body,
-        bodies,
-        columns,
-        owners,
-        tracks,
-        filters,
-        words,
-        numbers,
-    );
-    let answer = t.answer;
-    let gathered = put_answer(out, p.gathered, full, answer, words, numbers);
-    let next = t.refiner;
-    Player {
-        refiner: next,
-        gathered,
+    fw: &'f mut [u64],
+    fx: &'g mut [f64],
+) -> Pushed {
+    if i < n {
+        let body = recording::frame_at(s, i);
+        return refiner::push(r, body, bodies, columns, owners, tracks, filters, fw, fx);
     }
+    if r.held == 0 {
+        let answer = Answer::Held;
+        return Pushed { answer, refiner: r };
+    }
+    refiner::take(r, bodies, columns, owners, tracks, filters, fw, fx)
 }
 
-// Every frame of a recording, pushed.
-fn push_all<'a, 'b, 'c, 'd, 'e, 'f, 'g, 'h, 'i>(
-    first: Player,
-    s: &'g [u8],
-    count: usize,
-    full: bool,
-    bodies: &'a mut [u8; BODIES],
-    columns: &'b mut [u64; COLUMNS],
-    owners: &'c mut [u64; OWNERS],
-    tracks: &'d mut [u64; TRACKS],
-    filters: &'e mut [f64; FILTERS],
-    words: &'h mut [u64; WORDS],
-    numbers: &'i mut [f64; NUMBERS],
-    out: &'f mut [u8; ROOM],
-) -> Player {
-    let mut p = first;
-    let mut i: usize = 0;
-    while i < count {
-        p = push_one(
-            p,
-            s,
-            i,
-            full,
-            bodies,
-            columns,
-            owners,
-            tracks,
-            filters,
-            words,
-            numbers,
-            out,
-        );
-        i += 1;
-    }
-    p
-}
-
-// The oldest frame held, taken.
-fn take_one<'a, 'b, 'c, 'd, 'e, 'f, 'g>(
+// A run after a step of the refiner, whose answer is printed.
+fn put_step<'a, 'b, 'c, 'd, 'e, 'f>(
     p: Player,
-    full: bool,
-    bodies: &'e [u8; BODIES],
-    columns: &'e [u64; COLUMNS],
-    owners: &'a mut [u64; OWNERS],
-    tracks: &'b mut [u64; TRACKS],
-    filters: &'c mut [f64; FILTERS],
-    words: &'f mut [u64; WORDS],
-    numbers: &'g mut [f64; NUMBERS],
-    out: &'d mut [u8; ROOM],
+    t: Pushed,
+    fw: &'f [u64],
+    fx: &'f [f64],
+    window: &'a mut [u64],
+    values: &'b mut [f64],
+    words: &'c mut [u64; WORDS],
+    numbers: &'d mut [f64; NUMBERS],
+    out: &'e mut [u8; ROOM],
 ) -> Player {
-    let r = p.refiner;
-    let t = refiner::take(r, bodies, columns, owners, tracks, filters, words, numbers);
+    let refiner = t.refiner;
     let answer = t.answer;
-    let gathered = put_answer(out, p.gathered, full, answer, words, numbers);
-    let next = t.refiner;
-    Player {
-        refiner: next,
-        gathered,
-    }
+    let last = p.printer;
+    let printer = sink::put_answer(last, answer, fw, fx, window, values, words, numbers, out);
+    Player { refiner, printer }
 }
 
-// Every frame still held, taken: as many as there are when the taking begins.
-fn take_all<'a, 'b, 'c, 'd, 'e, 'f, 'g>(
+// All the steps with a recording of n frames. When the last is pushed at most LAG are held.
+fn steps<'a, 'b, 'c, 'd, 'e, 'f, 'g, 'h, 'i, 'j, 'k>(
     first: Player,
-    held: usize,
-    full: bool,
-    bodies: &'e [u8; BODIES],
-    columns: &'e [u64; COLUMNS],
-    owners: &'a mut [u64; OWNERS],
-    tracks: &'b mut [u64; TRACKS],
-    filters: &'c mut [f64; FILTERS],
-    words: &'f mut [u64; WORDS],
-    numbers: &'g mut [f64; NUMBERS],
-    out: &'d mut [u8; ROOM],
-) -> Player {
+    s: &'k [u8],
+    n: usize,
+    bodies: &'a mut [u8; BODIES],
+    columns: &'b mut [u64; COLUMNS],
+    owners: &'c mut [u64; OWNERS],
+    tracks: &'d mut [u64; TRACKS],
+    filters: &'e mut [f64; FILTERS],
+    window: &'f mut [u64],
+    values: &'g mut [f64],
+    words: &'h mut [u64; WORDS],
+    numbers: &'i mut [f64; NUMBERS],
+    out: &'j mut [u8; ROOM],
+) -> Player
+    requires { ⌜ n ≤ 256 ⌝ }
+{
+    let mut frame_words = [0u64; WORDS];
+    let mut frame_numbers = [0.0; NUMBERS];
+    let fw: &mut [u64] = &mut frame_words;
+    let fx: &mut [f64] = &mut frame_numbers;
     let mut p = first;
     let mut i: usize = 0;
-    while i < held {
-        p = take_one(
-            p,
-            full,
-            bodies,
-            columns,
-            owners,
-            tracks,
-            filters,
-            words,
-            numbers,
-            out,
-        );
+    while i < n + LAG {
+        let r = p.refiner;
+        let t = step(r, s, i, n, bodies, columns, owners, tracks, filters, fw, fx);
+        p = put_step(p, t, fw, fx, window, values, words, numbers, out);
         i += 1;
     }
     p
 }
 
 // The line of the counters.
-fn put_counted(out: &mut [u8; ROOM], n: usize, k: Counted) -> usize {
+fn put_counted(out: &mut [u8; ROOM], at: usize, k: Counted) -> usize {
     match k {
-        Counted::Refused(code) => lines::put_refused(out, n, code),
-        Counted::Moves(moves) => print::put_counters(out, n, moves),
+        Counted::Refused(code) => lines::put_refused(out, at, code),
+        Counted::Moves(moves) => print::put_counters(out, at, moves),
     }
-}
-
-// The frames, then what is held, then the counters.
-fn run(s: &[u8], count: usize, refiner: FixedLagRefiner, full: bool) {
-    let mut bodies = [0u8; BODIES];
-    let mut columns = [0u64; COLUMNS];
-    let mut owners = [0u64; OWNERS];
-    let mut tracks = [0u64; TRACKS];
-    let mut filters = [0.0; FILTERS];
-    let mut words = [0u64; WORDS];
-    let mut numbers = [0.0; NUMBERS];
-    let mut out = [0u8; ROOM];
-    let first = Player {
-        refiner,
-        gathered: 0,
-    };
-    let p = push_all(
-        first,
-        s,
-        count,
-        full,
-        &mut bodies,
-        &mut columns,
-        &mut owners,
-        &mut tracks,
-        &mut filters,
-        &mut words,
-        &mut numbers,
-        &mut out,
-    );
-    let held = p.refiner.held;
-    let q = take_all(
-        p,
-        held,
-        full,
-        &bodies,
-        &columns,
-        &mut owners,
-        &mut tracks,
-        &mut filters,
-        &mut words,
-        &mut numbers,
-        &mut out,
-    );
-    let n = q.gathered;
-    let r = q.refiner;
-    let k = refiner::counters(r, &bodies, &columns, &owners, &tracks);
-    let at = put_counted(&mut out, n, k);
-    lines::flush(&out, at);
 }
 
 // The line of a refusal alone.
@@ -245,27 +142,152 @@ fn put_refusal(code: u8) {
     lines::flush(&out, n);
 }
 
-fn open(s: &[u8], config: FgoConfig, count: usize, full: bool) {
+// A recording of n frames, played from this start: all the steps, then what a smoother holds, then the counters.
+fn run<'a, 'b, 'c>(
+    s: &'c [u8],
+    n: usize,
+    first: Player,
+    window: &'a mut [u64],
+    values: &'b mut [f64],
+)
+    requires { ⌜ n ≤ 256 ⌝ }
+{
+    let mut bodies = [0u8; BODIES];
+    let mut columns = [0u64; COLUMNS];
+    let mut owners = [0u64; OWNERS];
+    let mut tracks = [0u64; TRACKS];
+    let mut filters = [0.0; FILTERS];
+    let mut words = [0u64; WORDS];
+    let mut numbers = [0.0; NUMBERS];
+    let mut out = [0u8; ROOM];
+    let p = steps(
+        first,
+        s,
+        n,
+        &mut bodies,
+        &mut columns,
+        &mut owners,
+        &mut tracks,
+        &mut filters,
+        window,
+        values,
+        &mut words,
+        &mut numbers,
+        &mut out,
+    );
+    let printer = p.printer;
+    let at = sink::put_rest(printer, window, values, &mut words, &mut numbers, &mut out);
+    let r = p.refiner;
+    let k = refiner::counters(r, &bodies, &columns, &owners, &tracks);
+    let end = put_counted(&mut out, at, k);
+    lines::flush(&out, end);
+}
+
+// A recording of n frames, played without a smoother.
+fn run_plain(s: &[u8], n: usize, refiner: FixedLagRefiner, sink: Sink)
+    requires { ⌜ n ≤ 256 ⌝ }
+{
+    let mut window = [0u64; 0];
+    let mut values = [0.0; 0];
+    let printer = Printer { sink, gathered: 0 };
+    let first = Player { refiner, printer };
+    run(s, n, first, &mut window, &mut values);
+}
+
+// Played with a smoother of the refiner's lag and density over this window; or the smoother's refusal.
+fn run_over<'a, 'b, 'c>(
+    s: &'c [u8],
+    n: usize,
+    refiner: FixedLagRefiner,
+    window: &'a mut [u64],
+    values: &'b mut [f64],
+)
+    requires { ⌜ n ≤ 256 ⌝ }
+{
+    let c = refiner.config;
+    let o = FixedLagSmoother::open(c.lag_frames, c.accel_spectral_density, MOST, window, values);
+    match o {
+        smoother::Opened::Refused(code) => {
+            put_refusal(code);
+        }
+        smoother::Opened::Ready(state) => {
+            let printer = Printer {
+                sink: Sink::Smoother(state),
+                gathered: 0,
+            };
+            let first = Player { refiner, printer };
+            run(s, n, first, window, values);
+        }
+    }
+}
+
+// How many frames a window has, for a lag in bounds.
+fn slots_of(lag: usize) -> usize
+    ensures { λ r. ⌜ r ≤ 17 ⌝ }
+{
+    lag % 17 + 1
+}
+
+// The same over as much of the longest window as the lag asks for.
+fn run_smoothed(s: &[u8], n: usize, refiner: FixedLagRefiner)
+    requires { ⌜ n ≤ 256 ⌝ }
+{
+    let mut window = [0u64; WINDOW];
+    let mut values = [0.0; VALUES];
+    let slots = slots_of(refiner.config.lag_frames);
+    let w = WORDS * slots;
+    let x = NUMBERS * slots;
+    run_over(s, n, refiner, &mut window[..w], &mut values[..x]);
+}
+
+// Played in the form that is asked for.
+fn run_as(s: &[u8], n: usize, refiner: FixedLagRefiner, form: Form)
+    requires { ⌜ n ≤ 256 ⌝ }
+{
+    match form {
+        Form::Short => {
+            run_plain(s, n, refiner, Sink::Short);
+        }
+        Form::Full => {
+            run_plain(s, n, refiner, Sink::Full);
+        }
+        Form::Smoothed => {
+            run_smoothed(s, n, refiner);
+        }
+    }
+}
+
+// Played with these settings; or their refusal.
+fn open(s: &[u8], n: usize, config: FgoConfig, form: Form)
+    requires { ⌜ n ≤ 256 ⌝ }
+{
     let o = refiner::open(config);
     match o {
         Opened::Refused(code) => {
             put_refusal(code);
         }
         Opened::Ready(r) => {
-            run(s, count, r, full);
+            run_as(s, n, r, form);
         }
     }
 }
 
-// A recording, played; its frames are printed in full or in short.
-pub fn play(s: &[u8], full: bool) {
+// A recording, played; its frames are printed in that form.
+pub fn play(s: &[u8], form: Form) {
     let c = recording::contents_of(s);
     match c {
         Contents::Refused(code) => {
             put_refusal(code);
         }
         Contents::Frames { config, count } => {
-            open(s, config, count, full);
+            open(s, count, config, form);
         }
     }
+}
+
+// The recording on standard input, played.
+pub fn play_input(form: Form) {
+    let mut buffer = [0u8; RECORDING];
+    let n = io::read_full(STDIN_FILENO, &mut buffer);
+    play(&buffer[..n], form);
 }

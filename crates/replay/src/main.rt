@@ -3,6 +3,7 @@
 use engine::little;
 use libc::STDIN_FILENO;
 use playback::play;
+use playback::play::Form;
 
 fn play_all(s: &[u8]) {
     let mut at = 0;
@@ -16,7 +17,7 @@ fn play_all(s: &[u8]) {
             return;
         }
         at = from + size;
-        play::play(&s[from..at], true);
+        play::play(&s[from..at], Form::Full);
     }
 }
 
