@@ -20,8 +20,8 @@ sub-if1 c = search needs
 returns : tie.Need-returns Inv-loop μ-loop
 returns c = search needs
 
-u16-at-requires : tie.Need-u16-at-requires Inv-loop μ-loop
-u16-at-requires c κs = search needs
+u32-at-requires : tie.Need-u32-at-requires Inv-loop μ-loop
+u32-at-requires c κs = search needs
 
 add-from : tie.Need-add-from Inv-loop μ-loop
 add-from c = search needs
@@ -65,7 +65,7 @@ play-all-spec =
     loop-holds
     sub-if1
     returns
-    u16-at-requires
+    u32-at-requires
     add-from
     sub-if2
     returns-2
