@@ -14,7 +14,8 @@ ghost use Rattle.memory.specs.Memory.{ownersIn};
 ghost use Rattle.ledger.specs.Sound.{Starts, keptOwners};
 ghost use Rattle.memory.specs.Gathering.{heldLatest};
 
-// The owners, each changed to the holder of the latest detection of its engine id, if a window has one.
+// The owners, each changed to the holder of the latest detection of its engine id, if a window has one. It asks for 256 owners, 17 scans and 128 detections
+// at most.
 pub fn hold_latest<'a>(
     owners: &mut [u64; OWNERS],
     owned: usize,

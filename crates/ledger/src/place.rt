@@ -123,7 +123,7 @@ fn place_one<'a>(
     }
 }
 
-// The associations of a frame, in order: the ids of their tracks.
+// The associations of a frame, in order: the ids of their tracks. The body must pass, and the next id be below 2^62.
 pub fn place_all<'a>(
     s: &[u8],
     owned: usize,

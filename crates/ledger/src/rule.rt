@@ -154,7 +154,7 @@ fn count_in(columns: &[u64; COLUMNS], n: ScanIndex, m: usize) -> usize
     w
 }
 
-// Detections in windows.
+// Detections in windows, of 17 held scans at most, whose numbers are below 2^32.
 pub fn window_count<'a>(
     bodies: &'a [u8; BODIES],
     columns: &'a [u64; COLUMNS],

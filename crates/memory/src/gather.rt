@@ -75,7 +75,8 @@ fn fill_starts(starts: &mut [usize], from: usize, p: usize)
     }
 }
 
-// The detections in windows of the held scans, and the number of those before each scan; how many they are.
+// The detections in windows of the held scans, and the number of those before each scan; how many they are. It asks for 17 scans and 128 detections at most,
+// and bodies that pass.
 pub fn gather<'a, 'b, 'c, 'd>(
     bodies: &'d [u8; BODIES],
     columns: &'d [u64; COLUMNS],
@@ -139,7 +140,7 @@ fn dot_scan<'a, 'b>(
     p
 }
 
-// The numbers of the detections in windows of the held scans.
+// The numbers of the detections in windows of the held scans. It asks what `gather` asks.
 pub fn gather_dots<'a, 'b>(
     c: FgoConfig,
     bodies: &'b [u8; BODIES],
@@ -185,7 +186,7 @@ fn scatter_scan<'a, 'b>(
     p
 }
 
-// The ids of the held scans, put back.
+// The ids of the held scans, put back. It asks what `gather` asks.
 pub fn scatter<'a, 'b>(
     bodies: &'b [u8; BODIES],
     columns: &'a mut [u64; COLUMNS],

@@ -133,7 +133,7 @@ fn kf_at(filters: &[f64; FILTERS], o: usize) -> Kf
     }
 }
 
-// Frozen part k.
+// Frozen part k, which is below 128.
 pub fn prefix_at<'a>(tracks: &'a [u64; TRACKS], filters: &'a [f64; FILTERS], k: usize) -> Prefix
     requires { ⌜ k < 128 ⌝ }
     ensures { λ r. ⌜ partOf r ≡ prefixIn (now (tracks .entry)) (now (filters .entry)) k ⌝ }
@@ -198,7 +198,7 @@ fn numbers_at(filters: &[f64; FILTERS], k: usize) -> [f64; 13]
     ]
 }
 
-// Words over others, from place o on.
+// Words over others, from place o on; they must fit.
 pub fn put_words<'a, 'b>(out: &'a mut [u64], o: usize, src: &'b [u64])
     requires { ⌜ o + length (now src) ≤ length (now out) ⌝ }
     ensures { λ _. ⌜ now (out .exit) ≡ over o (now (src .entry)) (now (out .entry)) ⌝ }
@@ -222,7 +222,7 @@ pub fn put_numbers<'a, 'b>(out: &'a mut [f64], o: usize, src: &'b [f64])
     }
 }
 
-// Frozen part `from` over the part `to`.
+// Frozen part `from` over the part `to`, both below 128.
 pub fn copy_part<'a, 'b>(
     tracks: &'a mut [u64; TRACKS],
     filters: &'b mut [f64; FILTERS],
@@ -238,7 +238,7 @@ pub fn copy_part<'a, 'b>(
     put_numbers(filters, 13 * to, &ns);
 }
 
-// A frozen part by value over the part k.
+// A frozen part by value over the part k, which is below 128.
 pub fn put_prefix<'a, 'b>(
     tracks: &'a mut [u64; TRACKS],
     filters: &'b mut [f64; FILTERS],
@@ -296,7 +296,7 @@ pub fn stands_in(columns: &[u64; COLUMNS], n: ScanIndex, i: usize, e: usize, id:
     false
 }
 
-// Whether a refined id stands in the column of a held scan.
+// Whether a refined id stands in the column of a held scan; all have numbers below 2^32.
 pub fn windows_in<'a>(
     bodies: &'a [u8; BODIES],
     columns: &'a [u64; COLUMNS],

@@ -146,7 +146,7 @@ fn is_exact<'a>(w: &'a [u64], x: &'a [f64]) -> bool
     x.len() == 42 * tracks + associations
 }
 
-// A frame is well formed, with at most `most` tracks.
+// A frame is well formed, with at most `most` tracks, which is at most 128.
 pub fn well_formed<'a>(most: usize, w: &'a [u64], x: &'a [f64]) -> bool
     requires { ⌜ most ≤ 128 ⌝ }
     ensures { λ r. ⌜ r ≡ wellFormed most (frame (now (w .entry)) (now (x .entry))) ⌝ }

@@ -97,7 +97,7 @@ fn pair_targets(m: PairMove, a: u64, b: u64, n: u64, ha: bool, hb: bool) -> Targ
     }
 }
 
-// A move of a pair with its rows, in every scan.
+// A move of a pair with its rows, in every scan. It asks for scan numbers below 2^33, and starts that rise to 128 at most.
 pub fn apply_pair<'a>(
     m: PairMove,
     first: ScanIndex,
@@ -140,7 +140,7 @@ fn track_targets(m: TrackMove, a: u64, x: u64, n: u64) -> Targets
     }
 }
 
-// A move of a track, in every scan; a new track would be x.
+// A move of a track, in every scan; a new track would be x. It asks what `apply_pair` asks.
 pub fn apply_track<'a>(
     m: TrackMove,
     first: ScanIndex,

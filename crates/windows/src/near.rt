@@ -76,7 +76,7 @@ pub fn close_scans<'a>(
     found
 }
 
-// Two entries of the table have equal or consecutive scans somewhere.
+// Two entries of the table, both below 128, have equal or consecutive scans somewhere.
 pub fn meet(rows: &[usize; ROWS], i: usize, j: usize) -> bool
     requires { ⌜ (i < 128) × (j < 128) × (length (now rows) ≡ 2432) ⌝ }
     ensures { λ r. ⌜ r ≡ meets (now (rows .entry)) i j ⌝ }

@@ -60,7 +60,7 @@ fn insert(x: u64, n: usize, l: &mut [u64; DETECTIONS]) -> usize
     n + 1
 }
 
-// The ids that have a window, ascending, at the start of the table.
+// The ids that have a window, ascending, at the start of the table: of the first n, 128 at most.
 pub fn present(n: usize, ids: &[u64; DETECTIONS], table: &mut [u64; DETECTIONS]) -> usize
     requires { ⌜ (n ≤ 128) × (length (now ids) ≡ 128) × (length (now table) ≡ 128) ⌝ }
     ensures { λ m. ⌜ Begins (presentIn n (now (ids .entry))) m (now (table .exit)) ⌝ }
@@ -92,7 +92,7 @@ fn slot_in(x: u64, a: usize, b: usize, ids: &[u64; DETECTIONS]) -> usize
     0
 }
 
-// The row of x.
+// The row of x. It asks for starts that rise to 128 at most.
 pub fn fill_row<'a>(
     x: u64,
     starts: &'a [usize; STARTS],
@@ -155,7 +155,7 @@ fn put_entry<'a>(i: usize, row: &[usize; SCANS], rows: &mut [usize; ROWS])
     rows[at + SCANS + 1] = end_of(row);
 }
 
-// The rows of the first n ids of a table.
+// The rows of the first n ids of a table, 128 at most. It asks what `fill_row` asks.
 pub fn fill_rows<'a>(
     n: usize,
     table: &'a [u64; DETECTIONS],
