@@ -154,13 +154,12 @@ unfoldable pub trackRest : Scene → ℕ → List ℕ → Bool
 trackRest e a ra = trackStays (bestTrackRow (e .hall .config) (viewOn e) (partOn e a) ra (rowCost (e .hall .config) (viewOn e) (partOn e a) ra))
 
 -- the places i and j of the table have no move by the table of rows, if neither is marked
-abbrev pub Rests : Scene → List ℕ → List ℕ → List ℕ → ℕ → ℕ → Type 0
-Rests e table rows marks i j =
-    getD marks i 0 ≡ 0 → getD marks j 0 ≡ 0 → pairRest e (getD table i 0) (getD table j 0) (rowAt rows i) (rowAt rows j) ≡ true
+pub record Rests (e : Scene) (table rows marks : List ℕ) (i j : ℕ) : Type 0 where
+  pub pair : getD marks i 0 ≡ 0 → getD marks j 0 ≡ 0 → pairRest e (getD table i 0) (getD table j 0) (rowAt rows i) (rowAt rows j) ≡ true
 
 -- a place that is marked stays so
-abbrev pub Grows : ℕ → List ℕ → List ℕ → Type 0
-Grows n marks marks′ = (k : ℕ) → k < n → getD marks′ k 0 ≡ 0 → getD marks k 0 ≡ 0
+pub record Grows (n : ℕ) (marks marks′ : List ℕ) : Type 0 where
+  pub back : (k : ℕ) → k < n → getD marks′ k 0 ≡ 0 → getD marks k 0 ≡ 0
 
 -- by the rows at the beginning of the pass: 0 where neither the pairs nor the track need a look, 1 where only the track needs none
 pub record Due (e : Scene) (n : ℕ) (table rows due : List ℕ) : Type 0 where
