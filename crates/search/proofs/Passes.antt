@@ -12,15 +12,15 @@ use Rattle.windows.specs.Moves.{begun}
 use Rattle.search.specs.Pass.{Scene, Search, sweep, visit, passOver, passesOver, pairRest, Listed, Rests, Grows, Visits, Left, Tables}
 use Rattle.search.proofs.Resting.{at}
 
--- a pass, from its two halves
+-- a pass, from its moves
 pub pass-is :
-    (e : Scene) (ids : List ℕ) (t₀ : Tally) (n : ℕ) (table : List ℕ) {ids₁ ids₂ : List ℕ} {b t₁ t₂ : Tally} →
+    (e : Scene) (ids : List ℕ) (t₀ : Tally) (n : ℕ) (table : List ℕ) {ids′ : List ℕ} {b t : Tally} →
     take n table ≡ presentIn (e .hall .detections) ids → b ≡ begun t₀ →
-    at ids₁ t₁ ≡ sweep e ids (take n table) (at ids b) → at ids₂ t₂ ≡ visit e (take n table) (at ids₁ t₁) → at ids₂ t₂ ≡ passOver e (at ids t₀)
+    at ids′ t ≡ visit e (take n table) (sweep e ids (take n table) (at ids b)) → at ids′ t ≡ passOver e (at ids t₀)
 unfolding passOver
-pass-is e ids t₀ n table is b s v =
+pass-is e ids t₀ n table is b v =
     v
-    ∙ ap (visit e (take n table)) (s ∙ ap (λ (b : Tally). sweep e ids (take n table) (at ids b)) b)
+    ∙ ap (λ (b : Tally). visit e (take n table) (sweep e ids (take n table) (at ids b))) b
     ∙ (λ i. visit e (is i) (sweep e ids (is i) (at ids (begun t₀))))
 
 -- ---- what it leaves to the next

@@ -183,20 +183,20 @@ fn copy_row(i: usize, rows: &[usize; ROWS], row: &mut [usize; SCANS])
     }
 }
 
-// The row of the id x at place i of the table as it is now: that of the table of rows, unless it moved.
+// The row of the id x at place i of the table as it is now: that of the table of rows, if it is known to be the same.
 fn row_now<'a>(
+    same: bool,
     i: usize,
     x: u64,
     rows: &'a [usize; ROWS],
-    moved: &'a [u64; DETECTIONS],
     starts: &'a [usize; STARTS],
     ids: &'a [u64; DETECTIONS],
     row: &mut [usize; SCANS],
 )
-    requires { ⌜ (i < 128) × (length (now rows) ≡ 2432) × (length (now moved) ≡ 128) × Starts (now starts) × (length (now ids) ≡ 128) × (length (now row) ≡ 17) × (getD (now moved) i 0 ≡ 0 → rowOf (now starts) (now ids) x ≡ rowAt (now rows) i) ⌝ }
+    requires { ⌜ (i < 128) × (length (now rows) ≡ 2432) × Starts (now starts) × (length (now ids) ≡ 128) × (length (now row) ≡ 17) × (same ≡ true → rowOf (now starts) (now ids) x ≡ rowAt (now rows) i) ⌝ }
     ensures { λ r. ⌜ now (row .exit) ≡ rowOf (now (starts .entry)) (now (ids .entry)) x ⌝ }
 {
-    if moved[i] == 0 {
+    if same {
         copy_row(i, rows, row);
         return;
     }
@@ -229,11 +229,10 @@ fn pair_step<'a>(
     let b = table[j];
     let mut ra = [0usize; SCANS];
     let mut rb = [0usize; SCANS];
-    row_now(i, a, rows, moved, starts, ids, &mut ra);
-    row_now(j, b, rows, moved, starts, ids, &mut rb);
+    row_now(moved[i] == 0, i, a, rows, starts, ids, &mut ra);
+    row_now(moved[j] == 0, j, b, rows, starts, ids, &mut rb);
     let pa = price::part_of(a, hall.frozen, tracks, filters);
     let pb = price::part_of(b, hall.frozen, tracks, filters);
-    let base = costs[i] + costs[j];
     let m = price::best_of_pair(
         hall,
         RefinedId(a),
@@ -243,7 +242,7 @@ fn pair_step<'a>(
         close,
         &ra,
         &rb,
-        base,
+        costs[i] + costs[j],
         dots,
         logs,
     );
@@ -490,18 +489,57 @@ fn track_step<'a>(
     t.count_track(m)
 }
 
-// The row at place i has not changed since its track was last visited.
-fn track_rests<'a>(i: usize, due: &'a [u64; DETECTIONS], moved: &'a [u64; DETECTIONS]) -> bool
-    requires { ⌜ (i < 128) × (length (now due) ≡ 128) × (length (now moved) ≡ 128) ⌝ }
-    ensures { λ r. ⌜ (r ≡ true → (getD (now (due .entry)) i 0 < 2) × (getD (now (moved .entry)) i 0 ≡ 0)) ⌝ }
+// The row at place i, of the id x, has not changed in this pass. That of an id from `new` on may have: another track may be given it.
+fn unmoved(i: usize, x: u64, new: u64, moved: &[u64; DETECTIONS]) -> bool
+    requires { ⌜ (i < 128) × (length (now moved) ≡ 128) ⌝ }
+    ensures { λ r. ⌜ (r ≡ true → (x < new) × (getD (now (moved .entry)) i 0 ≡ 0)) ⌝ }
 {
-    if due[i] < 2 {
+    if x < new {
         return moved[i] == 0;
     }
     false
 }
 
-// The track at place i of the table: its best move, made, if its row has changed. One with an id from `new` on may be another's new track.
+// The row at place i, of the id x, has not changed since its track was last visited.
+fn track_rests<'a>(
+    i: usize,
+    x: u64,
+    new: u64,
+    due: &'a [u64; DETECTIONS],
+    moved: &'a [u64; DETECTIONS],
+) -> bool
+    requires { ⌜ (i < 128) × (length (now due) ≡ 128) × (length (now moved) ≡ 128) ⌝ }
+    ensures { λ r. ⌜ (r ≡ true → (x < new) × (getD (now (due .entry)) i 0 < 2) × (getD (now (moved .entry)) i 0 ≡ 0)) ⌝ }
+{
+    if due[i] < 2 {
+        return unmoved(i, x, new, moved);
+    }
+    false
+}
+
+// What the window of x costs: as it was kept, if x is below `new` and so no other track is given it.
+fn cost_now<'a>(
+    hall: Hall,
+    x: u64,
+    kept: f64,
+    new: u64,
+    starts: &'a [usize; STARTS],
+    dots: &'a [f64; DOTS],
+    tracks: &'a [u64; TRACKS],
+    filters: &'a [f64; FILTERS],
+    ids: &'a [u64; DETECTIONS],
+    logs: &mut [f64; LOGS],
+) -> f64
+    requires { ⌜ Able (sceneOf hall (now starts) (now dots) (now tracks) (now filters)) × (length (now ids) ≡ 128) × (x < new → kept ≡ costOn (sceneOf hall (now starts) (now dots) (now tracks) (now filters)) (now ids) x) × Kept (now logs) ⌝ }
+    ensures { λ r. ⌜ (r ≡ costOn (sceneOf hall (now (starts .entry)) (now (dots .entry)) (now (tracks .entry)) (now (filters .entry))) (now (ids .entry)) x) × (x < new → r ≡ kept) × Kept (now (logs .exit)) ⌝ }
+{
+    if x < new {
+        return kept;
+    }
+    track_cost(hall, x, starts, dots, tracks, filters, ids, logs)
+}
+
+// The track at place i of the table: its best move, made, if its row has changed.
 fn track_turn<'a>(
     hall: Hall,
     n: usize,
@@ -524,32 +562,23 @@ fn track_turn<'a>(
     ensures { λ r. ⌜ (_≡_ {A = Search} (record { ids = now (ids .exit); tally = r }) (trackStep (sceneOf hall (now (starts .entry)) (now (dots .entry)) (now (tracks .entry)) (now (filters .entry))) (getD (now (table .entry)) i 0) (record { ids = now (ids .entry); tally = t }))) × Visits (sceneOf hall (now (starts .entry)) (now (dots .entry)) (now (tracks .entry)) (now (filters .entry))) n (now (table .entry)) (now (rows .entry)) new (i + 1) (now (ids .exit)) (now (costs .exit)) (now (moved .exit)) (now (logs .exit)) × Grows n (now (moved .entry)) (now (moved .exit)) ⌝ }
 {
     let a = table[i];
-    let mut row = [0usize; SCANS];
-    if a < new {
-        if track_rests(i, due, moved) {
-            return t;
-        }
-        row_now(i, a, rows, moved, starts, ids, &mut row);
-        let base = costs[i];
-        return track_step(
-            hall,
-            i,
-            a,
-            base,
-            t,
-            &row,
-            starts,
-            dots,
-            tracks,
-            filters,
-            ids,
-            costs,
-            moved,
-            logs,
-        );
+    if track_rests(i, a, new, due, moved) {
+        return t;
     }
-    rows::fill_row(a, starts, ids, &mut row);
-    let base = track_cost(hall, a, starts, dots, tracks, filters, ids, logs);
+    let mut row = [0usize; SCANS];
+    row_now(unmoved(i, a, new, moved), i, a, rows, starts, ids, &mut row);
+    let base = cost_now(
+        hall,
+        a,
+        costs[i],
+        new,
+        starts,
+        dots,
+        tracks,
+        filters,
+        ids,
+        logs,
+    );
     track_step(
         hall,
         i,
@@ -660,6 +689,65 @@ fn begin_pass<'a>(
     n
 }
 
+// The moves of a pass that began: of every pair, then of every track.
+fn move_all<'a>(
+    hall: Hall,
+    n: usize,
+    t0: Tally,
+    table: &'a [u64; DETECTIONS],
+    rows: &'a [usize; ROWS],
+    due: &'a [u64; DETECTIONS],
+    starts: &'a [usize; STARTS],
+    dots: &'a [f64; DOTS],
+    tracks: &'a [u64; TRACKS],
+    filters: &'a [f64; FILTERS],
+    ids: &mut [u64; DETECTIONS],
+    costs: &mut [f64; DETECTIONS],
+    moved: &mut [u64; DETECTIONS],
+    logs: &mut [f64; LOGS],
+) -> Passed
+    requires { ⌜ Able (sceneOf hall (now starts) (now dots) (now tracks) (now filters)) × Listed n (now table) × Due (sceneOf hall (now starts) (now dots) (now tracks) (now filters)) n (now table) (now rows) (now due) × Stands (sceneOf hall (now starts) (now dots) (now tracks) (now filters)) n (now table) (now rows) (now ids) (now costs) (now moved) (now logs) ⌝ }
+    ensures { λ r. ⌜ ((is : List ℕ) → Tabled (now (starts .entry)) is (now (table .entry)) n (now (rows .entry)) → (_≡_ {A = Search} (record { ids = now (ids .exit); tally = r .tally }) (visit (sceneOf hall (now (starts .entry)) (now (dots .entry)) (now (tracks .entry)) (now (filters .entry))) (take n (now (table .entry))) (sweep (sceneOf hall (now (starts .entry)) (now (dots .entry)) (now (tracks .entry)) (now (filters .entry))) is (take n (now (table .entry))) (record { ids = now (ids .entry); tally = t0 })))) × Left (sceneOf hall (now (starts .entry)) (now (dots .entry)) (now (tracks .entry)) (now (filters .entry))) (r .last .count) (r .last .next) (now (table .entry)) (now (ids .exit)) (now (costs .exit)) (now (moved .exit))) × Kept (now (logs .exit)) ⌝ }
+{
+    let t = sweep_pairs(
+        hall,
+        n,
+        t0,
+        table,
+        rows,
+        due,
+        starts,
+        dots,
+        tracks,
+        filters,
+        ids,
+        costs,
+        moved,
+        logs,
+    );
+    let last = Last {
+        count: n,
+        next: t.next,
+    };
+    let tally = visit_tracks(
+        hall,
+        n,
+        t,
+        table,
+        rows,
+        due,
+        starts,
+        dots,
+        tracks,
+        filters,
+        ids,
+        costs,
+        moved,
+        logs,
+    );
+    Passed { tally, last }
+}
+
 // One pass. What it leaves in the tables goes to the next.
 fn run_pass<'a>(
     hall: Hall,
@@ -695,7 +783,7 @@ fn run_pass<'a>(
         moved,
         logs,
     );
-    let t = sweep_pairs(
+    move_all(
         hall,
         n,
         t0.begin(),
@@ -710,28 +798,7 @@ fn run_pass<'a>(
         costs,
         moved,
         logs,
-    );
-    let last = Last {
-        count: n,
-        next: t.next,
-    };
-    let tally = visit_tracks(
-        hall,
-        n,
-        t,
-        table,
-        rows,
-        due,
-        starts,
-        dots,
-        tracks,
-        filters,
-        ids,
-        costs,
-        moved,
-        logs,
-    );
-    Passed { tally, last }
+    )
 }
 
 // Passes, until the most have run or one made no move.

@@ -1,5 +1,6 @@
 -- `search::pass::pair_step` meets its contract. Assumes nothing.
 use borrow.Author.Needs.{needs}
+use borrow.Author.Tests.{eqb-true}
 use mathlib.Core.Path.{refl, sym, ap, _∙_}
 use native.Mathlib.Omega.{arith}
 use lib.ListN.{getD}
@@ -24,11 +25,29 @@ mul-b c = search needs
 element-copy-out-b : tie.Need-element-copy-out-b
 element-copy-out-b c = search needs
 
+mul-row-now : tie.Need-mul-row-now
+mul-row-now c = search needs
+
+element-copy-out-row-now : tie.Need-element-copy-out-row-now
+element-copy-out-row-now c = search needs
+
 row-now-requires : tie.Need-row-now-requires
-row-now-requires c κs = let p = c .before .before .before .before .before .pre in (omega (arith, p .1, p .2, p .3 .within), p .5 .rows-long, p .5 .marks, p .0 .starts, p .5 .costed .all, refl, p .5 .same (c .before .before .before .before .before .args .i) (omega (arith, p .1, p .2)))
+row-now-requires c κs =
+    let s = c .before .before .before .before .before .args in
+    let p = c .before .before .before .before .before .pre in
+    (omega (arith, p .1, p .2, p .3 .within), p .5 .rows-long, p .0 .starts, p .5 .costed .all, refl, λ z. p .5 .same (s .i) (omega (arith, p .1, p .2)) (eqb-true (getD (s .moved .now) (s .i) 0) 0 z))
+
+mul-row-now-2 : tie.Need-mul-row-now-2
+mul-row-now-2 c = search needs
+
+element-copy-out-row-now-2 : tie.Need-element-copy-out-row-now-2
+element-copy-out-row-now-2 c = search needs
 
 row-now-requires-2 : tie.Need-row-now-requires-2
-row-now-requires-2 c κs = let p = c .before .before .before .before .before .before .before .before .before .pre in (omega (arith, p .2, p .3 .within), p .5 .rows-long, p .5 .marks, p .0 .starts, p .5 .costed .all, refl, p .5 .same (c .before .before .before .before .before .before .before .before .before .args .j) (p .2))
+row-now-requires-2 c κs =
+    let s = c .before .before .before .before .before .before .before .before .before .args in
+    let p = c .before .before .before .before .before .before .before .before .before .pre in
+    (omega (arith, p .2, p .3 .within), p .5 .rows-long, p .0 .starts, p .5 .costed .all, refl, λ z. p .5 .same (s .j) (p .2) (eqb-true (getD (s .moved .now) (s .j) 0) 0 z))
 
 part-of-requires : tie.Need-part-of-requires
 part-of-requires c κs = search needs
@@ -36,17 +55,17 @@ part-of-requires c κs = search needs
 part-of-requires-2 : tie.Need-part-of-requires-2
 part-of-requires-2 c κs = search needs
 
-mul-base : tie.Need-mul-base
-mul-base c = search needs
+mul-best-of-pair : tie.Need-mul-best-of-pair
+mul-best-of-pair c = search needs
 
-element-copy-out-base : tie.Need-element-copy-out-base
-element-copy-out-base c = search needs
+element-copy-out-best-of-pair : tie.Need-element-copy-out-best-of-pair
+element-copy-out-best-of-pair c = search needs
 
-mul-base-2 : tie.Need-mul-base-2
-mul-base-2 c = search needs
+mul-best-of-pair-2 : tie.Need-mul-best-of-pair-2
+mul-best-of-pair-2 c = search needs
 
-element-copy-out-base-2 : tie.Need-element-copy-out-base-2
-element-copy-out-base-2 c = search needs
+element-copy-out-best-of-pair-2 : tie.Need-element-copy-out-best-of-pair-2
+element-copy-out-best-of-pair-2 c = search needs
 
 best-of-pair-requires : tie.Need-best-of-pair-requires
 best-of-pair-requires c κs =
@@ -156,14 +175,18 @@ pair-step-spec =
     element-copy-out-a
     mul-b
     element-copy-out-b
+    mul-row-now
+    element-copy-out-row-now
     row-now-requires
+    mul-row-now-2
+    element-copy-out-row-now-2
     row-now-requires-2
     part-of-requires
     part-of-requires-2
-    mul-base
-    element-copy-out-base
-    mul-base-2
-    element-copy-out-base-2
+    mul-best-of-pair
+    element-copy-out-best-of-pair
+    mul-best-of-pair-2
+    element-copy-out-best-of-pair-2
     best-of-pair-requires
     pair-stays-requires
     returns

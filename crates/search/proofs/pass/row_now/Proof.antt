@@ -4,17 +4,11 @@ use mathlib.Core.Path.{sym, _∙_}
 use Rattle.search.proofs.pass.row_now.Statement.{statement}
 use Rattle.search.proofs.pass.row_now.Tie as tie
 
-mul-if1 : tie.Need-mul-if1
-mul-if1 c = search needs
-
-element-copy-out-if1 : tie.Need-element-copy-out-if1
-element-copy-out-if1 c = search needs
-
 copy-row-requires : tie.Need-copy-row-requires
 copy-row-requires c κs = search needs
 
 returns : tie.Need-returns
-returns c = c .copy-row .ensures ∙ sym (c .before .before .before .before .pre .6 (c .before .before .if1 .taken))
+returns c = c .copy-row .ensures ∙ sym (c .before .before .before .pre .5 (c .before .before .if1 .taken))
 
 fill-row-requires : tie.Need-fill-row-requires
 fill-row-requires c κs = search needs
@@ -23,6 +17,4 @@ returns-2 : tie.Need-returns-2
 returns-2 c = search needs
 
 pub row-now-spec : {M : Type 1} → statement M
-row-now-spec =
-    tie.close
-    (tie.spec mul-if1 element-copy-out-if1 copy-row-requires returns fill-row-requires returns-2)
+row-now-spec = tie.close (tie.spec copy-row-requires returns fill-row-requires returns-2)

@@ -3,8 +3,6 @@ use borrow.Author.Needs.{needs}
 use mathlib.Core.Path.{_≡_}
 use Prim.Native.Nat.{ℕ}
 use native.Mathlib.Omega.{arith}
-use lib.ListN.{getD}
-use borrow.Author.Tests.{eqb-true}
 use Rattle.search.proofs.pass.track_rests.Statement.{statement}
 use Rattle.search.proofs.pass.track_rests.Tie as tie
 
@@ -14,19 +12,15 @@ mul-if1 c = search needs
 element-copy-out-if1 : tie.Need-element-copy-out-if1
 element-copy-out-if1 c = search needs
 
-mul-result : tie.Need-mul-result
-mul-result c = search needs
-
-element-copy-out-result : tie.Need-element-copy-out-result
-element-copy-out-result c = search needs
+unmoved-requires : tie.Need-unmoved-requires
+unmoved-requires c κs = search needs
 
 returns : tie.Need-returns
-returns c = let s = c .before .before .before .args in λ z. (c .before .if1 .taken, eqb-true (getD (s .moved .now) (s .i) 0) 0 z)
+returns c = λ z. let f = c .unmoved .ensures z in (f .0, c .before .if1 .taken, f .1)
 
 returns-2 : tie.Need-returns-2
 returns-2 c = λ z. let w : _≡_ {A = ℕ} 0 1 = cc in absurd (omega arith)
 
 pub track-rests-spec : {M : Type 1} → statement M
 track-rests-spec =
-    tie.close
-    (tie.spec mul-if1 element-copy-out-if1 mul-result element-copy-out-result returns returns-2)
+    tie.close (tie.spec mul-if1 element-copy-out-if1 unmoved-requires returns returns-2)
