@@ -25,6 +25,8 @@ pub mod PassLawsHold
 pub mod Listing
 pub mod Costing
 pub mod Stepping
+pub mod Resting
 pub mod Sweeps
 pub mod Visits
+pub mod Carrying
 pub mod Passes

@@ -4,46 +4,76 @@ use native.Mathlib.Omega.{arith}
 use mathlib.Core.Path.{_≡_, refl, sym, ap, _∙_}
 use mathlib.Core.Bool.{Bool, true, false}
 use mathlib.Core.List.{List}
-use lib.ListN.{length, take}
+use lib.ListN.{length, getD, take}
 use lib.Ieee.{Float}
 use Rattle.windows.specs.declared.moves.Tally.{Tally}
 use Rattle.windows.specs.Rows.{presentIn}
 use Rattle.windows.specs.Moves.{begun}
-use Rattle.search.specs.Pass.{Scene, Search, sweep, visit, passOver, passesOver, Tables}
-use Rattle.search.proofs.Sweeps.{at}
+use Rattle.search.specs.Pass.{Scene, Search, sweep, visit, passOver, passesOver, pairRest, Listed, Rests, Grows, Visits, Left, Tables}
+use Rattle.search.proofs.Resting.{at}
 
--- a pass, from its two halves
+-- a pass, from its moves
 pub pass-is :
-    (e : Scene) (ids : List ℕ) (t₀ : Tally) (n : ℕ) (table : List ℕ) {ids₁ ids₂ : List ℕ} {b t₁ t₂ : Tally} →
+    (e : Scene) (ids : List ℕ) (t₀ : Tally) (n : ℕ) (table : List ℕ) {ids′ : List ℕ} {b t : Tally} →
     take n table ≡ presentIn (e .hall .detections) ids → b ≡ begun t₀ →
-    at ids₁ t₁ ≡ sweep e ids (take n table) (at ids b) → at ids₂ t₂ ≡ visit e (take n table) (at ids₁ t₁) → at ids₂ t₂ ≡ passOver e (at ids t₀)
+    at ids′ t ≡ visit e (take n table) (sweep e ids (take n table) (at ids b)) → at ids′ t ≡ passOver e (at ids t₀)
 unfolding passOver
-pass-is e ids t₀ n table is b s v =
+pass-is e ids t₀ n table is b v =
     v
-    ∙ ap (visit e (take n table)) (s ∙ ap (λ (b : Tally). sweep e ids (take n table) (at ids b)) b)
+    ∙ ap (λ (b : Tally). visit e (take n table) (sweep e ids (take n table) (at ids b))) b
     ∙ (λ i. visit e (is i) (sweep e ids (is i) (at ids (begun t₀))))
 
+-- ---- what it leaves to the next
+
+pub left-none : {e : Scene} {table ids : List ℕ} {costs : List Float} {moved : List ℕ} → length table ≡ 128 → length ids ≡ 128 → length costs ≡ 128 → length moved ≡ 128 → Left e 0 0 table ids costs moved
+left-none a b c d =
+    record {
+      listed = record { within = omega arith; long = a; above = λ i h. absurd (omega arith); rises = λ i j h g. absurd (omega arith) };
+      all = b;
+      long = c;
+      marks = d;
+      costed = λ k h l. absurd (omega arith);
+      pair = λ i j h g. absurd (omega arith);
+      track = λ k h. absurd (omega arith);
+    }
+
+module _ {e : Scene} {n next : ℕ} {table rows swept ids : List ℕ} {costs : List Float} {moved : List ℕ} {logs : List Float} (listed : Listed n table) (rests : (i j : ℕ) → i < j → j < n → Rests e table rows swept i j) (v : Visits e n table rows next n ids costs moved logs) (grows : Grows n swept moved) where
+  pub pass-leaves : Left e n next table ids costs moved
+  pass-leaves =
+      record {
+        listed = listed;
+        all = v .all;
+        long = v .long;
+        marks = v .marks;
+        costed = v .costed;
+        pair = λ i j h g a b p q.
+            let under : i < n = omega arith in
+            (λ m. pairRest e (getD table i 0) (getD table j 0) (v .same i under a p m) (v .same j g b q m)) ∙ rests i j h g .pair (grows .back i under p) (grows .back j g q);
+        track = v .rested;
+      }
+
+-- ---- the loop
+
 -- n passes are left, of the most there can be
-pub record Ran (e : Scene) (most : ℕ) (ids₀ : List ℕ) (t₀ : Tally) (ids table rows : List ℕ) (costs logs : List Float) (t : Tally) (n : ℕ) : Type 0 where
-  pub all : length ids ≡ 128
-  pub tables : Tables table rows costs logs
+pub record Ran (e : Scene) (most : ℕ) (ids₀ : List ℕ) (t₀ : Tally) (ids table rows : List ℕ) (costs : List Float) (due moved : List ℕ) (logs : List Float) (t : Tally) (count next n : ℕ) : Type 0 where
+  pub tables : Tables e count next ids table rows costs due moved logs
   pub left : passesOver e most (at ids₀ t₀) (t₀ .moved) ≡ passesOver e n (at ids t) (t .moved)
 
 module _ {e : Scene} {most : ℕ} {ids₀ : List ℕ} {t₀ : Tally} where
-  pub ran-none : {table rows : List ℕ} {costs logs : List Float} → length ids₀ ≡ 128 → Tables table rows costs logs → Ran e most ids₀ t₀ ids₀ table rows costs logs t₀ most
-  ran-none l t = record { all = l; tables = t; left = refl }
+  pub ran-none : {table rows : List ℕ} {costs : List Float} {due moved : List ℕ} {logs : List Float} {count next : ℕ} → Tables e count next ids₀ table rows costs due moved logs → Ran e most ids₀ t₀ ids₀ table rows costs due moved logs t₀ count next most
+  ran-none t = record { tables = t; left = refl }
 
-  module _ {ids table rows : List ℕ} {costs logs : List Float} {t : Tally} {n : ℕ} (o : Ran e most ids₀ t₀ ids table rows costs logs t n) where
+  module _ {ids table rows : List ℕ} {costs : List Float} {due moved : List ℕ} {logs : List Float} {t : Tally} {count next n : ℕ} (o : Ran e most ids₀ t₀ ids table rows costs due moved logs t count next n) where
     one-left : 0 < n → passesOver e n (at ids t) (t .moved) ≡ passesOver e (suc (n - 1)) (at ids t) (t .moved)
     one-left h = let q : n ≡ suc (n - 1) = omega arith in ap (λ (k : ℕ). passesOver e k (at ids t) (t .moved)) q
 
     pub ran-more :
-        {ids′ table′ rows′ : List ℕ} {costs′ logs′ : List Float} {t′ : Tally} → 0 < n → t .moved ≡ true → at ids′ t′ ≡ passOver e (at ids t) →
-        length ids′ ≡ 128 → Tables table′ rows′ costs′ logs′ → Ran e most ids₀ t₀ ids′ table′ rows′ costs′ logs′ t′ (n - 1)
+        {ids′ table′ rows′ : List ℕ} {costs′ : List Float} {due′ moved′ : List ℕ} {logs′ : List Float} {t′ : Tally} {count′ next′ : ℕ} → 0 < n → t .moved ≡ true →
+        at ids′ t′ ≡ passOver e (at ids t) → Tables e count′ next′ ids′ table′ rows′ costs′ due′ moved′ logs′ →
+        Ran e most ids₀ t₀ ids′ table′ rows′ costs′ due′ moved′ logs′ t′ count′ next′ (n - 1)
     unfolding passesOver
-    ran-more h moved step l tables =
+    ran-more h moved step tables =
         record {
-          all = l;
           tables = tables;
           left =
               o .left

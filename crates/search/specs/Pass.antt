@@ -14,7 +14,7 @@ use Rattle.model.specs.declared.moves.TrackMove.{TrackMove}
 use Rattle.pricing.specs.declared.price.Hall.{Hall}
 use Rattle.windows.specs.declared.moves.Tally.{Tally}
 use Rattle.windows.specs.Rows.{Starts, rowOf, presentIn}
-use Rattle.windows.specs.Near.{square, closeScans, anyClose}
+use Rattle.windows.specs.Near.{square, closeScans, anyClose, rowAt}
 use Rattle.pricing.specs.Price.{viewIn, partAmong, rowCost}
 use Rattle.pair_moves.specs.Pair.{bestPairRow}
 use Rattle.track_moves.specs.Track.{bestTrackRow}
@@ -141,9 +141,93 @@ pub record Costed (e : Scene) (n : ℕ) (table ids : List ℕ) (costs : List Flo
   pub long : length costs ≡ 128
   pub each : (i : ℕ) → i < n → getD costs i nan ≡ costOn e ids (getD table i 0)
 
--- the tables that a pass writes anew, of their lengths, and logarithms kept
-pub record Tables (table rows : List ℕ) (costs logs : List Float) : Type 0 where
-  pub table-long : length table ≡ 128
+-- ---- what need not be looked at again
+
+-- the pair a, b with the rows ra, rb has no move: the rows are nowhere close, or to stay is best
+unfoldable pub pairRest : Scene → ℕ → ℕ → List ℕ → List ℕ → Bool
+pairRest e a b ra rb =
+    cond (anyClose (closeOn e ra rb))
+    (pairStays
+    (bestPairRow (e .hall .config) (viewOn e) (idOf a) (idOf b) (partOn e a) (partOn e b) (closeOn e ra rb) ra rb
+    (add binary64 (rowCost (e .hall .config) (viewOn e) (partOn e a) ra) (rowCost (e .hall .config) (viewOn e) (partOn e b) rb)))) true
+
+-- the track a with the row ra has no move
+unfoldable pub trackRest : Scene → ℕ → List ℕ → Bool
+trackRest e a ra = trackStays (bestTrackRow (e .hall .config) (viewOn e) (partOn e a) ra (rowCost (e .hall .config) (viewOn e) (partOn e a) ra))
+
+-- the places i and j of the table have no move by the table of rows, if neither is marked
+pub record Rests (e : Scene) (table rows marks : List ℕ) (i j : ℕ) : Type 0 where
+  pub pair : getD marks i 0 ≡ 0 → getD marks j 0 ≡ 0 → pairRest e (getD table i 0) (getD table j 0) (rowAt rows i) (rowAt rows j) ≡ true
+
+-- a place that is marked stays so
+pub record Grows (n : ℕ) (marks marks′ : List ℕ) : Type 0 where
+  pub back : (k : ℕ) → k < n → getD marks′ k 0 ≡ 0 → getD marks k 0 ≡ 0
+
+-- by the rows at the beginning of the pass: 0 where neither the pairs nor the track need a look, 1 where only the track needs none
+pub record Due (e : Scene) (n : ℕ) (table rows due : List ℕ) : Type 0 where
+  pub long : length due ≡ 128
+  pub pair : (i j : ℕ) → i < j → j < n → Rests e table rows due i j
+  pub track : (i : ℕ) → i < n → getD due i 0 < 2 → trackRest e (getD table i 0) (rowAt rows i) ≡ true
+
+-- where the pairs are swept: costs kept, and the row of the table of rows at each place that did not move in this pass
+pub record Stands (e : Scene) (n : ℕ) (table rows ids : List ℕ) (costs : List Float) (moved : List ℕ) (logs : List Float) : Type 0 where
+  pub costed : Costed e n table ids costs
   pub rows-long : length rows ≡ 2432
-  pub costs-long : length costs ≡ 128
+  pub marks : length moved ≡ 128
+  pub same : (k : ℕ) → k < n → getD moved k 0 ≡ 0 → rowOn e ids (getD table k 0) ≡ rowAt rows k
+  pub kept : Kept logs
+
+-- where the tracks before place i have been visited: the same of each id below next, which no other track is given meanwhile
+pub record Visits (e : Scene) (n : ℕ) (table rows : List ℕ) (next i : ℕ) (ids : List ℕ) (costs : List Float) (moved : List ℕ) (logs : List Float) : Type 0 where
+  pub all : length ids ≡ 128
+  pub long : length costs ≡ 128
+  pub rows-long : length rows ≡ 2432
+  pub marks : length moved ≡ 128
+  pub kept : Kept logs
+  pub costed : (k : ℕ) → k < n → getD table k 0 < next → getD costs k nan ≡ costOn e ids (getD table k 0)
+  pub same : (k : ℕ) → k < n → getD table k 0 < next → getD moved k 0 ≡ 0 → rowOn e ids (getD table k 0) ≡ rowAt rows k
+  pub rested : (k : ℕ) → k < i → getD table k 0 < next → getD moved k 0 < 2 → trackRest e (getD table k 0) (rowOn e ids (getD table k 0)) ≡ true
+
+-- the step of the track a at place i: its own cost and mark, and no other's
+pub record Stepped (e : Scene) (i a : ℕ) (base : Float) (ids : List ℕ) (costs : List Float) (moved ids′ : List ℕ) (costs′ : List Float) (moved′ : List ℕ) : Type 0 where
+  pub all : length ids′ ≡ 128
+  pub long : length costs′ ≡ 128
+  pub marks : length moved′ ≡ 128
+  pub costs-other : (k : ℕ) → (k ≡ i → ⊥) → getD costs′ k nan ≡ getD costs k nan
+  pub marks-other : (k : ℕ) → (k ≡ i → ⊥) → getD moved′ k 0 ≡ getD moved k 0
+  pub cost : getD costs i nan ≡ base → getD costs′ i nan ≡ costOn e ids′ a
+  pub unmarked : getD moved′ i 0 ≡ 0 → (getD moved i 0 ≡ 0) × (rowOn e ids′ a ≡ rowOn e ids a)
+  pub rested : getD moved′ i 0 < 2 → trackRest e a (rowOn e ids′ a) ≡ true
+
+-- what a pass leaves of the ids that it listed, those below next: their costs; and where a place did not move, nothing to move
+pub record Left (e : Scene) (n next : ℕ) (table ids : List ℕ) (costs : List Float) (moved : List ℕ) : Type 0 where
+  pub listed : Listed n table
+  pub all : length ids ≡ 128
+  pub long : length costs ≡ 128
+  pub marks : length moved ≡ 128
+  pub costed : (k : ℕ) → k < n → getD table k 0 < next → getD costs k nan ≡ costOn e ids (getD table k 0)
+  pub pair : (i j : ℕ) → i < j → j < n → getD table i 0 < next → getD table j 0 < next → getD moved i 0 ≡ 0 → getD moved j 0 ≡ 0 →
+      pairRest e (getD table i 0) (getD table j 0) (rowOn e ids (getD table i 0)) (rowOn e ids (getD table j 0)) ≡ true
+  pub track : (k : ℕ) → k < n → getD table k 0 < next → getD moved k 0 < 2 → trackRest e (getD table k 0) (rowOn e ids (getD table k 0)) ≡ true
+
+-- the id x stood at a place of the last pass, with the mark m
+pub record From (n next : ℕ) (old moved : List ℕ) (x m : ℕ) : Type 0 where
+  pub place : ℕ
+  pub within : place < n
+  pub below : x < next
+  pub is : getD old place 0 ≡ x
+  pub mark : getD moved place 0 ≡ m
+
+-- the first i places of a pass that begins: what they cost, and what is due of those that stood in the last
+pub record Carried (e : Scene) (n next : ℕ) (old moved table ids : List ℕ) (i : ℕ) (costs : List Float) (due : List ℕ) (logs : List Float) : Type 0 where
+  pub costed : Costed e i table ids costs
+  pub long : length due ≡ 128
+  pub from : (k : ℕ) → k < i → getD due k 0 < 2 → From n next old moved (getD table k 0) (getD due k 0)
+  pub kept : Kept logs
+
+-- the tables between two passes
+pub record Tables (e : Scene) (n next : ℕ) (ids table rows : List ℕ) (costs : List Float) (due moved : List ℕ) (logs : List Float) : Type 0 where
+  pub left : Left e n next table ids costs moved
+  pub rows-long : length rows ≡ 2432
+  pub due-long : length due ≡ 128
   pub kept : Kept logs

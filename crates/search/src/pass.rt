@@ -20,16 +20,30 @@ use windows::rows::ENTRY;
 use windows::rows::ROWS;
 use windows::rows::STARTS;
 ghost use mathlib.Core.Path.{_≡_};
+ghost use mathlib.Core.Bool.{true};
 ghost use mathlib.Core.List.{List};
 ghost use Prim.Native.Nat.{ℕ, _+_, _≤_, _<_};
 ghost use lib.ListN.{length, getD, take, drop};
 ghost use Rattle.costs.specs.Cost.{Kept};
 ghost use Rattle.model.specs.Windows.{Scan, Prefix};
 ghost use Rattle.engine.specs.Config.{radius, maxPasses};
-ghost use Rattle.windows.specs.Rows.{Tabled};
-ghost use Rattle.windows.specs.Near.{square, CloseRows};
-ghost use Rattle.search.specs.Pass.{Search, sceneOf, costOn, pairStep, trackStep, sweepOne, sweep, visit, passOver, passesOver, Able, Listed, Costed, Tables};
+ghost use Rattle.windows.specs.Near.{square, rowAt, CloseRows};
+ghost use Rattle.windows.specs.Moves.{pairStays};
+ghost use Rattle.windows.specs.Rows.{Starts, rowOf, presentIn, Begins, Tabled};
+ghost use Rattle.search.specs.Pass.{Search, sceneOf, rowOn, costOn, closeOn, pairBest, pairStep, pairIf, trackStep, sweepOne, sweep, visit, passOver, passesOver, Able, Listed, Rests, Grows, Due, Stands, Visits, Stepped, Left, Carried, Tables};
 ghost use Rattle.search.specs.Gathered.{Gathered, Finds};
+
+// What a pass leaves to the next beside its tables: how many tracks it listed, and the next id before it visited them.
+struct Last {
+    count: usize,
+    next: u64,
+}
+
+// A pass that ran: its tally, and what it leaves.
+struct Passed {
+    tally: Tally,
+    last: Last,
+}
 
 // What the window of x costs.
 fn track_cost<'a>(
@@ -51,10 +65,42 @@ fn track_cost<'a>(
     cost::cost_of(hall.config, p, &row, hall.first, dots, logs)
 }
 
-// What the windows of the first n ids of a table cost.
-fn fill_costs<'a>(
+// The first place from k on whose id is not below x, n where there is none.
+fn seek(x: u64, from: usize, n: usize, table: &[u64; DETECTIONS]) -> usize
+    requires { ⌜ (n ≤ 128) × (length (now table) ≡ 128) ⌝ }
+{
+    let mut k = from;
+    while k < n {
+        if x <= table[k] {
+            return k;
+        }
+        k += 1;
+    }
+    n
+}
+
+// The id x stood at place k of the last pass, and was given out before that pass began.
+fn stood(x: u64, k: usize, last: Last, old: &[u64; DETECTIONS]) -> bool
+    requires { ⌜ (last .count ≤ 128) × (length (now old) ≡ 128) ⌝ }
+    ensures { λ r. ⌜ (r ≡ true → (k < last .count) × (x < last .next) × (getD (now (old .entry)) k 0 ≡ x)) ⌝ }
+{
+    if k < last.count {
+        if x < last.next {
+            return old[k] == x;
+        }
+    }
+    false
+}
+
+// Place i of the table, whose id would be at place k of the last pass: what it costs and what is due, both as they were left; anew if it is new.
+fn carry<'a>(
     hall: Hall,
-    n: usize,
+    last: Last,
+    i: usize,
+    k: usize,
+    old: &'a [u64; DETECTIONS],
+    paid: &'a [f64; DETECTIONS],
+    moved: &'a [u64; DETECTIONS],
     table: &'a [u64; DETECTIONS],
     starts: &'a [usize; STARTS],
     dots: &'a [f64; DOTS],
@@ -62,46 +108,133 @@ fn fill_costs<'a>(
     filters: &'a [f64; FILTERS],
     ids: &'a [u64; DETECTIONS],
     costs: &mut [f64; DETECTIONS],
+    due: &mut [u64; DETECTIONS],
     logs: &mut [f64; LOGS],
 )
-    requires { ⌜ Able (sceneOf hall (now starts) (now dots) (now tracks) (now filters)) × (n ≤ 128) × (length (now table) ≡ 128) × (length (now ids) ≡ 128) × (length (now costs) ≡ 128) × Kept (now logs) ⌝ }
-    ensures { λ r. ⌜ Costed (sceneOf hall (now (starts .entry)) (now (dots .entry)) (now (tracks .entry)) (now (filters .entry))) n (now (table .entry)) (now (ids .entry)) (now (costs .exit)) × Kept (now (logs .exit)) ⌝ }
+    requires { ⌜ Able (sceneOf hall (now starts) (now dots) (now tracks) (now filters)) × (i < 128) × (length (now table) ≡ 128) × Left (sceneOf hall (now starts) (now dots) (now tracks) (now filters)) (last .count) (last .next) (now old) (now ids) (now paid) (now moved) × Carried (sceneOf hall (now starts) (now dots) (now tracks) (now filters)) (last .count) (last .next) (now old) (now moved) (now table) (now ids) i (now costs) (now due) (now logs) ⌝ }
+    ensures { λ r. ⌜ Carried (sceneOf hall (now (starts .entry)) (now (dots .entry)) (now (tracks .entry)) (now (filters .entry))) (last .count) (last .next) (now (old .entry)) (now (moved .entry)) (now (table .entry)) (now (ids .entry)) (i + 1) (now (costs .exit)) (now (due .exit)) (now (logs .exit)) ⌝ }
 {
+    let x = table[i];
+    if stood(x, k, last, old) {
+        costs[i] = paid[k];
+        due[i] = moved[k];
+        return;
+    }
+    costs[i] = track_cost(hall, x, starts, dots, tracks, filters, ids, logs);
+    due[i] = 2;
+}
+
+// The first n places of the table: what they cost and what is due.
+fn carry_all<'a>(
+    hall: Hall,
+    last: Last,
+    n: usize,
+    old: &'a [u64; DETECTIONS],
+    paid: &'a [f64; DETECTIONS],
+    moved: &'a [u64; DETECTIONS],
+    table: &'a [u64; DETECTIONS],
+    starts: &'a [usize; STARTS],
+    dots: &'a [f64; DOTS],
+    tracks: &'a [u64; TRACKS],
+    filters: &'a [f64; FILTERS],
+    ids: &'a [u64; DETECTIONS],
+    costs: &mut [f64; DETECTIONS],
+    due: &mut [u64; DETECTIONS],
+    logs: &mut [f64; LOGS],
+)
+    requires { ⌜ Able (sceneOf hall (now starts) (now dots) (now tracks) (now filters)) × (n ≤ 128) × (length (now table) ≡ 128) × Left (sceneOf hall (now starts) (now dots) (now tracks) (now filters)) (last .count) (last .next) (now old) (now ids) (now paid) (now moved) × Carried (sceneOf hall (now starts) (now dots) (now tracks) (now filters)) (last .count) (last .next) (now old) (now moved) (now table) (now ids) 0 (now costs) (now due) (now logs) ⌝ }
+    ensures { λ r. ⌜ Carried (sceneOf hall (now (starts .entry)) (now (dots .entry)) (now (tracks .entry)) (now (filters .entry))) (last .count) (last .next) (now (old .entry)) (now (moved .entry)) (now (table .entry)) (now (ids .entry)) n (now (costs .exit)) (now (due .exit)) (now (logs .exit)) ⌝ }
+{
+    let count = last.count;
+    let mut k: usize = 0;
     let mut i: usize = 0;
     while i < n {
-        costs[i] = track_cost(hall, table[i], starts, dots, tracks, filters, ids, logs);
+        k = seek(table[i], k, count, old);
+        carry(
+            hall,
+            last,
+            i,
+            k,
+            old,
+            paid,
+            moved,
+            table,
+            starts,
+            dots,
+            tracks,
+            filters,
+            ids,
+            costs,
+            due,
+            logs,
+        );
         i += 1;
     }
+}
+
+// The row at place i of the table of rows.
+fn copy_row(i: usize, rows: &[usize; ROWS], row: &mut [usize; SCANS])
+    requires { ⌜ (i < 128) × (length (now rows) ≡ 2432) × (length (now row) ≡ 17) ⌝ }
+    ensures { λ r. ⌜ now (row .exit) ≡ rowAt (now (rows .entry)) i ⌝ }
+{
+    let at = ENTRY * i;
+    let mut k: usize = 0;
+    while k < SCANS {
+        row[k] = rows[at + k];
+        k += 1;
+    }
+}
+
+// The row of the id x at place i of the table as it is now: that of the table of rows, if it is known to be the same.
+fn row_now<'a>(
+    same: bool,
+    i: usize,
+    x: u64,
+    rows: &'a [usize; ROWS],
+    starts: &'a [usize; STARTS],
+    ids: &'a [u64; DETECTIONS],
+    row: &mut [usize; SCANS],
+)
+    requires { ⌜ (i < 128) × (length (now rows) ≡ 2432) × Starts (now starts) × (length (now ids) ≡ 128) × (length (now row) ≡ 17) × (same ≡ true → rowOf (now starts) (now ids) x ≡ rowAt (now rows) i) ⌝ }
+    ensures { λ r. ⌜ now (row .exit) ≡ rowOf (now (starts .entry)) (now (ids .entry)) x ⌝ }
+{
+    if same {
+        copy_row(i, rows, row);
+        return;
+    }
+    rows::fill_row(x, starts, ids, row);
 }
 
 // The best move of the pair at two places of the table, made; only the costs of these two change.
 fn pair_step<'a>(
     hall: Hall,
+    n: usize,
     i: usize,
     j: usize,
     t: Tally,
     close: &'a [bool; SCANS],
     table: &'a [u64; DETECTIONS],
+    rows: &'a [usize; ROWS],
     starts: &'a [usize; STARTS],
     dots: &'a [f64; DOTS],
     tracks: &'a [u64; TRACKS],
     filters: &'a [f64; FILTERS],
     ids: &mut [u64; DETECTIONS],
     costs: &mut [f64; DETECTIONS],
+    moved: &mut [u64; DETECTIONS],
     logs: &mut [f64; LOGS],
 ) -> Tally
-    requires { ⌜ Able (sceneOf hall (now starts) (now dots) (now tracks) (now filters)) × (i < j) × (j < 128) × (length (now close) ≡ 17) × (length (now table) ≡ 128) × (length (now ids) ≡ 128) × (length (now costs) ≡ 128) × Kept (now logs) ⌝ }
-    ensures { λ r. ⌜ ((n : ℕ) → j < n → Listed n (now (table .entry)) → Costed (sceneOf hall (now (starts .entry)) (now (dots .entry)) (now (tracks .entry)) (now (filters .entry))) n (now (table .entry)) (now (ids .entry)) (now (costs .entry)) → (_≡_ {A = Search} (record { ids = now (ids .exit); tally = r }) (pairStep (sceneOf hall (now (starts .entry)) (now (dots .entry)) (now (tracks .entry)) (now (filters .entry))) (now (close .entry)) (getD (now (table .entry)) i 0) (getD (now (table .entry)) j 0) (record { ids = now (ids .entry); tally = t }))) × Costed (sceneOf hall (now (starts .entry)) (now (dots .entry)) (now (tracks .entry)) (now (filters .entry))) n (now (table .entry)) (now (ids .exit)) (now (costs .exit))) × (length (now (ids .exit)) ≡ 128) × (length (now (costs .exit)) ≡ 128) × Kept (now (logs .exit)) ⌝ }
+    requires { ⌜ Able (sceneOf hall (now starts) (now dots) (now tracks) (now filters)) × (i < j) × (j < n) × Listed n (now table) × (length (now close) ≡ 17) × Stands (sceneOf hall (now starts) (now dots) (now tracks) (now filters)) n (now table) (now rows) (now ids) (now costs) (now moved) (now logs) ⌝ }
+    ensures { λ r. ⌜ (_≡_ {A = Search} (record { ids = now (ids .exit); tally = r }) (pairStep (sceneOf hall (now (starts .entry)) (now (dots .entry)) (now (tracks .entry)) (now (filters .entry))) (now (close .entry)) (getD (now (table .entry)) i 0) (getD (now (table .entry)) j 0) (record { ids = now (ids .entry); tally = t }))) × Stands (sceneOf hall (now (starts .entry)) (now (dots .entry)) (now (tracks .entry)) (now (filters .entry))) n (now (table .entry)) (now (rows .entry)) (now (ids .exit)) (now (costs .exit)) (now (moved .exit)) (now (logs .exit)) × Grows n (now (moved .entry)) (now (moved .exit)) × (getD (now (moved .exit)) i 0 ≡ 0 → pairStays (pairBest (sceneOf hall (now (starts .entry)) (now (dots .entry)) (now (tracks .entry)) (now (filters .entry))) (now (close .entry)) (getD (now (table .entry)) i 0) (getD (now (table .entry)) j 0) (now (ids .entry))) ≡ true) ⌝ }
 {
     let a = table[i];
     let b = table[j];
     let mut ra = [0usize; SCANS];
     let mut rb = [0usize; SCANS];
-    rows::fill_row(a, starts, ids, &mut ra);
-    rows::fill_row(b, starts, ids, &mut rb);
+    row_now(moved[i] == 0, i, a, rows, starts, ids, &mut ra);
+    row_now(moved[j] == 0, j, b, rows, starts, ids, &mut rb);
     let pa = price::part_of(a, hall.frozen, tracks, filters);
     let pb = price::part_of(b, hall.frozen, tracks, filters);
-    let base = costs[i] + costs[j];
     let m = pair::best_of_pair(
         hall,
         RefinedId(a),
@@ -111,7 +244,7 @@ fn pair_step<'a>(
         close,
         &ra,
         &rb,
-        base,
+        costs[i] + costs[j],
         dots,
         logs,
     );
@@ -130,6 +263,8 @@ fn pair_step<'a>(
     );
     costs[i] = track_cost(hall, a, starts, dots, tracks, filters, ids, logs);
     costs[j] = track_cost(hall, b, starts, dots, tracks, filters, ids, logs);
+    moved[i] = 1;
+    moved[j] = 1;
     t.count_pair(m)
 }
 
@@ -157,6 +292,82 @@ fn close_rows<'a>(
     false
 }
 
+// The row at place i has not changed since its pairs were last looked at.
+fn pairs_rest<'a>(i: usize, due: &'a [u64; DETECTIONS], moved: &'a [u64; DETECTIONS]) -> bool
+    requires { ⌜ (i < 128) × (length (now due) ≡ 128) × (length (now moved) ≡ 128) ⌝ }
+    ensures { λ r. ⌜ (r ≡ true → (getD (now (due .entry)) i 0 ≡ 0) × (getD (now (moved .entry)) i 0 ≡ 0)) ⌝ }
+{
+    if due[i] == 0 {
+        return moved[i] == 0;
+    }
+    false
+}
+
+// Neither of the two rows has changed since the pair was last looked at.
+fn pair_rests<'a>(
+    i: usize,
+    j: usize,
+    due: &'a [u64; DETECTIONS],
+    moved: &'a [u64; DETECTIONS],
+) -> bool
+    requires { ⌜ (i < 128) × (j < 128) × (length (now due) ≡ 128) × (length (now moved) ≡ 128) ⌝ }
+    ensures { λ r. ⌜ (r ≡ true → (getD (now (due .entry)) i 0 ≡ 0) × (getD (now (moved .entry)) i 0 ≡ 0) × (getD (now (due .entry)) j 0 ≡ 0) × (getD (now (moved .entry)) j 0 ≡ 0)) ⌝ }
+{
+    if pairs_rest(i, due, moved) {
+        return pairs_rest(j, due, moved);
+    }
+    false
+}
+
+// The pair at two places of the table: its best move, made, if one of the rows has changed and they are close somewhere.
+fn pair_turn<'a>(
+    hall: Hall,
+    n: usize,
+    i: usize,
+    j: usize,
+    t: Tally,
+    table: &'a [u64; DETECTIONS],
+    rows: &'a [usize; ROWS],
+    due: &'a [u64; DETECTIONS],
+    starts: &'a [usize; STARTS],
+    dots: &'a [f64; DOTS],
+    tracks: &'a [u64; TRACKS],
+    filters: &'a [f64; FILTERS],
+    ids: &mut [u64; DETECTIONS],
+    costs: &mut [f64; DETECTIONS],
+    moved: &mut [u64; DETECTIONS],
+    logs: &mut [f64; LOGS],
+) -> Tally
+    requires { ⌜ Able (sceneOf hall (now starts) (now dots) (now tracks) (now filters)) × (i < j) × (j < n) × Listed n (now table) × Due (sceneOf hall (now starts) (now dots) (now tracks) (now filters)) n (now table) (now rows) (now due) × Stands (sceneOf hall (now starts) (now dots) (now tracks) (now filters)) n (now table) (now rows) (now ids) (now costs) (now moved) (now logs) ⌝ }
+    ensures { λ r. ⌜ ((is : List ℕ) → Tabled (now (starts .entry)) is (now (table .entry)) n (now (rows .entry)) → (_≡_ {A = Search} (record { ids = now (ids .exit); tally = r }) (pairIf (sceneOf hall (now (starts .entry)) (now (dots .entry)) (now (tracks .entry)) (now (filters .entry))) (closeOn (sceneOf hall (now (starts .entry)) (now (dots .entry)) (now (tracks .entry)) (now (filters .entry))) (rowOn (sceneOf hall (now (starts .entry)) (now (dots .entry)) (now (tracks .entry)) (now (filters .entry))) is (getD (now (table .entry)) i 0)) (rowOn (sceneOf hall (now (starts .entry)) (now (dots .entry)) (now (tracks .entry)) (now (filters .entry))) is (getD (now (table .entry)) j 0))) (getD (now (table .entry)) i 0) (getD (now (table .entry)) j 0) (record { ids = now (ids .entry); tally = t }))) × Rests (sceneOf hall (now (starts .entry)) (now (dots .entry)) (now (tracks .entry)) (now (filters .entry))) (now (table .entry)) (now (rows .entry)) (now (moved .exit)) i j) × Stands (sceneOf hall (now (starts .entry)) (now (dots .entry)) (now (tracks .entry)) (now (filters .entry))) n (now (table .entry)) (now (rows .entry)) (now (ids .exit)) (now (costs .exit)) (now (moved .exit)) (now (logs .exit)) × Grows n (now (moved .entry)) (now (moved .exit)) ⌝ }
+{
+    if pair_rests(i, j, due, moved) {
+        return t;
+    }
+    let mut close = [false; SCANS];
+    if close_rows(hall, i, j, rows, dots, &mut close) {
+        return pair_step(
+            hall,
+            n,
+            i,
+            j,
+            t,
+            &close,
+            table,
+            rows,
+            starts,
+            dots,
+            tracks,
+            filters,
+            ids,
+            costs,
+            moved,
+            logs,
+        );
+    }
+    t
+}
+
 // The track at place i of the table with each after it.
 fn sweep_one<'a>(
     hall: Hall,
@@ -165,38 +376,40 @@ fn sweep_one<'a>(
     t0: Tally,
     table: &'a [u64; DETECTIONS],
     rows: &'a [usize; ROWS],
+    due: &'a [u64; DETECTIONS],
     starts: &'a [usize; STARTS],
     dots: &'a [f64; DOTS],
     tracks: &'a [u64; TRACKS],
     filters: &'a [f64; FILTERS],
     ids: &mut [u64; DETECTIONS],
     costs: &mut [f64; DETECTIONS],
+    moved: &mut [u64; DETECTIONS],
     logs: &mut [f64; LOGS],
 ) -> Tally
-    requires { ⌜ Able (sceneOf hall (now starts) (now dots) (now tracks) (now filters)) × (i < n) × Listed n (now table) × (length (now rows) ≡ 2432) × Costed (sceneOf hall (now starts) (now dots) (now tracks) (now filters)) n (now table) (now ids) (now costs) × Kept (now logs) ⌝ }
-    ensures { λ r. ⌜ ((is : List ℕ) → Tabled (now (starts .entry)) is (now (table .entry)) n (now (rows .entry)) → _≡_ {A = Search} (record { ids = now (ids .exit); tally = r }) (sweepOne (sceneOf hall (now (starts .entry)) (now (dots .entry)) (now (tracks .entry)) (now (filters .entry))) is (getD (now (table .entry)) i 0) (drop (i + 1) (take n (now (table .entry)))) (record { ids = now (ids .entry); tally = t0 }))) × Costed (sceneOf hall (now (starts .entry)) (now (dots .entry)) (now (tracks .entry)) (now (filters .entry))) n (now (table .entry)) (now (ids .exit)) (now (costs .exit)) × Kept (now (logs .exit)) ⌝ }
+    requires { ⌜ Able (sceneOf hall (now starts) (now dots) (now tracks) (now filters)) × (i < n) × Listed n (now table) × Due (sceneOf hall (now starts) (now dots) (now tracks) (now filters)) n (now table) (now rows) (now due) × Stands (sceneOf hall (now starts) (now dots) (now tracks) (now filters)) n (now table) (now rows) (now ids) (now costs) (now moved) (now logs) ⌝ }
+    ensures { λ r. ⌜ ((is : List ℕ) → Tabled (now (starts .entry)) is (now (table .entry)) n (now (rows .entry)) → (_≡_ {A = Search} (record { ids = now (ids .exit); tally = r }) (sweepOne (sceneOf hall (now (starts .entry)) (now (dots .entry)) (now (tracks .entry)) (now (filters .entry))) is (getD (now (table .entry)) i 0) (drop (i + 1) (take n (now (table .entry)))) (record { ids = now (ids .entry); tally = t0 }))) × ((j : ℕ) → i < j → j < n → Rests (sceneOf hall (now (starts .entry)) (now (dots .entry)) (now (tracks .entry)) (now (filters .entry))) (now (table .entry)) (now (rows .entry)) (now (moved .exit)) i j)) × Stands (sceneOf hall (now (starts .entry)) (now (dots .entry)) (now (tracks .entry)) (now (filters .entry))) n (now (table .entry)) (now (rows .entry)) (now (ids .exit)) (now (costs .exit)) (now (moved .exit)) (now (logs .exit)) × Grows n (now (moved .entry)) (now (moved .exit)) ⌝ }
 {
-    let mut close = [false; SCANS];
     let mut t = t0;
     let mut j = i + 1;
     while j < n {
-        if close_rows(hall, i, j, rows, dots, &mut close) {
-            t = pair_step(
-                hall,
-                i,
-                j,
-                t,
-                &close,
-                table,
-                starts,
-                dots,
-                tracks,
-                filters,
-                ids,
-                costs,
-                logs,
-            );
-        }
+        t = pair_turn(
+            hall,
+            n,
+            i,
+            j,
+            t,
+            table,
+            rows,
+            due,
+            starts,
+            dots,
+            tracks,
+            filters,
+            ids,
+            costs,
+            moved,
+            logs,
+        );
         j += 1;
     }
     t
@@ -209,16 +422,18 @@ fn sweep_pairs<'a>(
     t0: Tally,
     table: &'a [u64; DETECTIONS],
     rows: &'a [usize; ROWS],
+    due: &'a [u64; DETECTIONS],
     starts: &'a [usize; STARTS],
     dots: &'a [f64; DOTS],
     tracks: &'a [u64; TRACKS],
     filters: &'a [f64; FILTERS],
     ids: &mut [u64; DETECTIONS],
     costs: &mut [f64; DETECTIONS],
+    moved: &mut [u64; DETECTIONS],
     logs: &mut [f64; LOGS],
 ) -> Tally
-    requires { ⌜ Able (sceneOf hall (now starts) (now dots) (now tracks) (now filters)) × Listed n (now table) × (length (now rows) ≡ 2432) × Costed (sceneOf hall (now starts) (now dots) (now tracks) (now filters)) n (now table) (now ids) (now costs) × Kept (now logs) ⌝ }
-    ensures { λ r. ⌜ ((is : List ℕ) → Tabled (now (starts .entry)) is (now (table .entry)) n (now (rows .entry)) → _≡_ {A = Search} (record { ids = now (ids .exit); tally = r }) (sweep (sceneOf hall (now (starts .entry)) (now (dots .entry)) (now (tracks .entry)) (now (filters .entry))) is (take n (now (table .entry))) (record { ids = now (ids .entry); tally = t0 }))) × Costed (sceneOf hall (now (starts .entry)) (now (dots .entry)) (now (tracks .entry)) (now (filters .entry))) n (now (table .entry)) (now (ids .exit)) (now (costs .exit)) × Kept (now (logs .exit)) ⌝ }
+    requires { ⌜ Able (sceneOf hall (now starts) (now dots) (now tracks) (now filters)) × Listed n (now table) × Due (sceneOf hall (now starts) (now dots) (now tracks) (now filters)) n (now table) (now rows) (now due) × Stands (sceneOf hall (now starts) (now dots) (now tracks) (now filters)) n (now table) (now rows) (now ids) (now costs) (now moved) (now logs) ⌝ }
+    ensures { λ r. ⌜ ((is : List ℕ) → Tabled (now (starts .entry)) is (now (table .entry)) n (now (rows .entry)) → (_≡_ {A = Search} (record { ids = now (ids .exit); tally = r }) (sweep (sceneOf hall (now (starts .entry)) (now (dots .entry)) (now (tracks .entry)) (now (filters .entry))) is (take n (now (table .entry))) (record { ids = now (ids .entry); tally = t0 }))) × ((i j : ℕ) → i < j → j < n → Rests (sceneOf hall (now (starts .entry)) (now (dots .entry)) (now (tracks .entry)) (now (filters .entry))) (now (table .entry)) (now (rows .entry)) (now (moved .exit)) i j)) × Stands (sceneOf hall (now (starts .entry)) (now (dots .entry)) (now (tracks .entry)) (now (filters .entry))) n (now (table .entry)) (now (rows .entry)) (now (ids .exit)) (now (costs .exit)) (now (moved .exit)) (now (logs .exit)) ⌝ }
 {
     let mut t = t0;
     let mut i: usize = 0;
@@ -230,12 +445,14 @@ fn sweep_pairs<'a>(
             t,
             table,
             rows,
+            due,
             starts,
             dots,
             tracks,
             filters,
             ids,
             costs,
+            moved,
             logs,
         );
         i += 1;
@@ -243,34 +460,66 @@ fn sweep_pairs<'a>(
     t
 }
 
-// The best move of a track that costs `base` now, made.
+// The best move of a track with the row that it has and the cost `base` of it, made; its cost is worked out anew.
 fn track_step<'a>(
     hall: Hall,
+    i: usize,
     a: u64,
     base: f64,
     t: Tally,
+    row: &'a [usize; SCANS],
     starts: &'a [usize; STARTS],
     dots: &'a [f64; DOTS],
     tracks: &'a [u64; TRACKS],
     filters: &'a [f64; FILTERS],
     ids: &mut [u64; DETECTIONS],
+    costs: &mut [f64; DETECTIONS],
+    moved: &mut [u64; DETECTIONS],
     logs: &mut [f64; LOGS],
 ) -> Tally
-    requires { ⌜ Able (sceneOf hall (now starts) (now dots) (now tracks) (now filters)) × (length (now ids) ≡ 128) × (base ≡ costOn (sceneOf hall (now starts) (now dots) (now tracks) (now filters)) (now ids) a) × Kept (now logs) ⌝ }
-    ensures { λ r. ⌜ (_≡_ {A = Search} (record { ids = now (ids .exit); tally = r }) (trackStep (sceneOf hall (now (starts .entry)) (now (dots .entry)) (now (tracks .entry)) (now (filters .entry))) a (record { ids = now (ids .entry); tally = t }))) × (length (now (ids .exit)) ≡ 128) × Kept (now (logs .exit)) ⌝ }
+    requires { ⌜ Able (sceneOf hall (now starts) (now dots) (now tracks) (now filters)) × (i < 128) × (length (now ids) ≡ 128) × (length (now costs) ≡ 128) × (length (now moved) ≡ 128) × (now row ≡ rowOn (sceneOf hall (now starts) (now dots) (now tracks) (now filters)) (now ids) a) × (base ≡ costOn (sceneOf hall (now starts) (now dots) (now tracks) (now filters)) (now ids) a) × Kept (now logs) ⌝ }
+    ensures { λ r. ⌜ (_≡_ {A = Search} (record { ids = now (ids .exit); tally = r }) (trackStep (sceneOf hall (now (starts .entry)) (now (dots .entry)) (now (tracks .entry)) (now (filters .entry))) a (record { ids = now (ids .entry); tally = t }))) × Stepped (sceneOf hall (now (starts .entry)) (now (dots .entry)) (now (tracks .entry)) (now (filters .entry))) i a base (now (ids .entry)) (now (costs .entry)) (now (moved .entry)) (now (ids .exit)) (now (costs .exit)) (now (moved .exit)) × Kept (now (logs .exit)) ⌝ }
 {
-    let mut row = [0usize; SCANS];
-    rows::fill_row(a, starts, ids, &mut row);
     let p = price::part_of(a, hall.frozen, tracks, filters);
-    let m = track::best_of_track(hall, p, &row, base, dots, logs);
+    let m = track::best_of_track(hall, p, row, base, dots, logs);
     if moves::track_stays(m) {
         return t;
     }
     moves::apply_track(m, hall.first, RefinedId(a), RefinedId(t.next), starts, ids);
+    costs[i] = track_cost(hall, a, starts, dots, tracks, filters, ids, logs);
+    moved[i] = 2;
     t.count_track(m)
 }
 
-// What the window of x costs: as it was kept, if x was there before the track phase began and so only its own step can change it.
+// The row at place i, of the id x, has not changed in this pass. That of an id from `new` on may have: another track may be given it.
+fn unmoved(i: usize, x: u64, new: u64, moved: &[u64; DETECTIONS]) -> bool
+    requires { ⌜ (i < 128) × (length (now moved) ≡ 128) ⌝ }
+    ensures { λ r. ⌜ (r ≡ true → (x < new) × (getD (now (moved .entry)) i 0 ≡ 0)) ⌝ }
+{
+    if x < new {
+        return moved[i] == 0;
+    }
+    false
+}
+
+// The row at place i, of the id x, has not changed since its track was last visited.
+fn track_rests<'a>(
+    i: usize,
+    x: u64,
+    new: u64,
+    due: &'a [u64; DETECTIONS],
+    moved: &'a [u64; DETECTIONS],
+) -> bool
+    requires { ⌜ (i < 128) × (length (now due) ≡ 128) × (length (now moved) ≡ 128) ⌝ }
+    ensures { λ r. ⌜ (r ≡ true → (x < new) × (getD (now (due .entry)) i 0 < 2) × (getD (now (moved .entry)) i 0 ≡ 0)) ⌝ }
+{
+    if due[i] < 2 {
+        return unmoved(i, x, new, moved);
+    }
+    false
+}
+
+// What the window of x costs: as it was kept, if x is below `new` and so no other track is given it.
 fn cost_now<'a>(
     hall: Hall,
     x: u64,
@@ -284,7 +533,7 @@ fn cost_now<'a>(
     logs: &mut [f64; LOGS],
 ) -> f64
     requires { ⌜ Able (sceneOf hall (now starts) (now dots) (now tracks) (now filters)) × (length (now ids) ≡ 128) × (x < new → kept ≡ costOn (sceneOf hall (now starts) (now dots) (now tracks) (now filters)) (now ids) x) × Kept (now logs) ⌝ }
-    ensures { λ r. ⌜ (r ≡ costOn (sceneOf hall (now (starts .entry)) (now (dots .entry)) (now (tracks .entry)) (now (filters .entry))) (now (ids .entry)) x) × Kept (now (logs .exit)) ⌝ }
+    ensures { λ r. ⌜ (r ≡ costOn (sceneOf hall (now (starts .entry)) (now (dots .entry)) (now (tracks .entry)) (now (filters .entry))) (now (ids .entry)) x) × (x < new → r ≡ kept) × Kept (now (logs .exit)) ⌝ }
 {
     if x < new {
         return kept;
@@ -292,49 +541,104 @@ fn cost_now<'a>(
     track_cost(hall, x, starts, dots, tracks, filters, ids, logs)
 }
 
-// Every track of the table, with what it costs.
+// The track at place i of the table: its best move, made, if its row has changed.
+fn track_turn<'a>(
+    hall: Hall,
+    n: usize,
+    i: usize,
+    new: u64,
+    t: Tally,
+    table: &'a [u64; DETECTIONS],
+    rows: &'a [usize; ROWS],
+    due: &'a [u64; DETECTIONS],
+    starts: &'a [usize; STARTS],
+    dots: &'a [f64; DOTS],
+    tracks: &'a [u64; TRACKS],
+    filters: &'a [f64; FILTERS],
+    ids: &mut [u64; DETECTIONS],
+    costs: &mut [f64; DETECTIONS],
+    moved: &mut [u64; DETECTIONS],
+    logs: &mut [f64; LOGS],
+) -> Tally
+    requires { ⌜ Able (sceneOf hall (now starts) (now dots) (now tracks) (now filters)) × (i < n) × Listed n (now table) × Due (sceneOf hall (now starts) (now dots) (now tracks) (now filters)) n (now table) (now rows) (now due) × (new ≤ t .next) × Visits (sceneOf hall (now starts) (now dots) (now tracks) (now filters)) n (now table) (now rows) new i (now ids) (now costs) (now moved) (now logs) ⌝ }
+    ensures { λ r. ⌜ (_≡_ {A = Search} (record { ids = now (ids .exit); tally = r }) (trackStep (sceneOf hall (now (starts .entry)) (now (dots .entry)) (now (tracks .entry)) (now (filters .entry))) (getD (now (table .entry)) i 0) (record { ids = now (ids .entry); tally = t }))) × Visits (sceneOf hall (now (starts .entry)) (now (dots .entry)) (now (tracks .entry)) (now (filters .entry))) n (now (table .entry)) (now (rows .entry)) new (i + 1) (now (ids .exit)) (now (costs .exit)) (now (moved .exit)) (now (logs .exit)) × Grows n (now (moved .entry)) (now (moved .exit)) ⌝ }
+{
+    let a = table[i];
+    if track_rests(i, a, new, due, moved) {
+        return t;
+    }
+    let mut row = [0usize; SCANS];
+    row_now(unmoved(i, a, new, moved), i, a, rows, starts, ids, &mut row);
+    let base = cost_now(
+        hall,
+        a,
+        costs[i],
+        new,
+        starts,
+        dots,
+        tracks,
+        filters,
+        ids,
+        logs,
+    );
+    track_step(
+        hall,
+        i,
+        a,
+        base,
+        t,
+        &row,
+        starts,
+        dots,
+        tracks,
+        filters,
+        ids,
+        costs,
+        moved,
+        logs,
+    )
+}
+
+// Every track of the table.
 fn visit_tracks<'a>(
     hall: Hall,
     n: usize,
     t0: Tally,
     table: &'a [u64; DETECTIONS],
+    rows: &'a [usize; ROWS],
+    due: &'a [u64; DETECTIONS],
     starts: &'a [usize; STARTS],
     dots: &'a [f64; DOTS],
     tracks: &'a [u64; TRACKS],
     filters: &'a [f64; FILTERS],
-    costs: &'a [f64; DETECTIONS],
     ids: &mut [u64; DETECTIONS],
+    costs: &mut [f64; DETECTIONS],
+    moved: &mut [u64; DETECTIONS],
     logs: &mut [f64; LOGS],
 ) -> Tally
-    requires { ⌜ Able (sceneOf hall (now starts) (now dots) (now tracks) (now filters)) × Listed n (now table) × Costed (sceneOf hall (now starts) (now dots) (now tracks) (now filters)) n (now table) (now ids) (now costs) × Kept (now logs) ⌝ }
-    ensures { λ r. ⌜ (_≡_ {A = Search} (record { ids = now (ids .exit); tally = r }) (visit (sceneOf hall (now (starts .entry)) (now (dots .entry)) (now (tracks .entry)) (now (filters .entry))) (take n (now (table .entry))) (record { ids = now (ids .entry); tally = t0 }))) × (length (now (ids .exit)) ≡ 128) × Kept (now (logs .exit)) ⌝ }
+    requires { ⌜ Able (sceneOf hall (now starts) (now dots) (now tracks) (now filters)) × Listed n (now table) × Due (sceneOf hall (now starts) (now dots) (now tracks) (now filters)) n (now table) (now rows) (now due) × Stands (sceneOf hall (now starts) (now dots) (now tracks) (now filters)) n (now table) (now rows) (now ids) (now costs) (now moved) (now logs) ⌝ }
+    ensures { λ r. ⌜ (_≡_ {A = Search} (record { ids = now (ids .exit); tally = r }) (visit (sceneOf hall (now (starts .entry)) (now (dots .entry)) (now (tracks .entry)) (now (filters .entry))) (take n (now (table .entry))) (record { ids = now (ids .entry); tally = t0 }))) × Visits (sceneOf hall (now (starts .entry)) (now (dots .entry)) (now (tracks .entry)) (now (filters .entry))) n (now (table .entry)) (now (rows .entry)) (t0 .next) n (now (ids .exit)) (now (costs .exit)) (now (moved .exit)) (now (logs .exit)) × Grows n (now (moved .entry)) (now (moved .exit)) ⌝ }
 {
     let new = t0.next;
     let mut t = t0;
     let mut i: usize = 0;
     while i < n {
-        let base = cost_now(
+        t = track_turn(
             hall,
-            table[i],
-            costs[i],
+            n,
+            i,
             new,
-            starts,
-            dots,
-            tracks,
-            filters,
-            ids,
-            logs,
-        );
-        t = track_step(
-            hall,
-            table[i],
-            base,
             t,
+            table,
+            rows,
+            due,
             starts,
             dots,
             tracks,
             filters,
             ids,
+            costs,
+            moved,
             logs,
         );
         i += 1;
@@ -342,9 +646,114 @@ fn visit_tracks<'a>(
     t
 }
 
-// One pass. The tables of ids, rows and costs are lent, and written anew.
+// A pass begins: its tables are written, from those of the last. How many tracks it lists.
+fn begin_pass<'a>(
+    hall: Hall,
+    last: Last,
+    starts: &'a [usize; STARTS],
+    dots: &'a [f64; DOTS],
+    tracks: &'a [u64; TRACKS],
+    filters: &'a [f64; FILTERS],
+    ids: &'a [u64; DETECTIONS],
+    table: &mut [u64; DETECTIONS],
+    rows: &mut [usize; ROWS],
+    costs: &mut [f64; DETECTIONS],
+    due: &mut [u64; DETECTIONS],
+    moved: &mut [u64; DETECTIONS],
+    logs: &mut [f64; LOGS],
+) -> usize
+    requires { ⌜ Able (sceneOf hall (now starts) (now dots) (now tracks) (now filters)) × Tables (sceneOf hall (now starts) (now dots) (now tracks) (now filters)) (last .count) (last .next) (now ids) (now table) (now rows) (now costs) (now due) (now moved) (now logs) ⌝ }
+    ensures { λ r. ⌜ Begins (presentIn (hall .detections) (now (ids .entry))) r (now (table .exit)) × Tabled (now (starts .entry)) (now (ids .entry)) (now (table .exit)) r (now (rows .exit)) × Stands (sceneOf hall (now (starts .entry)) (now (dots .entry)) (now (tracks .entry)) (now (filters .entry))) r (now (table .exit)) (now (rows .exit)) (now (ids .entry)) (now (costs .exit)) (now (moved .exit)) (now (logs .exit)) × Due (sceneOf hall (now (starts .entry)) (now (dots .entry)) (now (tracks .entry)) (now (filters .entry))) r (now (table .exit)) (now (rows .exit)) (now (due .exit)) ⌝ }
+{
+    let old = *table;
+    let paid = *costs;
+    let was = *moved;
+    let n = rows::present(hall.detections, ids, table);
+    rows::fill_rows(n, table, starts, ids, rows);
+    carry_all(
+        hall,
+        last,
+        n,
+        &old,
+        &paid,
+        &was,
+        table,
+        starts,
+        dots,
+        tracks,
+        filters,
+        ids,
+        costs,
+        due,
+        logs,
+    );
+    *moved = [0; DETECTIONS];
+    n
+}
+
+// The moves of a pass that began: of every pair, then of every track.
+fn move_all<'a>(
+    hall: Hall,
+    n: usize,
+    t0: Tally,
+    table: &'a [u64; DETECTIONS],
+    rows: &'a [usize; ROWS],
+    due: &'a [u64; DETECTIONS],
+    starts: &'a [usize; STARTS],
+    dots: &'a [f64; DOTS],
+    tracks: &'a [u64; TRACKS],
+    filters: &'a [f64; FILTERS],
+    ids: &mut [u64; DETECTIONS],
+    costs: &mut [f64; DETECTIONS],
+    moved: &mut [u64; DETECTIONS],
+    logs: &mut [f64; LOGS],
+) -> Passed
+    requires { ⌜ Able (sceneOf hall (now starts) (now dots) (now tracks) (now filters)) × Listed n (now table) × Due (sceneOf hall (now starts) (now dots) (now tracks) (now filters)) n (now table) (now rows) (now due) × Stands (sceneOf hall (now starts) (now dots) (now tracks) (now filters)) n (now table) (now rows) (now ids) (now costs) (now moved) (now logs) ⌝ }
+    ensures { λ r. ⌜ ((is : List ℕ) → Tabled (now (starts .entry)) is (now (table .entry)) n (now (rows .entry)) → (_≡_ {A = Search} (record { ids = now (ids .exit); tally = r .tally }) (visit (sceneOf hall (now (starts .entry)) (now (dots .entry)) (now (tracks .entry)) (now (filters .entry))) (take n (now (table .entry))) (sweep (sceneOf hall (now (starts .entry)) (now (dots .entry)) (now (tracks .entry)) (now (filters .entry))) is (take n (now (table .entry))) (record { ids = now (ids .entry); tally = t0 })))) × Left (sceneOf hall (now (starts .entry)) (now (dots .entry)) (now (tracks .entry)) (now (filters .entry))) (r .last .count) (r .last .next) (now (table .entry)) (now (ids .exit)) (now (costs .exit)) (now (moved .exit))) × Kept (now (logs .exit)) ⌝ }
+{
+    let t = sweep_pairs(
+        hall,
+        n,
+        t0,
+        table,
+        rows,
+        due,
+        starts,
+        dots,
+        tracks,
+        filters,
+        ids,
+        costs,
+        moved,
+        logs,
+    );
+    let last = Last {
+        count: n,
+        next: t.next,
+    };
+    let tally = visit_tracks(
+        hall,
+        n,
+        t,
+        table,
+        rows,
+        due,
+        starts,
+        dots,
+        tracks,
+        filters,
+        ids,
+        costs,
+        moved,
+        logs,
+    );
+    Passed { tally, last }
+}
+
+// One pass. What it leaves in the tables goes to the next.
 fn run_pass<'a>(
     hall: Hall,
+    last: Last,
     t0: Tally,
     starts: &'a [usize; STARTS],
     dots: &'a [f64; DOTS],
@@ -354,50 +763,42 @@ fn run_pass<'a>(
     table: &mut [u64; DETECTIONS],
     rows: &mut [usize; ROWS],
     costs: &mut [f64; DETECTIONS],
+    due: &mut [u64; DETECTIONS],
+    moved: &mut [u64; DETECTIONS],
     logs: &mut [f64; LOGS],
-) -> Tally
-    requires { ⌜ Able (sceneOf hall (now starts) (now dots) (now tracks) (now filters)) × (length (now ids) ≡ 128) × Tables (now table) (now rows) (now costs) (now logs) ⌝ }
-    ensures { λ r. ⌜ (_≡_ {A = Search} (record { ids = now (ids .exit); tally = r }) (passOver (sceneOf hall (now (starts .entry)) (now (dots .entry)) (now (tracks .entry)) (now (filters .entry))) (record { ids = now (ids .entry); tally = t0 }))) × (length (now (ids .exit)) ≡ 128) × Tables (now (table .exit)) (now (rows .exit)) (now (costs .exit)) (now (logs .exit)) ⌝ }
+) -> Passed
+    requires { ⌜ Able (sceneOf hall (now starts) (now dots) (now tracks) (now filters)) × Tables (sceneOf hall (now starts) (now dots) (now tracks) (now filters)) (last .count) (last .next) (now ids) (now table) (now rows) (now costs) (now due) (now moved) (now logs) ⌝ }
+    ensures { λ r. ⌜ (_≡_ {A = Search} (record { ids = now (ids .exit); tally = r .tally }) (passOver (sceneOf hall (now (starts .entry)) (now (dots .entry)) (now (tracks .entry)) (now (filters .entry))) (record { ids = now (ids .entry); tally = t0 }))) × Tables (sceneOf hall (now (starts .entry)) (now (dots .entry)) (now (tracks .entry)) (now (filters .entry))) (r .last .count) (r .last .next) (now (ids .exit)) (now (table .exit)) (now (rows .exit)) (now (costs .exit)) (now (due .exit)) (now (moved .exit)) (now (logs .exit)) ⌝ }
 {
-    let n = rows::present(hall.detections, ids, table);
-    rows::fill_rows(n, table, starts, ids, rows);
-    fill_costs(
+    let n = begin_pass(
         hall,
-        n,
-        table,
+        last,
         starts,
         dots,
         tracks,
         filters,
         ids,
+        table,
+        rows,
         costs,
+        due,
+        moved,
         logs,
     );
-    let t = sweep_pairs(
+    move_all(
         hall,
         n,
         t0.begin(),
         table,
         rows,
+        due,
         starts,
         dots,
         tracks,
         filters,
         ids,
         costs,
-        logs,
-    );
-    visit_tracks(
-        hall,
-        n,
-        t,
-        table,
-        starts,
-        dots,
-        tracks,
-        filters,
-        costs,
-        ids,
+        moved,
         logs,
     )
 }
@@ -418,15 +819,19 @@ fn run_passes<'a>(
     let mut table = [0u64; DETECTIONS];
     let mut rows = [0usize; ROWS];
     let mut costs = [0.0; DETECTIONS];
+    let mut due = [0u64; DETECTIONS];
+    let mut moved = [0u64; DETECTIONS];
     let mut logs = [0.0; LOGS];
     let mut t = t0;
+    let mut last = Last { count: 0, next: 0 };
     let mut left = hall.config.max_passes;
     while 0 < left {
         if !t.moved {
             return t;
         }
-        t = run_pass(
+        let p = run_pass(
             hall,
+            last,
             t,
             starts,
             dots,
@@ -436,8 +841,12 @@ fn run_passes<'a>(
             &mut table,
             &mut rows,
             &mut costs,
+            &mut due,
+            &mut moved,
             &mut logs,
         );
+        t = p.tally;
+        last = p.last;
         left -= 1;
     }
     t

@@ -7,20 +7,20 @@ use Rattle.search.proofs.pass.sweep_pairs.Statement.{statement}
 use Rattle.search.proofs.pass.sweep_pairs.Tie as tie
 
 abbrev Inv-loop : tie.InvT-loop
-Inv-loop hall n table rows starts dots tracks filters ids₀ costs₀ logs₀ t₀ i₀ ids costs logs t i =
-    SweptAll (sceneOf hall starts dots tracks filters) n table rows ids₀ t₀ ids costs logs t i
+Inv-loop hall n table rows due starts dots tracks filters ids₀ costs₀ moved₀ logs₀ t₀ i₀ ids costs moved logs t i =
+    SweptAll (sceneOf hall starts dots tracks filters) n table rows ids₀ t₀ ids costs moved logs t i
 
 abbrev μ-loop : tie.MeasureT-loop
-μ-loop hall n table rows starts dots tracks filters ids₀ costs₀ logs₀ t₀ i₀ ids costs logs t i = n - i
+μ-loop hall n table rows due starts dots tracks filters ids₀ costs₀ moved₀ logs₀ t₀ i₀ ids costs moved logs t i =
+    n - i
 
 loop-holds : tie.Need-loop-holds Inv-loop μ-loop
-loop-holds c = all-start (c .pre .1) (c .pre .3) (c .pre .4)
+loop-holds c = all-start (c .pre .1) (c .pre .3)
 
 sweep-one-requires : tie.Need-sweep-one-requires Inv-loop μ-loop
 sweep-one-requires c κs =
-    let p = c .before .before .before .before .before .pre in
-    let o = c .before .before .before .before .loop .inv in
-    (p .0, c .before .before .before .loop-test .taken, p .1, p .2, o .costed, o .kept)
+    let p = c .before .before .before .before .before .before .pre in
+    (p .0, c .before .before .before .before .loop-test .taken, p .1, p .2, c .before .before .before .before .before .loop .inv .stands)
 
 add-i : tie.Need-add-i Inv-loop μ-loop
 add-i c = omega arith
@@ -31,10 +31,10 @@ loop-less c = omega arith
 loop-again : tie.Need-loop-again Inv-loop μ-loop
 loop-again c =
     let r = c .sweep-one .ensures in
-    all-step (c .before .before .before .before .before .before .pre .1) (c .before .before .before .before .before .loop .inv) (c .before .before .before .before .loop-test .taken) (r .0) (r .1) (r .2)
+    all-step (c .before .before .before .before .before .before .before .pre .1) (c .before .before .before .before .before .before .loop .inv) (c .before .before .before .before .before .loop-test .taken) (r .0) (r .1) (r .2)
 
 returns : tie.Need-returns Inv-loop μ-loop
-returns c = let o = c .before .loop .inv in (all-done (c .before .before .pre .1) o (omega arith), o .costed, o .kept)
+returns c = let o = c .before .loop .inv in (all-done (c .before .before .pre .1) o (omega arith), o .stands)
 
 pub sweep-pairs-spec : {M : Type 1} → statement M
 sweep-pairs-spec =
