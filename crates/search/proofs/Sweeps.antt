@@ -10,9 +10,9 @@ use lib.Ieee.{Float}
 use Rattle.engine.specs.Config.{radius}
 use Rattle.windows.specs.declared.moves.Tally.{Tally}
 use Rattle.windows.specs.Rows.{Tabled}
-use Rattle.windows.specs.Near.{square, closeScans, anyClose, rowAt, CloseRows}
+use Rattle.windows.specs.Near.{square, anyClose, rowAt, CloseRows}
 use Rattle.windows.specs.Moves.{pairStays}
-use Rattle.search.specs.Pass.{Scene, Search, rowOn, closeOn, pairBest, pairStep, pairIf, sweepOne, sweep, Listed, Rests, Grows, Due, Stands}
+use Rattle.search.specs.Pass.{Scene, rowOn, closeOn, pairBest, pairStep, pairIf, sweepOne, sweep, Listed, Rests, Grows, Due, Stands}
 use Rattle.search.proofs.Listing.{listed-next, listed-end}
 use Rattle.search.proofs.Meeting.{table-row, table-close}
 use Rattle.search.proofs.Resting.{at, rest-passes, stay-rests, apart-rests, grows-none, grows-on, rests-grow}

@@ -33,6 +33,9 @@ ghost use Rattle.windows.specs.Rows.{Starts, rowOf, presentIn, Begins, Tabled};
 ghost use Rattle.search.specs.Pass.{Search, sceneOf, rowOn, costOn, closeOn, pairBest, pairStep, pairIf, trackStep, sweepOne, sweep, visit, passOver, passesOver, Able, Listed, Rests, Grows, Due, Stands, Visits, Stepped, Left, Carried, Tables};
 ghost use Rattle.search.specs.Gathered.{Gathered, Finds};
 
+// The marks of a pass: 0 for a row that has not moved in it, 1 for one that a pair moved, 2 for one that its own track's step moved. So they say what is due in the next: nothing,
+// the row's pairs, or its pairs and its track; 2 for a track that is new.
+
 // What a pass leaves to the next beside its tables: how many tracks it listed, and the next id before it visited them.
 struct Last {
     count: usize,
@@ -65,7 +68,7 @@ fn track_cost<'a>(
     cost::cost_of(hall.config, p, &row, hall.first, dots, logs)
 }
 
-// The first place from k on whose id is not below x, n where there is none.
+// The first place, from one on, whose id is not below x; n where there is none.
 fn seek(x: u64, from: usize, n: usize, table: &[u64; DETECTIONS]) -> usize
     requires { ⌜ (n ≤ 128) × (length (now table) ≡ 128) ⌝ }
 {

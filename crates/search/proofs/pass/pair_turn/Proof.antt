@@ -1,6 +1,5 @@
 -- `search::pass::pair_turn` meets its contract. Assumes nothing.
 use borrow.Author.Needs.{needs}
-use mathlib.Core.Path.{refl}
 use Rattle.search.proofs.Resting.{grows-none}
 use Rattle.search.proofs.Sweeps.{turn-rests, turn-apart, turn-steps}
 use Rattle.search.proofs.pass.pair_turn.Statement.{statement}
