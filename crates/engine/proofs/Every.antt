@@ -1,7 +1,7 @@
 -- Facts of tests: of a conjunction, of a refusal that is 0 or 5, and of a test over all numbers below a bound. Assumes nothing.
 use Prim.Native.Nat.{ℕ, zero, suc, _+_, _<_}
-use mathlib.Core.Path.{_≡_, refl, sym}
-use mathlib.Core.Bool.{Bool, true, false, cond, _&&_, and-false}
+use mathlib.Core.Path.{_≡_, refl, sym, ap, _∙_}
+use mathlib.Core.Bool.{Bool, true, false, cond, _&&_, and-false, and-true, and-assoc}
 use native.Mathlib.Numerals.{add-one}
 use native.Mathlib.Omega.{arith}
 use lib.Dec.{eqb}
@@ -61,3 +61,9 @@ pub all-true : (p : ℕ → Bool) (n : ℕ) → ((i : ℕ) → i < n → p i ≡
 unfolding all
 all-true p zero h = refl
 all-true p (suc n) h = let a = all-true p n (λ i g. h i (omega arith)) in let b = h n (omega arith) in rw (a, b)
+
+-- the first, and the others
+pub all-front : (p : ℕ → Bool) (n : ℕ) → all p (suc n) ≡ (p 0 && all (λ i. p (suc i)) n)
+unfolding all
+all-front p zero = sym (and-true (p 0))
+all-front p (suc n) = ap (λ b. b && p (suc n)) (all-front p n) ∙ and-assoc (p 0) (all (λ i. p (suc i)) n) (p (suc n))

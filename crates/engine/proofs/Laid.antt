@@ -70,12 +70,12 @@ read-fields s o a (x ∷ l) f h = (
 
 -- ---- rows
 
-module _ {A : Type 0} (g : A → List ℕ) (k : ℕ) (sized : (x : A) → length (g x) ≡ k) where
-  pub length-flat : (l : List A) → length (flatMap g l) ≡ k * length l
-  unfolding flatMap
-  length-flat [] = simp mul-zero
-  length-flat (x ∷ l) = let ih = length-flat l in simp (length-append, sized, ih, mul-suc) (omega arith)
+pub length-flat : {A B : Type 0} (g : A → List B) (k : ℕ) → ((x : A) → length (g x) ≡ k) → (l : List A) → length (flatMap g l) ≡ k * length l
+unfolding flatMap
+length-flat g k sized [] = simp mul-zero
+length-flat g k sized (x ∷ l) = let ih = length-flat g k sized l in simp (length-append, sized, ih, mul-suc) (omega arith)
 
+module _ {A : Type 0} (g : A → List ℕ) (k : ℕ) (sized : (x : A) → length (g x) ≡ k) where
   -- row j of rows of k bytes
   pub stands-row : (s : List ℕ) (o : ℕ) (l : List A) (d : A) → Stands s o (flatMap g l) → (j : ℕ) → j < length l → Stands s (o + k * j) (g (getD l j d))
   unfolding flatMap
@@ -87,7 +87,7 @@ module _ {A : Type 0} (g : A → List ℕ) (k : ℕ) (sized : (x : A) → length
 
   -- what stands after the rows
   pub stands-after : (s : List ℕ) (o : ℕ) (l : List A) (b : List ℕ) → Stands s o (flatMap g l ++ b) → Stands s (o + k * length l) b
-  stands-after s o l b h = rw length-flat at (stands-right s o (flatMap g l) b h)
+  stands-after s o l b h = rw (length-flat g k sized l) at (stands-right s o (flatMap g l) b h)
 
 pub rows-back : {A : Type 0} (h : ℕ → A) (d : A) (l : List A) → ((j : ℕ) → j < length l → h j ≡ getD l j d) → rows h 0 (length l) ≡ l
 rows-back h d l e =

@@ -47,6 +47,14 @@ sized k s h =
       exact = eqb-true _ _ (h8 .1);
     }
 
+-- no more than 8 sensors, with tracks or without
+pub few-sensors : {k : Layout} {s : List ℕ} → Sized k s → sensorCount k s ≤ 8
+few-sensors {k} {s} h = go (eqb (trackCount k s) 0) (h .sensors)
+  where
+    go : (t : Bool) → sensorCount k s ≤ cond t 0 8 → sensorCount k s ≤ 8
+    go true l = omega arith
+    go false l = l
+
 -- what the test of an association tells
 pub record Associates (w : ℕ) (s : List ℕ) (o : ℕ) : Type 0 where
   pub id : presentOk (getD s (o + w) 0) (little 8 s (o + 8)) ≡ true

@@ -99,12 +99,10 @@ module _ {N : Num} {f g : ℕ → ℕ → N .F} {out : List (N .F)} where
   unfolding tabulate
   all-rows {n} r h = let e : n ≡ 6 = omega (arith, r .within) in at-row r e
 
-  -- a matrix that is f's all over may be filled again, from the last row up
-  pub turn : {n : ℕ} → ByRows N f g out n → 6 ≤ n → (h : ℕ → ℕ → N .F) → ByRows N f h out n
+  -- a matrix that is f's all over may be filled with g's, from the last row up
+  pub turn : out ≡ matrix N f → ByRows N f g out 6
   unfolding tabulate
-  turn {n} r l h =
-      let e : n ≡ 6 = omega (arith, r .within) in
-      record { within = r .within; same = all-rows r l ∙ ap (rows N f h) (sym e) }
+  turn e = record { within = omega arith; same = e }
 
   pub next-row-up : {m n : ℕ} {v out′ : List (N .F)} → ByRows N f g out m → m ≡ n + 1 → v ≡ vector N (g n) → out′ ≡ putRow N out n v → ByRows N f g out′ n
   next-row-up {m} {n} r d e p =

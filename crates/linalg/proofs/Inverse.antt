@@ -2,7 +2,7 @@
 -- Assumes nothing.
 use mathlib.Core.Path.{_≡_, refl, sym, ap, ap₂, _∙_}
 use mathlib.Core.Logic.{_⊎_, inl, inr}
-use mathlib.Core.Bool.{Bool, true, false, cond, _&&_}
+use mathlib.Core.Bool.{Bool, true, false, cond, _&&_, and-eq-true-iff}
 use mathlib.Core.List.{List, []}
 use Prim.Native.Nat.{ℕ, zero, suc, _+_, _-_, _≤_, _<_}
 use native.Mathlib.Omega.{arith}
@@ -20,14 +20,6 @@ use Rattle.linalg.proofs.Sums.{sum, sum-ext, sum-head, sum-tail, sum-co
 use Rattle.linalg.proofs.Products.{prod, prod-ext, prod-flip, right-inverse, left-inverse}
 use Rattle.linalg.proofs.Entries.{vector-at, matrix-at, transpose-at}
 use Rattle.linalg.proofs.Laws.{product}
-
-first : (p q : Bool) → p && q ≡ true → p ≡ true
-first true q e = refl
-first false q e = e
-
-second : (p q : Bool) → p && q ≡ true → q ≡ true
-second true q e = e
-second false q e = let z : _≡_ {A = ℕ} 0 1 = cc in absurd (omega arith)
 
 module _ (N : Num) where
   open Num N using (F, sub as _⊖_, mul as _⊗_, div as _⊘_, root, zero as nought)
@@ -97,17 +89,17 @@ module _ (N : Num) (X : Exact N) (a : List (N .F)) (good : positive N a ≡ true
   unfolding positive
   pivots =
       let p : ℕ → Bool = λ j. lt nought (left N a j j) in
-      let after1 = second (p 0) (p 1 && (p 2 && (p 3 && (p 4 && p 5)))) good in
-      let after2 = second (p 1) (p 2 && (p 3 && (p 4 && p 5))) after1 in
-      let after3 = second (p 2) (p 3 && (p 4 && p 5)) after2 in
-      let after4 = second (p 3) (p 4 && p 5) after3 in
+      let after1 = and-eq-true-iff (p 0) (p 1 && (p 2 && (p 3 && (p 4 && p 5)))) .0 good .1 in
+      let after2 = and-eq-true-iff (p 1) (p 2 && (p 3 && (p 4 && p 5))) .0 after1 .1 in
+      let after3 = and-eq-true-iff (p 2) (p 3 && (p 4 && p 5)) .0 after2 .1 in
+      let after4 = and-eq-true-iff (p 3) (p 4 && p 5) .0 after3 .1 in
       six (λ j. p j ≡ true)
-      (first (p 0) (p 1 && (p 2 && (p 3 && (p 4 && p 5)))) good)
-      (first (p 1) (p 2 && (p 3 && (p 4 && p 5))) after1)
-      (first (p 2) (p 3 && (p 4 && p 5)) after2)
-      (first (p 3) (p 4 && p 5) after3)
-      (first (p 4) (p 5) after4)
-      (second (p 4) (p 5) after4)
+      (and-eq-true-iff (p 0) (p 1 && (p 2 && (p 3 && (p 4 && p 5)))) .0 good .0)
+      (and-eq-true-iff (p 1) (p 2 && (p 3 && (p 4 && p 5))) .0 after1 .0)
+      (and-eq-true-iff (p 2) (p 3 && (p 4 && p 5)) .0 after2 .0)
+      (and-eq-true-iff (p 3) (p 4 && p 5) .0 after3 .0)
+      (and-eq-true-iff (p 4) (p 5) .0 after4 .0)
+      (and-eq-true-iff (p 4) (p 5) .0 after4 .1)
 
   divisor : (j : ℕ) → j < 6 → lt nought (L N a j j) ≡ true
   divisor j h = ap (lt nought) (diagonal N a j h) ∙ X .root-above (left N a j j) (pivots j h)

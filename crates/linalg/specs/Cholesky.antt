@@ -62,6 +62,10 @@ module _ (N : Num) where
   unfoldable pub backward : List F → List F → List F
   backward l y = backed (λ n x. let i = 5 - n in less (λ k. entry N l (i + 1 + k) i) (λ k. at N x k) (at N y i) n ⊘ entry N l i i) 6
 
+  -- "forward", of all six: column c is what it makes of unit column c
+  unfoldable pub halfWay : List F → List F
+  halfWay l = matrix N (λ i c. at N (forward l c) i)
+
   -- "Inverse": column c is what substitution makes of unit column c
   unfoldable pub inverse : List F → List F
   inverse l = matrix N (λ i c. at N (backward l (forward l c)) i)

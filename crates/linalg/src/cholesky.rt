@@ -134,10 +134,9 @@ const IDENTITY: [f64; 36] = [
     0.0, 0.0, 0.0, 0.0, 0.0, 1.0,
 ];
 
-// The inverse of the matrix that has the factor l: per unit column, forward then backward substitution.
-// All six columns are solved at once, so a row of w has what is known at its index.
-pub fn inverse6(l: &[f64; 36], w: &mut [f64; 36])
-    ensures { λ _. ⌜ now (w .exit) ≡ Cholesky.inverse f64 (now (l .entry)) ⌝ }
+// Forward substitution of the six unit columns at once: a row of w has what is known at its index.
+fn forward6(l: &[f64; 36], w: &mut [f64; 36])
+    ensures { λ _. ⌜ now (w .exit) ≡ Cholesky.halfWay f64 (now (l .entry)) ⌝ }
 {
     *w = IDENTITY;
     let mut i = 0usize;
@@ -145,8 +144,24 @@ pub fn inverse6(l: &[f64; 36], w: &mut [f64; 36])
         solve_row(l, w, i, i * 6, 1, 0, i);
         i += 1;
     }
+}
+
+// Backward substitution of what that left, from the last row up.
+fn backward6(l: &[f64; 36], w: &mut [f64; 36])
+    requires { ⌜ now w ≡ Cholesky.halfWay f64 (now l) ⌝ }
+    ensures { λ _. ⌜ now (w .exit) ≡ Cholesky.inverse f64 (now (l .entry)) ⌝ }
+{
+    let mut i = 6usize;
     while 0 < i {
         i -= 1;
         solve_row(l, w, i, i * 6 + 6 + i, 6, i + 1, 5 - i);
     }
+}
+
+// The inverse of the matrix that has the factor l: per unit column, forward then backward substitution.
+pub fn inverse6(l: &[f64; 36], w: &mut [f64; 36])
+    ensures { λ _. ⌜ now (w .exit) ≡ Cholesky.inverse f64 (now (l .entry)) ⌝ }
+{
+    forward6(l, w);
+    backward6(l, w);
 }

@@ -111,7 +111,7 @@ module _ (c : FgoConfig) (t : State) (f : Frame) (Old : ℕ → Type 0) where
     abbrev J : List ℕ
     J = joinedIds (keys (t .owners)) (f .associations)
 
-    place-is : Placed Old (t .next) (t .owners) J (f .associations) p
+    pub place-is : Placed Old (t .next) (t .owners) J (f .associations) p
     unfolding keep
     place-is =
         placed-all Old (t .next) (b .begun) (b .below) (t .prefixes) (t .scans) (b .alive) (t .owners) J [] (f .associations)

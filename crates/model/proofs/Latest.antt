@@ -22,6 +22,15 @@ use Rattle.model.proofs.Counting.{times-here, times-tail}
 use Rattle.model.proofs.Presence.{stands-present}
 use Rattle.model.proofs.Ties.{Engine, Tied, TiedScan}
 
+-- the one, or else the other
+pub or-some : (x : ℕ) → 0 < x → (y : ℕ) → orElse x y ≡ x
+or-some zero h y = absurd (omega arith)
+or-some (suc x) h y = refl
+
+pub or-none : (x : ℕ) → x ≤ 0 → (y : ℕ) → orElse x y ≡ y
+or-none zero h y = refl
+or-none (suc x) h y = absurd (omega arith)
+
 abbrev pub holder : ℕ → Scan → ℕ
 holder e s = holderIn e (s .frame .associations) (s .ids)
 

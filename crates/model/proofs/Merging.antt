@@ -25,17 +25,17 @@ use Rattle.model.proofs.Windows.{under-renames, under-absent, Detected,
 
 -- two windows as one, scan by scan
 module _ (own : Bool) (n : ℕ) (d : Dot) (p : d .scan ≡ n) where
-  join-left : (v w : List Dot) → All (λ e. suc n ≤ e .scan) w → joined own (d ∷ v) w ≡ d ∷ joined own v w
+  pub join-left : (v w : List Dot) → All (λ e. suc n ≤ e .scan) w → joined own (d ∷ v) w ≡ d ∷ joined own v w
   unfolding joined beside
   join-left v [] h = refl
   join-left v (e ∷ w) h = let k = h .0 in rw (lt-compare (d .scan) (e .scan) (omega arith))
 
-  join-right : (v w : List Dot) → All (λ e. suc n ≤ e .scan) v → joined own v (d ∷ w) ≡ d ∷ joined own v w
+  pub join-right : (v w : List Dot) → All (λ e. suc n ≤ e .scan) v → joined own v (d ∷ w) ≡ d ∷ joined own v w
   unfolding joined beside
   join-right [] w h = refl
   join-right (e ∷ v) w h = let k = h .0 in rw (gt-compare (e .scan) (d .scan) (omega arith))
 
-  join-both : (e : Dot) → e .scan ≡ n → (v w : List Dot) → joined own (d ∷ v) (e ∷ w) ≡ cond own d e ∷ joined own v w
+  pub join-both : (e : Dot) → e .scan ≡ n → (v w : List Dot) → joined own (d ∷ v) (e ∷ w) ≡ cond own d e ∷ joined own v w
   unfolding joined beside
   join-both e q v w = rw (eq-compare (d .scan) (e .scan) (p ∙ sym q))
 
