@@ -1,9 +1,9 @@
 -- `scalar::root::whole_root` meets its contract. Assumes nothing.
 use borrow.Author.Needs.{needs}
 use native.Mathlib.Omega.{arith}
 use Rattle.scalar.proofs.RootGuess.{Parts, parts, rest-is, next-is, next-lt}
-use Rattle.scalar.proofs.root.whole_root.Statement.{statement}
-use Rattle.scalar.proofs.root.whole_root.Tie as tie
+use Rattle.roots.proofs.root.whole_root.Statement.{statement}
+use Rattle.roots.proofs.root.whole_root.Tie as tie
 
 root-guess-requires : tie.Need-root-guess-requires
 root-guess-requires c κs = search needs

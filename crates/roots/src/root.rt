@@ -1,11 +1,11 @@
 // The square root of IEEE 754: nearest, ties to even.
-use crate::digits::Digits;
-use crate::digits::digits_of;
+use scalar::digits::Digits;
+use scalar::digits::digits_of;
 ghost use mathlib.Core.Path.{_≡_};
 ghost use mathlib.Core.Bool.{false};
 ghost use Prim.Native.Nat.{_+_, _*_, _<_, _≤_, _^_};
 ghost use lib.Ieee.{odd};
 ghost use Rattle.scalar.specs.Root.{rootOf};
 
 // The root of a whole number, rounded down, and what is left: root * root + rest, with rest at most 2 * root.
 struct WholeRoot {

@@ -4,9 +4,9 @@ use native.Mathlib.Omega.{arith}
 use native.Mathlib.Nat.{lt-of-lt-of-le}
 use lib.Pow.{pow-mono}
 use mathlib.Core.Logic.{⊎-elim}
 use Rattle.scalar.proofs.RootDigits.{Inv, under, next-one, next-zero, done}
-use Rattle.scalar.proofs.root.root_digits.Statement.{statement}
-use Rattle.scalar.proofs.root.root_digits.Tie as tie
+use Rattle.roots.proofs.root.root_digits.Statement.{statement}
+use Rattle.roots.proofs.root.root_digits.Tie as tie
 
 abbrev Inv-loop : tie.InvT-loop
 Inv-loop m root₀ rest₀ left₀ i₀ root rest left i = Inv m root rest left i

@@ -1,11 +1,11 @@
 -- `scalar::root::sqrt` meets its contract. Assumes nothing.
 use borrow.Author.Needs.{needs}
 use mathlib.Core.Path.{sym, ap, _∙_, subst}
 use Rattle.scalar.specs.Digits.{Falls}
 use Rattle.scalar.specs.Root.{rootOf}
 use Rattle.scalar.proofs.RootCases.{top-is, zero-is, none-is}
-use Rattle.scalar.proofs.root.sqrt.Statement.{statement}
-use Rattle.scalar.proofs.root.sqrt.Tie as tie
+use Rattle.roots.proofs.root.sqrt.Statement.{statement}
+use Rattle.roots.proofs.root.sqrt.Tie as tie
 
 digits-of-requires : tie.Need-digits-of-requires
 digits-of-requires c κs = search needs

@@ -1,10 +1,10 @@
 -- `scalar::root::root_guess` meets its contract. Assumes nothing.
 use borrow.Author.Needs.{needs}
 use native.Mathlib.Omega.{arith}
 use Rattle.scalar.proofs.Positive.{positive-no-nan}
 use Rattle.scalar.proofs.RootScale.{no-nan}
-use Rattle.scalar.proofs.root.root_guess.Statement.{statement}
-use Rattle.scalar.proofs.root.root_guess.Tie as tie
+use Rattle.roots.proofs.root.root_guess.Statement.{statement}
+use Rattle.roots.proofs.root.root_guess.Tie as tie
 
 add-x : tie.Need-add-x
 add-x c = search needs

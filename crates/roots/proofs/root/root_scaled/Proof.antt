@@ -4,11 +4,11 @@ use native.Mathlib.Omega.{arith}
 use lib.Count.{leadingZeros, leading-le}
 use lib.Dec.{lit<}
 use native.Mathlib.Nat.{lt-of-le-of-lt}
 use Rattle.scalar.proofs.Positive.{Shift, shift}
 use Rattle.scalar.proofs.RootScale.{Found, scaled-lt, down-is, up-is, no-nan}
 use native.Mathlib.Nat.{lt-trans}
-use Rattle.scalar.proofs.root.root_scaled.Statement.{statement}
-use Rattle.scalar.proofs.root.root_scaled.Tie as tie
+use Rattle.roots.proofs.root.root_scaled.Statement.{statement}
+use Rattle.roots.proofs.root.root_scaled.Tie as tie
 
 facts : (c : tie.Start) → Shift (c .args .q) (leadingZeros 64 (c .args .q))
 facts c = shift (c .args .q) (c .pre .0) (c .pre .1)
