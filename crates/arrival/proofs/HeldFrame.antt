@@ -13,7 +13,7 @@ use Rattle.engine.specs.declared.types.Associated.the-variants.{Nobody, Track}
 use Rattle.engine.specs.declared.types.Association.{Association}
 use Rattle.engine.specs.Frame.{Frame}
 use Rattle.engine.specs.Body.{narrow, refusal, frameOf}
-use Rattle.model.specs.Lists.{keep, find}
+use Rattle.model.specs.Lists.{find}
 use Rattle.model.specs.Windows.{Scan, Prefix, detections}
 use Rattle.model.specs.Placing.{Placing, freeOwner, placeTrack, placeOne, place}
 use Rattle.model.specs.Refiner.{State, placed, withScan}
@@ -22,8 +22,9 @@ use Rattle.model.proofs.All.{All-weaken, All-append}
 use Rattle.model.proofs.Tables.{keys}
 use Rattle.model.proofs.Windows.{detections-snoc}
 use Rattle.model.proofs.Keeping.{Known}
-use Rattle.model.proofs.Ties.{Tied, tied-loose}
-use Rattle.model.proofs.Placement.{Has, Placed, placed-all, joinedIds, joinedIds-old, joinedIds-new}
+use Rattle.model.proofs.Ties.{tied-loose}
+use Rattle.model.proofs.Placement.{Has, Placed, joinedIds}
+use Rattle.model.proofs.Arrival.{place-is}
 use Rattle.search.specs.Gathered.{Spare}
 use Rattle.memory.specs.declared.state.FixedLagRefiner.{FixedLagRefiner}
 use Rattle.memory.specs.Memory.{Memory, memory, bodyAt, scansIn, ownersIn, stateOf}
@@ -59,27 +60,8 @@ module _ (r : FixedLagRefiner) (m : Memory) (s : List ℕ) (a : Arrives r m s) (
   abbrev p : Placing
   p = placed t f
 
-  abbrev J : List ℕ
-  J = joinedIds (keys (t .owners)) (f .associations)
-
-  placed-is : Placed (λ x. x < t .next) (t .next) (t .owners) J (f .associations) p
-  unfolding keep
-  placed-is =
-      let before = before (r .config) t f (rule r m s a l) in
-      placed-all (λ x. x < t .next) (t .next) (before .begun) (before .below) (t .prefixes) (t .scans) (before .alive) (t .owners) J [] (f .associations)
-      (record { ids = []; owners = t .owners; next = t .next })
-      (record {
-        low = le-refl (t .next);
-        complete = refl;
-        apart = λ x z. omega arith;
-        named = λ x z q. absurd (omega arith);
-        tied = unfold Tied in tt;
-        few = le-refl 0;
-        grows = λ e h. h;
-        distinct = before .distinct;
-        keyed = joinedIds-old (keys (t .owners)) (f .associations);
-      })
-      (joinedIds-new (keys (t .owners)) (f .associations))
+  placed-is : Placed (λ x. x < t .next) (t .next) (t .owners) (joinedIds (keys (t .owners)) (f .associations)) (f .associations) p
+  placed-is = place-is (r .config) t f (λ x. x < t .next) (before (r .config) t f (rule r m s a l))
 
   -- the columns are in order
   columns-placed : All (ColumnRule (p .next)) (withScan t f)

@@ -19,7 +19,7 @@ use Rattle.engine.specs.Little.{little}
 use Rattle.engine.specs.Frame.{Frame, classOf}
 use Rattle.engine.specs.Body.{narrow, rows, trackAt, frameOf, refusal, trackCount, sensorCount}
 use Rattle.engine.proofs.Bytes.{little-below}
-use Rattle.engine.proofs.Passing.{sized-body, length-rows}
+use Rattle.engine.proofs.Passing.{sized-body, few-sensors, length-rows}
 use Rattle.model.specs.Lists.{times}
 use Rattle.model.specs.Windows.{Scan, Dot, classAmong, classFor, dotOf, window}
 use Rattle.model.specs.Freezing.{newer}
@@ -60,10 +60,6 @@ class-bound : (n v : ℕ) → v < 2 ^ 32 → Classed (classOf n v)
 class-bound zero v h = omega arith
 class-bound (suc n) v h = omega arith
 
-few-sensors : (b : Bool) (n : ℕ) → n ≤ cond b 0 8 → n ≤ 8
-few-sensors true n h = omega arith
-few-sensors false n h = h
-
 track-class : (s : List ℕ) → Bytes s → (o : ℕ) → Classed (trackAt s o .class)
 unfolding trackAt
 track-class s b o = class-bound (getD s (o + 12) 0) (little 4 s (o + 8)) (four s b (o + 8))
@@ -75,7 +71,7 @@ body-bounded s b z =
     record {
       time = d .time;
       associations = rw length-rows (d .associations);
-      sensors = rw length-rows (few-sensors (eqb (trackCount narrow s) 0) (sensorCount narrow s) (d .sensors));
+      sensors = rw length-rows (few-sensors d);
       small = rows-All (λ v. v < 2 ^ 32) _ (λ i. four s b _) 0 (sensorCount narrow s);
       classes = rows-All (λ t. Classed (t .class)) _ (λ i. track-class s b _) 0 (trackCount narrow s);
     }

@@ -8,6 +8,7 @@ use lib.ListN.{length, getD, take, drop, length-append, length-map}
 use lib.Seq.{drop-length, drop-append-add, drop-drop, drop-at, getD-drop}
 use lib.Ieee.{Float, nan}
 use Rattle.engine.specs.declared.types.Association.{Association}
+use Rattle.engine.proofs.Laid.{length-flat}
 use Rattle.model.specs.Emitting.{Listed, Emitted, trackWords, associationWords, associationsWords, headWords, wordsOf, trackNumbers, costNumber, numbersOf}
 use Rattle.refined.specs.Frame.{wordsLong, numbersLong, stateAt}
 use Rattle.both.specs.Smoothed.{estimateOf}
@@ -31,11 +32,6 @@ element (a ∷ l) (suc i) h =
 
 -- rows of k elements each, one after the other
 module _ {A B : Type 0} (g : A → List B) (k : ℕ) (sized : (a : A) → length (g a) ≡ k) where
-  rows-length : (l : List A) → length (flatMap g l) ≡ k * length l
-  unfolding flatMap
-  rows-length [] = simp mul-zero
-  rows-length (a ∷ l) = let ih = rows-length l in simp (length-append, sized, ih, mul-suc) (omega arith)
-
   rows-from : (l : List A) (r : List B) (i : ℕ) → i ≤ length l → drop (k * i) (flatMap g l ++ r) ≡ flatMap g (drop i l) ++ r
   unfolding flatMap
   rows-from l r zero h = ap (λ n. drop n (flatMap g l ++ r)) (mul-zero k)
@@ -153,11 +149,11 @@ module _ (e : Emitted) where
     pub words-length : length (wordsOf e) ≡ wordsLong (wordsOf e)
     unfolding wordsOf
     words-length =
-        let a = rows-length trackWords 6 (λ l. refl) tracks in
+        let a = length-flat trackWords 6 (λ l. refl) tracks in
         let b = associations-length ass (e .scan .ids) complete in
         omega (arith, a, b, length-append (flatMap trackWords tracks) rest, length-append (associationsWords ass (e .scan .ids)) (e .scan .frame .sensors))
 
   pub numbers-length : length (numbersOf e) ≡ numbersLong (wordsOf e)
   unfolding wordsOf numbersOf
   numbers-length =
-      omega (arith, length-append (flatMap trackNumbers tracks) costs, rows-length trackNumbers 42 (λ l. refl) tracks, length-map ass (λ a. costNumber (a .cost)))
+      omega (arith, length-append (flatMap trackNumbers tracks) costs, length-flat trackNumbers 42 (λ l. refl) tracks, length-map ass (λ a. costNumber (a .cost)))

@@ -11,7 +11,7 @@ use Rattle.engine.specs.Body.{narrow, associationCount, sensorCount, frameOf}
 use Rattle.model.specs.Emitting.{Listed, Emitted, listing, trackWords, trackNumbers, wordsOf, numbersOf}
 use Rattle.memory.specs.Memory.{bodyAt, idAt, scanIn, tableIn, over}
 use Rattle.emitting.specs.Writing.{idsIn, associationsIn, costsIn, headIn, PutTracks, frameIn, PutFrame}
-use Rattle.memory.proofs.Cells.{length-rows}
+use Rattle.engine.proofs.Passing.{length-rows}
 use Rattle.memory.proofs.Counts.{sensors-long, associations-long}
 use Rattle.emitting.proofs.Associations.{costs-long}
 use Rattle.emitting.proofs.Associations.{associations-size}

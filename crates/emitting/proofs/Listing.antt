@@ -1,6 +1,6 @@
 -- The tracks that a frame lists, one frozen part more, in words and in numbers. Assumes nothing.
 use Prim.Native.Nat.{ℕ, suc, _+_, _*_, _≤_}
-use native.Mathlib.Nat.{zero-add, add-comm, mul-zero, mul-suc}
+use native.Mathlib.Nat.{zero-add}
 use native.Mathlib.Numerals.{add-one}
 use native.Mathlib.Omega.{arith}
 use mathlib.Core.Path.{_≡_, refl, sym, ap, _∙_}
@@ -20,7 +20,9 @@ use Rattle.model.specs.Emitting.{Listed, report, listing, trackWords, trackNumb
 use Rattle.model.proofs.Counting.{keep-append, count-le}
 use Rattle.memory.specs.Memory.{prefixIn, entryIn, tableIn, over, lastIn}
 use Rattle.emitting.specs.Writing.{reportIn, PutTrack, PutTracks}
-use Rattle.memory.proofs.Cells.{length-rows, rows-more}
+use Rattle.engine.proofs.Laid.{length-flat}
+use Rattle.engine.proofs.Passing.{length-rows}
+use Rattle.memory.proofs.Rows.{rows-more}
 use Rattle.memory.proofs.Writes.{Written, written-none, written-more, written-same}
 
 -- ---- lists of equal length, one after another
@@ -31,21 +33,11 @@ module _ {A B : Type 0} (f : A → List B) where
   flatMap-more [] a = append-nil (f a)
   flatMap-more (x ∷ l) a = ap (λ (m : List B). f x ++ m) (flatMap-more l a) ∙ sym (append-assoc (f x) (flatMap f l) (f a))
 
-  flatMap-size : (n : ℕ) → ((a : A) → length (f a) ≡ n) → (l : List A) → length (flatMap f l) ≡ n * length l
-  unfolding flatMap
-  flatMap-size n h [] = sym (mul-zero n)
-  flatMap-size n h (a ∷ l) =
-      length-append (f a) (flatMap f l)
-      ∙ ap (λ (m : ℕ). m + length (flatMap f l)) (h a)
-      ∙ ap (λ (m : ℕ). n + m) (flatMap-size n h l)
-      ∙ add-comm n (n * length l)
-      ∙ sym (mul-suc n (length l))
-
 pub words-size : (ls : List Listed) → length (flatMap trackWords ls) ≡ 6 * length ls
-words-size ls = flatMap-size trackWords 6 (λ l. refl) ls
+words-size = length-flat trackWords 6 (λ l. refl)
 
 pub numbers-size : (ls : List Listed) → length (flatMap trackNumbers ls) ≡ 42 * length ls
-numbers-size ls = flatMap-size trackNumbers 42 (λ l. refl) ls
+numbers-size = length-flat trackNumbers 42 (λ l. refl)
 
 -- ---- the listed ones of the first k frozen parts
 

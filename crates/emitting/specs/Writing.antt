@@ -3,7 +3,7 @@ use Prim.Native.Nat.{ℕ, _+_, _*_, _<_, _≤_}
 use mathlib.Core.Path.{_≡_}
 use mathlib.Core.Bool.{true}
 use mathlib.Core.List.{List, [], _∷_, map, flatMap}
-use lib.ListN.{length, getD}
+use lib.ListN.{length}
 use lib.IntN.{ℤ}
 use lib.Ieee.{Float, binary64, ofBits}
 use Rattle.scalar.specs.Scalar.{word}
@@ -14,7 +14,7 @@ use Rattle.kf.specs.declared.filter.Kf.{Kf}
 use Rattle.model.specs.Emitting.{Listed, Emitted, report, listing, trackWords, covariance, trackNumbers, associationsWords, costNumber, wordsOf, numbersOf}
 use Rattle.memory.specs.declared.state.Prefix.{Prefix}
 use Rattle.emitting.specs.declared.emit.Size.{Size}
-use Rattle.memory.specs.Memory.{keyIn, prefixIn, entryIn, tableIn, partOf, bodyAt, idAt, scanIn, over}
+use Rattle.memory.specs.Memory.{keyIn, prefixIn, entryIn, tableIn, bodyAt, idAt, scanIn, over}
 use Rattle.freezing.specs.Frozen.{PartOk, PartsOk}
 
 -- a frozen part by value that can be listed at a time

@@ -19,7 +19,7 @@ use Rattle.engine.specs.declared.types.Association.{Association}
 use Rattle.engine.specs.Frame.{Frame}
 use Rattle.engine.specs.Body.{narrow, timeOk, refusal, frameOf}
 use Rattle.engine.proofs.Every.{all-at, all-true}
-use Rattle.engine.proofs.Passing.{sized-body}
+use Rattle.engine.proofs.Passing.{sized-body, length-rows}
 use Rattle.model.specs.Lists.{find, put, putBy}
 use Rattle.model.specs.Windows.{Scan, Dot, Prefix, dotOf, live, detections}
 use Rattle.model.specs.Freezing as freezing
@@ -41,9 +41,8 @@ use Rattle.ledger.specs.Sound.{bodiesOk, liveIn}
 use Rattle.arrival.specs.Arriving.{Ready}
 use Rattle.fgo.specs.Promise.{Ends, releaseOf}
 use Rattle.ledger.specs.Sound.{keptOwners}
-use Rattle.memory.proofs.Rows.{rows-all, row-of}
-use Rattle.memory.proofs.Cells.{length-rows, rows-first}
-use Rattle.freezing.proofs.Times.{time-fits}
+use Rattle.memory.proofs.Rows.{rows-all, row-of, rows-first}
+use Rattle.engine.proofs.ReadBack.{time-fits}
 use Rattle.freezing.proofs.Order.{frozen-fits}
 use Rattle.ledger.proofs.SoundLaw.{live-rule}
 

@@ -35,7 +35,8 @@ use Rattle.ledger.specs.Sound.{bodiesOk, soundOk}
 use Rattle.fgo.specs.Promise.{numberOf, answerOf, newBy, openedBy, roomy, checked, pushAnswer, takeAnswer, wordsAfter, numbersAfter, Unchanged, Ends}
 use Rattle.fgo.specs.Sent.{Call, answered, promised, Keeps, Calls, left, Session, enough, operations, acceptedBy, accepted, writtenBy, written, inWords, orShort, due, Served, Delivered}
 use Rattle.fgo.proofs.Numbered.{Numbered, numbered}
-use Rattle.fgo.proofs.FrameSize.{length-over, fit-words, fit-numbers}
+use Rattle.memory.proofs.Over.{length-over}
+use Rattle.fgo.proofs.FrameSize.{fit-words, fit-numbers}
 
 -- ---- answers
 

@@ -18,7 +18,8 @@ use Rattle.model.specs.Windows.{Dot}
 use Rattle.model.specs.Freezing.{freeze}
 use Rattle.memory.specs.declared.state.Prefix.{Prefix}
 use Rattle.memory.specs.Memory.{cells, keyIn, prefixIn, entryIn, tableIn, partOf, Put, keysIn}
-use Rattle.freezing.specs.Frozen.{Moves, placeOf, Raised, Ordered, frozenBy}
+use Rattle.windows.specs.Rows.{placeIn}
+use Rattle.freezing.specs.Frozen.{Moves, Raised, Ordered, frozenBy}
 use Rattle.freezing.proofs.Table.{found, replaced, inserted}
 use Rattle.freezing.proofs.Order.{ordered-at, absent}
 
@@ -27,7 +28,7 @@ heights-by : (l : List Float) (n : ℕ) (b : Bool) → leb n 5 ≡ b → 1 ≤ l
 heights-by l n true e h = leb-true n 5 e
 heights-by l n false e h = absurd (omega arith)
 
-module _ (c : FgoConfig) (t : List ℕ) (f : List Float) (n x k : ℕ) (d : Dot) (place : k ≡ placeOf x (keysIn t n)) where
+module _ (c : FgoConfig) (t : List ℕ) (f : List Float) (n x k : ℕ) (d : Dot) (place : k ≡ placeIn x (keysIn t n)) where
   abbrev T : List (ℕ × windows.Prefix)
   T = tableIn t f n
 

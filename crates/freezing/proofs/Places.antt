@@ -5,24 +5,24 @@ use native.Mathlib.Nat.{add-zero, zero-add}
 use native.Mathlib.Omega.{arith}
 use borrow.Author.Tests.{lt-ltb, le-ltb}
 use Rattle.engine.specs.Body.{rows}
-use Rattle.freezing.specs.Frozen.{placeOf}
+use Rattle.windows.specs.Rows.{placeIn}
 use Rattle.memory.proofs.Rows.{rows-step, rows-end}
 
 -- ---- a loop that stands at place k of n
 
 module _ (x : ℕ) (g : ℕ → ℕ) where
-  pub place-first : (n : ℕ) → placeOf x (rows g 0 n) ≡ 0 + placeOf x (rows g 0 (n - 0))
+  pub place-first : (n : ℕ) → placeIn x (rows g 0 n) ≡ 0 + placeIn x (rows g 0 (n - 0))
   place-first n = let z : n - 0 ≡ n = omega arith in rw (z, zero-add)
 
   module _ (k n : ℕ) where
-    pub place-here : k < n → x ≤ g k → k + placeOf x (rows g k (n - k)) ≡ k
-    unfolding placeOf
+    pub place-here : k < n → x ≤ g k → k + placeIn x (rows g k (n - k)) ≡ k
+    unfolding placeIn
     place-here h q = let s = rows-step g k n k {l = k + 1} h refl in rw (s, le-ltb (g k) x q) (add-zero k)
 
-    pub place-next : k < n → g k < x → k + placeOf x (rows g k (n - k)) ≡ k + 1 + placeOf x (rows g (k + 1) (n - (k + 1)))
-    unfolding placeOf
+    pub place-next : k < n → g k < x → k + placeIn x (rows g k (n - k)) ≡ k + 1 + placeIn x (rows g (k + 1) (n - (k + 1)))
+    unfolding placeIn
     place-next h q = let s = rows-step g k n k {l = k + 1} h refl in rw (s, lt-ltb (g k) x q) (omega arith)
 
-    pub place-end : n ≤ k → k + placeOf x (rows g k (n - k)) ≡ k
-    unfolding placeOf
+    pub place-end : n ≤ k → k + placeIn x (rows g k (n - k)) ≡ k
+    unfolding placeIn
     place-end h = let s = rows-end g k n k h in rw s (add-zero k)

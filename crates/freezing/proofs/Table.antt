@@ -11,24 +11,24 @@ use Rattle.model.specs.Lists.{find, put}
 use Rattle.model.specs.Windows.{Prefix}
 use Rattle.model.proofs.Counting.{eq-compare, lt-compare, gt-compare}
 use Rattle.model.proofs.Tables.{found-here, found-past}
-use Rattle.freezing.specs.Frozen.{placeOf}
+use Rattle.windows.specs.Rows.{placeIn}
 use Rattle.memory.proofs.Rows.{rows-same}
 
 module _ (g : ℕ → ℕ × Prefix) (x : ℕ) where
   -- the place of x among the n ids from i on
   abbrev pub at : ℕ → ℕ → ℕ
-  at i n = placeOf x (rows (λ j. g j .0) i n)
+  at i n = placeIn x (rows (λ j. g j .0) i n)
 
   at-none : (i : ℕ) → at i 0 ≡ 0
-  unfolding placeOf rows
+  unfolding placeIn rows
   at-none i = refl
 
   pub at-later : (i n : ℕ) → g i .0 < x → at i (suc n) ≡ suc (at (suc i) n)
-  unfolding placeOf rows
+  unfolding placeIn rows
   at-later i n h = rw (lt-ltb (g i .0) x h)
 
   pub at-front : (i n : ℕ) → x ≤ g i .0 → at i (suc n) ≡ 0
-  unfolding placeOf rows
+  unfolding placeIn rows
   at-front i n h = rw (le-ltb (g i .0) x h)
 
   -- ---- the id is there

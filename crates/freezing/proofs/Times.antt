@@ -12,12 +12,6 @@ use mir.Val.{SFits, toZ, ofZ}
 use mir.Facts.{toZ-ofZ}
 use Rattle.engine.specs.Body.{timeOk}
 
--- a time in bounds fits
-pub time-fits : (t : ℤ) → timeOk t ≡ true → SFits w64 t
-unfolding timeOk
-time-fits (pos n) h = record { sfits = omega (arith, ltb-true n 4611686018427387904 h) }
-time-fits (negsuc n) h = record { sfits = omega (arith, ltb-true (suc n) 4611686018427387904 h) }
-
 -- a number that fits, passed on
 pub passed-on : (z : ℤ) → mag z < 9223372036854775808 → toZ w64 (ofZ w64 z) ≡ z
 passed-on z h = toZ-ofZ (record { sfits = h })

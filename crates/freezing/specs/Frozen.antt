@@ -1,5 +1,5 @@
 -- Document 01, "fgo.rs: freezing", on the lent memory. Definitions only.
-use Prim.Native.Nat.{ℕ, suc, _+_, _*_, _<_, _≤_}
+use Prim.Native.Nat.{ℕ, suc, _+_, _<_, _≤_}
 use mathlib.Core.Path.{_≡_}
 use mathlib.Core.Bool.{Bool, true, cond, _||_}
 use mathlib.Core.List.{List, [], _∷_}
@@ -10,7 +10,7 @@ use lib.Signed.{leZ}
 use lib.Ieee.{Float}
 use Rattle.engine.specs.declared.config.FgoConfig.{FgoConfig}
 use Rattle.engine.specs.Config.{forgetAfter}
-use Rattle.engine.specs.Body.{narrow, timeOk, refusal, frameOf, rows}
+use Rattle.engine.specs.Body.{narrow, timeOk, refusal, frameOf}
 use Rattle.engine.specs.Frame.{noAssociation}
 use Rattle.model.specs.Lists.{find, put}
 use Rattle.model.specs.Windows as windows
@@ -38,11 +38,6 @@ pub record Moves (p : Prefix) : Type 0 where
   pub count : suc (p .count) < 18446744073709551616
 
 -- ---- the table of frozen parts, by ascending id
-
--- the first place whose id is not below x
-unfoldable pub placeOf : ℕ → List ℕ → ℕ
-placeOf x [] = 0
-placeOf x (y ∷ ys) = cond (ltb y x) (suc (placeOf x ys)) 0
 
 -- after the frozen parts from k on, of n, were moved up by one
 pub record Raised (k n : ℕ) (tracks : List ℕ) (filters : List Float) (tracks′ : List ℕ) (filters′ : List Float) : Type 0 where

@@ -27,7 +27,8 @@ ghost use Rattle.engine.specs.declared.types.ClassLabel.the-variants.{Unknown};
 ghost use Rattle.model.specs.Windows.{classAmong, classFor};
 ghost use Rattle.model.specs.Freezing as model;
 ghost use Rattle.memory.specs.Memory.{cells, scanIn, scansIn, partOf, tableIn, keysIn, lastIn};
-ghost use Rattle.freezing.specs.Frozen.{dotBy, seenIn, heightCount, Moves, placeOf, Raised, frozenBy, Freezes, FreezesScan, keptIn, PartsOk};
+ghost use Rattle.windows.specs.Rows.{placeIn};
+ghost use Rattle.freezing.specs.Frozen.{dotBy, seenIn, heightCount, Moves, Raised, frozenBy, Freezes, FreezesScan, keptIn, PartsOk};
 
 // A detection as it is frozen: the number of its scan, the scan's time, where it lies, and the class that its association knows.
 pub struct Sighting {
@@ -186,7 +187,7 @@ fn freeze(c: FgoConfig, p: Prefix, d: Sighting) -> Prefix
 // The first place whose id is not below this one.
 fn place_of(tracks: &[u64; TRACKS], frozen: usize, id: RefinedId) -> usize
     requires { ⌜ frozen ≤ 128 ⌝ }
-    ensures { λ r. ⌜ (r ≡ placeOf (id .0) (keysIn (now (tracks .entry)) frozen)) × (r ≤ frozen) ⌝ }
+    ensures { λ r. ⌜ (r ≡ placeIn (id .0) (keysIn (now (tracks .entry)) frozen)) × (r ≤ frozen) ⌝ }
 {
     let mut k: usize = 0;
     while k < frozen {

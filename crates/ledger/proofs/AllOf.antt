@@ -3,10 +3,11 @@ use Prim.Native.Nat.{ℕ, zero, suc, _+_, _<_}
 use native.Mathlib.Nat.{zero-add, add-zero, add-suc, suc-add}
 use native.Mathlib.Omega.{arith}
 use mathlib.Core.Path.{_≡_, refl, sym, ap, _∙_}
-use mathlib.Core.Bool.{Bool, true, false, _&&_, and-true, and-assoc}
+use mathlib.Core.Bool.{Bool, true, false, _&&_, and-assoc}
 use mathlib.Core.List.{List, [], _∷_, _++_}
 use lib.ListN.{length, getD}
 use Rattle.engine.specs.Body.{all, rows}
+use Rattle.engine.proofs.Every.{all-front}
 use Rattle.model.specs.Rule.{allOf}
 
 -- tests that agree
@@ -14,12 +15,6 @@ pub all-same : (p q : ℕ → Bool) (n : ℕ) → ((i : ℕ) → i < n → p i �
 unfolding all
 all-same p q zero h = refl
 all-same p q (suc n) h = ap (λ b. b && p n) (all-same p q n (λ i l. h i (omega arith))) ∙ ap (λ b. all q n && b) (h n (omega arith))
-
--- the first, and the others
-pub all-front : (p : ℕ → Bool) (n : ℕ) → all p (suc n) ≡ (p 0 && all (λ i. p (suc i)) n)
-unfolding all
-all-front p zero = sym (and-true (p 0))
-all-front p (suc n) = ap (λ b. b && p (suc n)) (all-front p n) ∙ and-assoc (p 0) (all (λ i. p (suc i)) n) (p (suc n))
 
 module _ {A : Type 0} (q : A → Bool) where
   -- of the entries of a list

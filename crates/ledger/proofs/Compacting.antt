@@ -1,7 +1,5 @@
 -- The owner table, those that pass a test moved together. Assumes nothing.
 use Prim.Native.Nat.{ℕ, _+_, _*_, _≤_, _<_}
-use native.Mathlib.Nat.{zero-add}
-use native.Mathlib.Numerals.{add-one}
 use native.Mathlib.Omega.{arith}
 use mathlib.Core.Path.{_≡_, refl, sym, ap, _∙_}
 use mathlib.Core.Bool.{Bool, true, false}
@@ -12,21 +10,11 @@ use Rattle.engine.specs.Body.{rows}
 use Rattle.model.specs.Lists.{consIf, keep}
 use Rattle.model.proofs.Counting.{keep-append}
 use Rattle.memory.specs.Memory.{ownersIn}
-use Rattle.memory.proofs.Cells.{rows-more, rows-same}
-
--- entry k of the table
-abbrev pub ownerAt : List ℕ → ℕ → ℕ × ℕ
-ownerAt os k = (getD os (2 * k) 0, getD os (2 * k + 1) 0)
+use Rattle.memory.proofs.Rows.{front-more, rows-same}
+use Rattle.ledger.proofs.Owners.{ownerAt}
 
 pair-same : {a a′ b b′ : ℕ} → a ≡ a′ → b ≡ b′ → _≡_ {A = ℕ × ℕ} (a, b) (a′, b′)
 pair-same e f = rw (e, f)
-
--- one entry more
-owners-more : (os : List ℕ) (k : ℕ) → ownersIn os (k + 1) ≡ ownersIn os k ++ (ownerAt os k ∷ [])
-owners-more os k =
-    ap (ownersIn os) (add-one k)
-    ∙ rows-more (ownerAt os) 0 k
-    ∙ ap (λ (i : ℕ). ownersIn os k ++ (ownerAt os i ∷ [])) (zero-add k)
 
 -- the table with an entry put at place w
 abbrev pub owning : List ℕ → ℕ → ℕ → ℕ → List ℕ
@@ -48,7 +36,7 @@ module _ (os : List ℕ) (w e x : ℕ) where
 
   owning-more : 2 * w + 1 < length os → ownersIn (owning os w e x) (w + 1) ≡ ownersIn os w ++ ((e, x) ∷ [])
   owning-more h =
-      owners-more (owning os w e x) w
+      front-more (ownerAt (owning os w e x)) w
       ∙ ap (λ (l : List (ℕ × ℕ)). l ++ (ownerAt (owning os w e x) w ∷ [])) (rows-same (ownerAt (owning os w e x)) (ownerAt os) 0 w (λ i a b. pair-same (owning-other (2 * i) (λ q. omega arith) (λ q. omega arith)) (owning-other (2 * i + 1) (λ q. omega arith) (λ q. omega arith))))
       ∙ ap (λ (o : ℕ × ℕ). ownersIn os w ++ (o ∷ [])) (owning-at h)
 
@@ -67,7 +55,7 @@ module _ (p : ℕ × ℕ → Bool) (os : List ℕ) (n : ℕ) where
 
   keep-more : (k : ℕ) → keep p (ownersIn os (k + 1)) ≡ keep p (ownersIn os k) ++ consIf (p (ownerAt os k)) (ownerAt os k) []
   unfolding keep
-  keep-more k = ap (keep p) (owners-more os k) ∙ keep-append p (ownersIn os k) (ownerAt os k ∷ [])
+  keep-more k = ap (keep p) (front-more (ownerAt os) k) ∙ keep-append p (ownersIn os k) (ownerAt os k ∷ [])
 
   entry : {w k : ℕ} {os′ : List ℕ} → Compacts p os n w k os′ → ownerAt os′ k ≡ ownerAt os k
   entry {w} {k} {os′} c = pair-same (c .rest (2 * k) (omega arith)) (c .rest (2 * k + 1) (omega arith))

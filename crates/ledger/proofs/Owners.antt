@@ -2,7 +2,6 @@
 use Prim.Native.Nat.{ℕ, _+_, _-_, _*_, _≤_, _<_}
 use native.Mathlib.Omega.{arith}
 use native.Mathlib.Nat.{zero-add, sub-zero}
-use native.Mathlib.Numerals.{add-one}
 use mathlib.Core.Path.{_≡_, refl, sym, ap, _∙_, subst}
 use mathlib.Core.List.{List, [], _∷_, _++_, append-assoc}
 use lib.ListN.{length, length-append, length-set, getD, set}
@@ -12,16 +11,12 @@ use Rattle.engine.specs.Body.{rows}
 use Rattle.model.specs.Lists.{assign}
 use Rattle.memory.specs.Memory.{ownersIn}
 use Rattle.ledger.specs.Placing.{assignedIn}
-use Rattle.memory.proofs.Cells.{length-rows, rows-parts}
-use Rattle.memory.proofs.Rows.{rows-more, rows-same, rows-step, rows-end}
+use Rattle.engine.proofs.Passing.{length-rows}
+use Rattle.memory.proofs.Rows.{front-more, rows-parts, rows-same, rows-step, rows-end}
 
 -- entry k
 abbrev pub ownerAt : List ℕ → ℕ → ℕ × ℕ
 ownerAt owners k = (getD owners (2 * k) 0, getD owners (2 * k + 1) 0)
-
--- one entry more
-pub front-more : {A : Type 0} (g : ℕ → A) (k : ℕ) → rows g 0 (k + 1) ≡ rows g 0 k ++ (g k ∷ [])
-front-more g k = ap (rows g 0) (add-one k) ∙ rows-more g 0 k ∙ ap (λ (i : ℕ). rows g 0 k ++ (g i ∷ [])) (zero-add k)
 
 -- the entries before k, and those from k on
 in-parts : {A : Type 0} (g : ℕ → A) (n k : ℕ) → k ≤ n → rows g 0 n ≡ rows g 0 k ++ rows g k (n - k)

@@ -4,7 +4,7 @@ use native.Mathlib.Nat.{zero-add}
 use native.Mathlib.Omega.{arith}
 use mathlib.Core.Path.{_≡_, refl, sym, ap, _∙_}
 use mathlib.Core.Bool.{Bool, true, false, _&&_, _||_, not, and-false, and-assoc}
-use mathlib.Core.List.{List, _∷_, map, flatMap}
+use mathlib.Core.List.{List, _∷_, map}
 use lib.ListN.{length, getD}
 use lib.Dec.{leb, ltb, eqb}
 use lib.Ieee.{Float, nan}
@@ -14,12 +14,12 @@ use Rattle.engine.specs.Body.{narrow, all, timeOk, associationCount, frameOf, r
 use Rattle.engine.specs.Config.{legal, lag}
 use Rattle.engine.proofs.Every.{both}
 use Rattle.engine.proofs.Passing.{length-rows}
-use Rattle.model.specs.Lists.{has, any, find, foundIf, isSome, keep}
+use Rattle.model.specs.Lists.{has, any, find, foundIf, isSome}
 use Rattle.model.specs.Windows.{Scan, present, live, detections}
 use Rattle.model.specs.Rule as rules
 use Rattle.model.specs.Rule.{allOf, prefixOk, risesOk, apartOk, looseOk, clutterOk, columnOk, distinctOk, ruleOk}
 use Rattle.memory.specs.declared.state.FixedLagRefiner.{FixedLagRefiner}
-use Rattle.memory.specs.Memory.{Memory, bodyAt, idAt, scanIn, scansIn, inWindow, heightsIn, keyIn, prefixIn, entryIn, tableIn, ownersIn, stateOf, keysIn, lastIn, associationIn}
+use Rattle.memory.specs.Memory.{Memory, bodyAt, idAt, scanIn, scansIn, heightsIn, keyIn, prefixIn, entryIn, tableIn, ownersIn, stateOf, keysIn, lastIn, associationIn}
 use Rattle.ledger.specs.Sound.{bodiesOk, countsOk, idOk, columnIn, columnsOk, keyBefore, partOk, partsOk, ownedOk, engineIn, distinctAt, liveIn, entryOk, entriesOk, soundIn, soundOk}
 use Rattle.memory.proofs.Present.{present-has}
 use Rattle.ledger.proofs.Conjunctions.{passed}

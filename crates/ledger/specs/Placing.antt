@@ -2,11 +2,10 @@
 --
 -- By the state rule every owner before the push is live, and no track from the next id on is. So an owner is live just where it is below the next id as it
 -- was before the push.
-use Prim.Native.Nat.{ℕ, _+_, _≤_, _<_}
+use Prim.Native.Nat.{ℕ, _+_, _≤_}
 use mathlib.Core.Path.{_≡_}
-use mathlib.Core.Bool.{Bool, cond, _&&_, not}
+use mathlib.Core.Bool.{cond, _&&_, not}
 use mathlib.Core.List.{List, [], _∷_, _++_}
-use mathlib.Core.Option.{Option, none, some}
 use lib.ListN.{length, take}
 use lib.Dec.{leb, ltb}
 use Rattle.engine.specs.declared.types.Associated.{Associated}

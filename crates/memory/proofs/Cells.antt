@@ -1,6 +1,6 @@
--- Rows made by a function of their numbers, and the cells of a list. Assumes nothing.
-use Prim.Native.Nat.{ℕ, zero, suc, _+_, _-_, _≤_, _<_}
-use native.Mathlib.Nat.{zero-add, add-zero, add-suc, suc-add}
+-- The cells of a list, in order from its front. Assumes nothing.
+use Prim.Native.Nat.{ℕ, zero, suc, _+_, _≤_, _<_}
+use native.Mathlib.Nat.{zero-add}
 use native.Mathlib.Numerals.{add-one}
 use native.Mathlib.Omega.{arith}
 use mathlib.Core.Path.{_≡_, refl, sym, ap, _∙_}
@@ -9,35 +9,7 @@ use lib.ListN.{length, take, drop, getD, set, length-append, length-set}
 use lib.Seq.{take-suc, take-suc-set, take-at}
 use Rattle.engine.specs.Body.{rows}
 use Rattle.memory.specs.Memory.{cells, over}
-
-module _ {A : Type 0} (g : ℕ → A) where
-  pub length-rows : (o n : ℕ) → length (rows g o n) ≡ n
-  unfolding rows
-  length-rows o zero = refl
-  length-rows o (suc n) = ap suc (length-rows (suc o) n)
-
-  -- the first row, and the rest
-  pub rows-first : (o m : ℕ) → 0 < m → rows g o m ≡ g o ∷ rows g (suc o) (m - 1)
-  unfolding rows
-  rows-first o zero h = absurd (omega arith)
-  rows-first o (suc m) h = let e : m ≡ suc m - 1 = omega arith in ap (λ (k : ℕ). g o ∷ rows g (suc o) k) e
-
-  -- one more at the end
-  pub rows-more : (o n : ℕ) → rows g o (suc n) ≡ rows g o n ++ (g (o + n) ∷ [])
-  unfolding rows
-  rows-more o zero = ap (λ (i : ℕ). g i ∷ []) (sym (add-zero o))
-  rows-more o (suc n) = ap (λ l. g o ∷ l) (rows-more (suc o) n ∙ ap (λ (i : ℕ). rows g (suc o) n ++ (g i ∷ [])) (suc-add o n ∙ sym (add-suc o n)))
-
-  -- in two parts
-  pub rows-parts : (o m n : ℕ) → rows g o (m + n) ≡ rows g o m ++ rows g (o + m) n
-  unfolding rows
-  rows-parts o zero n = rw (zero-add n, add-zero o)
-  rows-parts o (suc m) n = rw (suc-add m n) (ap (λ l. g o ∷ l) (rows-parts (suc o) m n ∙ ap (λ (i : ℕ). rows g (suc o) m ++ rows g i n) (suc-add o m ∙ sym (add-suc o m))))
-
-pub rows-same : {A : Type 0} (g h : ℕ → A) (o n : ℕ) → ((i : ℕ) → o ≤ i → i < o + n → g i ≡ h i) → rows g o n ≡ rows h o n
-unfolding rows
-rows-same g h o zero e = refl
-rows-same g h o (suc n) e = ap (λ a. a ∷ rows g (suc o) n) (e o (omega arith) (omega arith)) ∙ ap (λ l. h o ∷ l) (rows-same g h (suc o) n (λ i a b. e i (omega arith) (omega arith)))
+use Rattle.memory.proofs.Rows.{rows-more}
 
 module _ {A : Type 0} (d : A) where
   -- the first n cells

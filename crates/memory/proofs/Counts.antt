@@ -1,14 +1,10 @@
 -- How many tracks, sensors and associations a body says, and how many they can be. Assumes nothing.
 use Prim.Native.Nat.{ℕ, _≤_}
-use native.Mathlib.Omega.{arith}
 use mathlib.Core.Path.{_≡_}
-use mathlib.Core.Bool.{Bool, true, false, cond}
 use mathlib.Core.List.{List}
-use lib.ListN.{length, getD}
-use lib.Dec.{eqb}
+use lib.ListN.{length}
 use Rattle.engine.specs.Body.{narrow, trackCount, associationCount, sensorCount, refusal, frameOf}
-use Rattle.engine.proofs.Passing.{sized-body}
-use Rattle.memory.proofs.Cells.{length-rows}
+use Rattle.engine.proofs.Passing.{sized-body, few-sensors, length-rows}
 
 pub tracks-long : (s : List ℕ) → length (frameOf narrow s .tracks) ≡ trackCount narrow s
 unfolding frameOf
@@ -26,8 +22,4 @@ pub associations-few : (s : List ℕ) → refusal narrow s ≡ 0 → association
 associations-few s h = sized-body narrow s h .associations
 
 pub sensors-few : (s : List ℕ) → refusal narrow s ≡ 0 → sensorCount narrow s ≤ 8
-sensors-few s h = go (eqb (getD s 1 0) 0) (sized-body narrow s h .sensors)
-  where
-    go : (b : Bool) → sensorCount narrow s ≤ cond b 0 8 → sensorCount narrow s ≤ 8
-    go true l = omega arith
-    go false l = l
+sensors-few s h = few-sensors (sized-body narrow s h)

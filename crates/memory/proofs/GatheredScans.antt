@@ -17,10 +17,10 @@ use Rattle.model.specs.Windows.{Scan, inWindows, detections}
 use Rattle.model.proofs.Windows.{detections-cons}
 use Rattle.windows.specs.Rows.{segment, columnAt}
 use Rattle.windows.specs.Columns.{picked, spread, putBack}
+use Rattle.windows.proofs.Spreads.{spread-self}
 use Rattle.memory.specs.Memory.{over}
 use Rattle.memory.specs.Gathering.{engineOf, Gathered, gatheredIn, gatheredOf, gathered, idsOf, enginesOf}
-use Rattle.memory.proofs.Cells.{rows-first, rows-parts}
-use Rattle.memory.proofs.Rows.{rows-more}
+use Rattle.memory.proofs.Rows.{rows-more, rows-first, rows-parts}
 use Rattle.memory.proofs.LatestGathered.{Each, enginesIn}
 
 -- ---- in one scan
@@ -63,20 +63,13 @@ unfolding gathered
 gathered-few n [] = zero-le
 gathered-few n (s ∷ ss) = omega (arith, length-append (gatheredOf n s) (gathered (suc n) ss), detections-cons s ss, scan-few n (s .frame) (s .frame .associations) (s .ids), gathered-few (suc n) ss)
 
--- put back, the ids of a column are the column
-spread-same : (is : List ℕ) → spread is (keep (ltb 0) is) ≡ is
-unfolding spread
-spread-same [] = refl
-spread-same (zero ∷ is) = ap (λ gs. 0 ∷ spread is gs) (keep-clutter is) ∙ ap (λ k. 0 ∷ k) (spread-same is)
-spread-same (suc i ∷ is) = ap (spread (suc i ∷ is)) (keep-held i is) ∙ ap (λ k. suc i ∷ k) (spread-same is)
-
 -- ---- over the scans
 
 pub put-back-same : (starts ids : List ℕ) (k : ℕ) (ss : List Scan) → Each (λ j s. columnAt starts ids j ≡ keep (ltb 0) (s .ids)) k ss → putBack starts ids k ss ≡ ss
 unfolding putBack
 put-back-same starts ids k [] h = refl
 put-back-same starts ids k (s ∷ ss) h =
-    ap (λ is. record { frame = s .frame; ids = is } ∷ putBack starts ids (suc k) ss) (ap (spread (s .ids)) (h .0) ∙ spread-same (s .ids))
+    ap (λ is. record { frame = s .frame; ids = is } ∷ putBack starts ids (suc k) ss) (ap (spread (s .ids)) (h .0) ∙ spread-self (s .ids))
     ∙ ap (λ l. s ∷ l) (put-back-same starts ids (suc k) ss (h .1))
 
 -- something of each of the scans that a function of their numbers gives

@@ -15,7 +15,7 @@ use Rattle.model.specs.Lists.{keep}
 use Rattle.model.specs.Windows.{detections}
 use Rattle.memory.specs.Memory.{bodyAt, idAt, scanIn, scansIn, over}
 use Rattle.memory.specs.Gathering.{gathered, idsOf, enginesOf, dotsOf, countIn, foundIn, foundOf, Held, GathersScan, GatheredScan, Filled, GatheredAll}
-use Rattle.memory.proofs.Cells.{length-rows}
+use Rattle.engine.proofs.Passing.{length-rows}
 use Rattle.memory.proofs.Counts.{associations-long}
 use Rattle.memory.proofs.Detections as detections
 use Rattle.memory.proofs.GatheredScans as scans

@@ -11,11 +11,10 @@ use Rattle.engine.specs.declared.config.FgoConfig.{FgoConfig}
 use Rattle.engine.specs.declared.types.Association.{Association}
 use Rattle.engine.specs.Frame.{Frame, noAssociation}
 use Rattle.engine.specs.Body.{narrow, associationCount, frameOf, rows}
-use Rattle.engine.proofs.Passing.{row-at}
+use Rattle.engine.proofs.Passing.{row-at, length-rows}
 use Rattle.model.specs.Windows.{dotOf}
 use Rattle.memory.specs.Memory.{idAt, over, associationIn}
 use Rattle.memory.specs.Gathering.{Gathered, engineOf, gatheredIn, idsOf, enginesOf, numbersFor, dotsOf, dotIn, foundIn, GathersScan, GatheredScan}
-use Rattle.memory.proofs.Cells.{length-rows}
 use Rattle.memory.proofs.Counts.{associations-long}
 use Rattle.memory.proofs.Writes.{Written, written-none, written-more, written-same}
 

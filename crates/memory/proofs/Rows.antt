@@ -1,20 +1,36 @@
--- Rows: the next one, one more at the end, rows that agree, and what holds of them all. Assumes nothing.
+-- Rows: the next one, one more at the end, in two parts, rows that agree, and what holds of them all. Assumes nothing.
 use Prim.Native.Nat.{ℕ, zero, suc, _+_, _-_, _≤_, _<_}
-use mathlib.Core.Path.{_≡_, refl, ap, subst}
+use mathlib.Core.Path.{_≡_, refl, sym, ap, _∙_, subst}
 use mathlib.Core.Bool.{Bool, true, false}
 use mathlib.Core.List.{[], _∷_, _++_}
-use native.Mathlib.Nat.{add-zero}
+use native.Mathlib.Nat.{zero-add, add-zero, add-suc, suc-add}
+use native.Mathlib.Numerals.{add-one}
 use native.Mathlib.Omega.{arith}
 use Rattle.engine.specs.Body.{rows}
 use Rattle.model.specs.Lists.{any}
 use Rattle.model.specs.Rule.{All}
 
 module _ {A : Type 0} where
+  -- the first row, and the rest
+  pub rows-first : (g : ℕ → A) (o m : ℕ) → 0 < m → rows g o m ≡ g o ∷ rows g (suc o) (m - 1)
+  unfolding rows
+  rows-first g o zero h = absurd (omega arith)
+  rows-first g o (suc m) h = let e : m ≡ suc m - 1 = omega arith in ap (λ (k : ℕ). g o ∷ rows g (suc o) k) e
+
   -- one row more
   pub rows-more : (g : ℕ → A) (i n : ℕ) → rows g i (suc n) ≡ rows g i n ++ (g (i + n) ∷ [])
   unfolding rows
   rows-more g i zero = rw (add-zero i)
   rows-more g i (suc n) = let e : i + suc n ≡ suc i + n = omega arith in rw e (ap (λ r. g i ∷ r) (rows-more g (suc i) n))
+
+  pub front-more : (g : ℕ → A) (k : ℕ) → rows g 0 (k + 1) ≡ rows g 0 k ++ (g k ∷ [])
+  front-more g k = ap (rows g 0) (add-one k) ∙ rows-more g 0 k ∙ ap (λ (i : ℕ). rows g 0 k ++ (g i ∷ [])) (zero-add k)
+
+  -- in two parts
+  pub rows-parts : (g : ℕ → A) (o m n : ℕ) → rows g o (m + n) ≡ rows g o m ++ rows g (o + m) n
+  unfolding rows
+  rows-parts g o zero n = rw (zero-add n, add-zero o)
+  rows-parts g o (suc m) n = rw (suc-add m n) (ap (λ l. g o ∷ l) (rows-parts g (suc o) m n ∙ ap (λ (i : ℕ). rows g (suc o) m ++ rows g i n) (suc-add o m ∙ sym (add-suc o m))))
 
   -- rows that agree
   pub rows-same : (f g : ℕ → A) (i n : ℕ) → ((k : ℕ) → i ≤ k → k < i + n → f k ≡ g k) → rows f i n ≡ rows g i n

@@ -16,7 +16,7 @@ use Rattle.model.proofs.Windows.{detections-cons}
 use Rattle.windows.specs.Columns.{spread}
 use Rattle.memory.specs.Memory.{slotAt, bodyAt, idAt, scanIn, scansIn}
 use Rattle.memory.specs.Gathering.{countIn, Held, ScatteredScan, spreadAll, Scattered}
-use Rattle.memory.proofs.Cells.{rows-more, rows-same}
+use Rattle.memory.proofs.Rows.{rows-more, rows-same}
 use Rattle.memory.proofs.Counts.{associations-few}
 use Rattle.memory.proofs.Detections.{found-more}
 use Rattle.memory.proofs.GatheringHeld.{found-one, found-count, found-room}

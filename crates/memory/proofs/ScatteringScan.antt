@@ -18,7 +18,7 @@ use Rattle.windows.specs.Columns.{spread}
 use Rattle.windows.proofs.Spreads.{above}
 use Rattle.memory.specs.Memory.{cells, slotAt, idAt}
 use Rattle.memory.specs.Gathering.{countIn, ScatteredScan}
-use Rattle.memory.proofs.Cells.{rows-more, rows-parts, rows-same}
+use Rattle.memory.proofs.Rows.{rows-more, rows-parts, rows-same}
 
 -- ---- a column put back, one id more
 

@@ -3,7 +3,7 @@ use Prim.Native.Nat.{ℕ, suc, _+_, _-_, _≤_, _<_}
 use native.Mathlib.Nat.{add-comm}
 use native.Mathlib.Omega.{arith}
 use mathlib.Core.Path.{_≡_, refl, sym, ap, _∙_}
-use mathlib.Core.Bool.{Bool, true, false, cond, _||_}
+use mathlib.Core.Bool.{Bool, true, false, cond, _||_, or-comm, or-assoc}
 use mathlib.Core.List.{List, [], _∷_, _++_, foldr}
 use lib.ListN.{length, length-append, drop-of-length-le}
 use lib.Seq.{drop-cons}
@@ -17,7 +17,7 @@ use Rattle.model.specs.Lists.{any, has}
 use Rattle.model.specs.Refiner.{join}
 use Rattle.memory.specs.Memory.{cells, associationIn}
 use Rattle.refusing.specs.Refusing.{enginesIn, joinEnd, joinedIn}
-use Rattle.memory.proofs.Cells.{length-rows}
+use Rattle.engine.proofs.Passing.{length-rows}
 use Rattle.memory.proofs.Counts.{associations-long}
 
 -- the same ids, and as many
@@ -25,23 +25,13 @@ pub record Alike (k l : List ℕ) : Type 0 where
   pub same : (x : ℕ) → has x k ≡ has x l
   pub long : length k ≡ length l
 
-or-swap : (a b : Bool) → (a || b) ≡ (b || a)
-or-swap true true = refl
-or-swap true false = refl
-or-swap false true = refl
-or-swap false false = refl
-
-or-assoc : (a b d : Bool) → (a || b || d) ≡ (a || (b || d))
-or-assoc true b d = refl
-or-assoc false b d = refl
-
 has-end : (x y : ℕ) (l : List ℕ) → has x (l ++ (y ∷ [])) ≡ (eqb x y || has x l)
 unfolding any
 has-end x y [] = refl
 has-end x y (z ∷ l) =
     ap (λ (b : Bool). eqb x z || b) (has-end x y l)
     ∙ sym (or-assoc (eqb x z) (eqb x y) (has x l))
-    ∙ ap (λ (b : Bool). b || has x l) (or-swap (eqb x z) (eqb x y))
+    ∙ ap (λ (b : Bool). b || has x l) (or-comm (eqb x z) (eqb x y))
     ∙ or-assoc (eqb x y) (eqb x z) (has x l)
 
 -- one id more

@@ -1,5 +1,6 @@
 -- A window whose detections are a row's: its parts have those of the row's parts, and two joined those of the merged rows. Assumes nothing.
 use Prim.Native.Nat.{ℕ, zero, suc, _+_, _≤_}
+use native.Mathlib.Nat.{add-suc}
 use native.Mathlib.Omega.{arith}
 use mathlib.Core.Path.{_≡_, refl, sym, ap, _∙_, subst}
 use mathlib.Core.Bool.{Bool, true, false, cond}
@@ -12,9 +13,9 @@ use Rattle.costs.specs.Cost.{Det, View, detAt, dets}
 use Rattle.model.specs.Lists.{keep, consIf}
 use Rattle.model.specs.Windows.{Dot, detOf}
 use Rattle.model.specs.Rule.{All}
-use Rattle.model.specs.Faithful.{before, from, joined, beside}
+use Rattle.model.specs.Faithful.{before, from, joined}
 use Rattle.model.proofs.All.{map-All}
-use Rattle.model.proofs.Counting.{eq-compare, lt-compare, gt-compare}
+use Rattle.model.proofs.Merging.{join-left, join-right, join-both}
 use Rattle.pricing.specs.Price.{crossed}
 use Rattle.pair_moves.specs.Pair.{keptSlot, mergedRow}
 use Rattle.search.proofs.RowDets.{dets-from, dets-before, dets-onward, dets-cut}
@@ -64,10 +65,6 @@ cond-ap f false x y = refl
 
 -- ---- of two in one scan the keeper's or the other's
 
-join-both : (own : Bool) (d e : Dot) (w u : List Dot) → d .scan ≡ e .scan → joined own (d ∷ w) (e ∷ u) ≡ cond own d e ∷ joined own w u
-unfolding joined beside
-join-both own d e w u h = rw (eq-compare (d .scan) (e .scan) h)
-
 kept-left : (own : Bool) (i : ℕ) → keptSlot own (suc i) 0 ≡ suc i
 kept-left own i = rw (ne-eqb (suc i) 0 (λ e. omega arith))
 
@@ -102,19 +99,13 @@ module _ (c : FgoConfig) (v : View) where
 
   -- ---- two windows as one
 
-  row-later : (k : ℕ) (r : List ℕ) (w : List Dot) → map (detOf c) w ≡ dets v k r → All (λ (d : Dot). v .first + k ≤ d .scan) w
-  row-later k r w h = map-All (λ (d : Det). v .first + k ≤ d .scan) (detOf c) w (subst (All (λ (d : Det). v .first + k ≤ d .scan)) (sym h) (dets-from v k r))
-
-  module _ (own : Bool) (k : ℕ) (d : Dot) (p : d .scan ≡ v .first + k) where
-    join-left : (w u : List Dot) → All (λ (e : Dot). v .first + suc k ≤ e .scan) u → joined own (d ∷ w) u ≡ d ∷ joined own w u
-    unfolding joined beside
-    join-left w [] h = refl
-    join-left w (e ∷ u) h = let l = h .0 in rw (lt-compare (d .scan) (e .scan) (omega arith))
-
-    join-right : (w u : List Dot) → All (λ (e : Dot). v .first + suc k ≤ e .scan) w → joined own w (d ∷ u) ≡ d ∷ joined own w u
-    unfolding joined beside
-    join-right [] u h = refl
-    join-right (e ∷ w) u h = let l = h .0 in rw (gt-compare (e .scan) (d .scan) (omega arith))
+  -- of a row from place k + 1 on, later than scan k
+  row-later : (k : ℕ) (r : List ℕ) (w : List Dot) → map (detOf c) w ≡ dets v (suc k) r → All (λ (d : Dot). suc (v .first + k) ≤ d .scan) w
+  row-later k r w h =
+      map-All Later (detOf c) w (subst (All Later) (sym h) (subst (λ (n : ℕ). All (λ (d : Det). n ≤ d .scan) (dets v (suc k) r)) (add-suc (v .first) k) (dets-from v (suc k) r)))
+    where
+      Later : Det → Type 0
+      Later d = suc (v .first + k) ≤ d .scan
 
   pub row-joined :
       (own : Bool) (k : ℕ) (a b : List ℕ) (w u : List Dot) → length a ≡ length b → map (detOf c) w ≡ dets v k a → map (detOf c) u ≡ dets v k b →
@@ -128,18 +119,18 @@ module _ (c : FgoConfig) (v : View) where
   row-joined own k (zero ∷ a) (zero ∷ b) w u e h g = row-joined own (suc k) a b w u (omega arith) h g
   row-joined own k (suc i ∷ a) (zero ∷ b) [] u e h g = absurd (nil≢cons h)
   row-joined own k (suc i ∷ a) (zero ∷ b) (d ∷ w) u e h g =
-      ap (map (detOf c)) (join-left own k d (ap (λ (d : Det). d .scan) (head-eq-of-cons-eq h)) w u (row-later (suc k) b u g))
+      ap (map (detOf c)) (join-left own (v .first + k) d (ap (λ (d : Det). d .scan) (head-eq-of-cons-eq h)) w u (row-later k b u g))
       ∙ (λ z. head-eq-of-cons-eq h z ∷ row-joined own (suc k) a b w u (omega arith) (tail-eq-of-cons-eq h) g z)
       ∙ ap (λ (s : ℕ). dets v k (s ∷ mergedRow own a b)) (sym (kept-left own i))
   row-joined own k (zero ∷ a) (suc j ∷ b) w [] e h g = absurd (nil≢cons g)
   row-joined own k (zero ∷ a) (suc j ∷ b) w (d ∷ u) e h g =
-      ap (map (detOf c)) (join-right own k d (ap (λ (d : Det). d .scan) (head-eq-of-cons-eq g)) w u (row-later (suc k) a w h))
+      ap (map (detOf c)) (join-right own (v .first + k) d (ap (λ (d : Det). d .scan) (head-eq-of-cons-eq g)) w u (row-later k a w h))
       ∙ (λ z. head-eq-of-cons-eq g z ∷ row-joined own (suc k) a b w u (omega arith) h (tail-eq-of-cons-eq g) z)
   row-joined own k (suc i ∷ a) (suc j ∷ b) [] u e h g = absurd (nil≢cons h)
   row-joined own k (suc i ∷ a) (suc j ∷ b) (d ∷ w) [] e h g = absurd (nil≢cons g)
   row-joined own k (suc i ∷ a) (suc j ∷ b) (d ∷ w) (m ∷ u) e h g =
       let p = head-eq-of-cons-eq h in
       let q = head-eq-of-cons-eq g in
-      ap (map (detOf c)) (join-both own d m w u (ap (λ (d : Det). d .scan) p ∙ sym (ap (λ (d : Det). d .scan) q)))
+      ap (map (detOf c)) (join-both own (v .first + k) d (ap (λ (d : Det). d .scan) p) m (ap (λ (d : Det). d .scan) q) w u)
       ∙ (λ z. (cond-ap (detOf c) own d m ∙ (λ y. cond own (p y) (q y)) ∙ sym (cond-ap (detAt v k) own i j)) z ∷ row-joined own (suc k) a b w u (omega arith) (tail-eq-of-cons-eq h) (tail-eq-of-cons-eq g) z)
       ∙ ap (λ (s : ℕ). dets v k (s ∷ mergedRow own a b)) (sym (kept-both own i j))

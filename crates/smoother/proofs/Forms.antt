@@ -7,7 +7,7 @@ use native.Mathlib.Nat.{zero-add, add-zero, suc-add, add-suc}
 use lib.ListN.{length}
 use lib.Ieee.{Float}
 use Rattle.engine.specs.Body.{all}
-use Rattle.engine.proofs.Every.{both}
+use Rattle.engine.proofs.Every.{both, all-front}
 use Rattle.smoother.specs.declared.FixedLagSmoother.{FixedLagSmoother}
 use Rattle.refined.specs.Frame.{SmootherFrame, headOk, wellFormed}
 use Rattle.smoother.specs.Smoother.{allFormed}
@@ -35,19 +35,7 @@ module _ (s : FixedLagSmoother) (win : List ℕ) (nums : List Float) where
   all-from k zero = refl
   all-from k (suc n) =
       ap (λ b. formed k && b) (all-from (suc k) n ∙ (λ j. all (λ i. formed ((suc-add k i ∙ sym (add-suc k i)) j)) n))
-      ∙ ap (λ m. formed m && all (λ i. formed (k + suc i)) n) (sym (add-zero k)) ∙ sym (all-cons (λ i. formed (k + i)) n)
-    where
-      and-assoc : (a b c : Bool) → (a && b) && c ≡ a && (b && c)
-      and-assoc true b c = refl
-      and-assoc false b c = refl
-
-      and-true : (a : Bool) → a ≡ a && true
-      and-true true = refl
-      and-true false = refl
-
-      all-cons : (p : ℕ → Bool) (n : ℕ) → all p (suc n) ≡ p 0 && all (λ i. p (suc i)) n
-      all-cons p zero = and-true (p 0)
-      all-cons p (suc n) = ap (λ b. b && p (suc n)) (all-cons p n) ∙ and-assoc (p 0) (all (λ i. p (suc i)) n) (p (suc n))
+      ∙ ap (λ m. formed m && all (λ i. formed (k + suc i)) n) (sym (add-zero k)) ∙ sym (all-front (λ i. formed (k + i)) n)
 
   pub all-held : allFormed (s .most) (framesIn s win nums) ≡ all formed (s .held)
   all-held = all-from 0 (s .held) ∙ (λ j. all (λ i. formed (zero-add i j)) (s .held))

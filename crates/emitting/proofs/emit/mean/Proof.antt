@@ -10,7 +10,8 @@ use lib.Ieee.{Float, nan, binary64, add, div, ofInt}
 use Rattle.engine.specs.Body.{rows}
 use Rattle.model.specs.Freezing as freezing
 use Rattle.memory.specs.Memory.{cells}
-use Rattle.memory.proofs.Cells.{length-rows, rows-first, rows-more}
+use Rattle.engine.proofs.Passing.{length-rows}
+use Rattle.memory.proofs.Rows.{rows-first, rows-more}
 use Rattle.emitting.proofs.emit.mean.Statement.{statement}
 use Rattle.emitting.proofs.emit.mean.Tie as tie
 

@@ -10,11 +10,10 @@ use lib.Seq.{length-take-le, take-all}
 use Rattle.engine.specs.declared.types.Association.{Association}
 use Rattle.engine.specs.Frame.{noAssociation}
 use Rattle.engine.specs.Body.{narrow, associationCount, frameOf}
-use Rattle.engine.proofs.Passing.{row-at}
+use Rattle.engine.proofs.Passing.{row-at, length-rows}
 use Rattle.model.specs.Emitting.{associationWords, associationsWords}
 use Rattle.memory.specs.Memory.{idAt, over, associationIn}
 use Rattle.emitting.specs.Writing.{idsIn, associationsIn}
-use Rattle.memory.proofs.Cells.{length-rows}
 use Rattle.memory.proofs.Counts.{associations-long}
 use Rattle.emitting.proofs.Associations.{associations-more, associations-size}
 use Rattle.memory.proofs.Writes.{Written, written-none, written-more, written-same}

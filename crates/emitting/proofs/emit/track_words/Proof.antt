@@ -2,7 +2,8 @@
 use borrow.Author.Needs.{needs}
 use mir.Facts.{toZ-ofZ}
 use Rattle.model.specs.Emitting.{report}
-use Rattle.freezing.proofs.Times.{time-fits, passed-on}
+use Rattle.engine.proofs.ReadBack.{time-fits}
+use Rattle.freezing.proofs.Times.{passed-on}
 use Rattle.emitting.proofs.emit.track_words.Statement.{statement}
 use Rattle.emitting.proofs.emit.track_words.Tie as tie
 

@@ -4,13 +4,13 @@ use mathlib.Core.Path.{_≡_, sym, _∙_}
 use native.Mathlib.Omega.{arith}
 use Rattle.engine.specs.Body.{rows}
 use Rattle.memory.specs.Memory.{keyIn, keysIn}
-use Rattle.freezing.specs.Frozen.{placeOf}
+use Rattle.windows.specs.Rows.{placeIn}
 use Rattle.freezing.proofs.Places.{place-first, place-here, place-next, place-end}
 use Rattle.freezing.proofs.freeze.place_of.Statement.{statement}
 use Rattle.freezing.proofs.freeze.place_of.Tie as tie
 
 abbrev Inv-loop : tie.InvT-loop
-Inv-loop tracks frozen id k₀ k = (k ≤ frozen) × (placeOf (id .0) (keysIn tracks frozen) ≡ k + placeOf (id .0) (rows (keyIn tracks) k (frozen - k)))
+Inv-loop tracks frozen id k₀ k = (k ≤ frozen) × (placeIn (id .0) (keysIn tracks frozen) ≡ k + placeIn (id .0) (rows (keyIn tracks) k (frozen - k)))
 
 abbrev μ-loop : tie.MeasureT-loop
 μ-loop tracks frozen id k₀ k = frozen - k

@@ -1,5 +1,5 @@
 -- `ledger::own::hold_latest` meets its contract: the entries before k are told anew, the others are as they were. Assumes nothing.
-use Prim.Native.Nat.{ℕ, zero, suc, _+_, _-_, _*_, _≤_, _<_}
+use Prim.Native.Nat.{ℕ, _+_, _-_, _*_, _≤_, _<_}
 use native.Mathlib.Decide.{ℕ-discrete}
 use native.Mathlib.Omega.{arith}
 use mathlib.Core.Path.{_≡_, refl, sym, ap, _∙_}
@@ -10,19 +10,12 @@ use lib.Seq.{getD-set-same, getD-set-other}
 use Rattle.model.specs.Owning.{orElse}
 use Rattle.memory.specs.Memory.{ownersIn}
 use Rattle.memory.specs.Gathering.{latestOf, heldLatest}
+use Rattle.model.proofs.Latest.{or-some, or-none}
 use Rattle.memory.proofs.Rows.{rows-same}
 use Rattle.ledger.proofs.SoundLaw.{map-rows}
 use Rattle.ledger.proofs.Owners.{ownerAt, other-owner}
 use Rattle.ledger.proofs.own.hold_latest.Statement.{statement}
 use Rattle.ledger.proofs.own.hold_latest.Tie as tie
-
-or-none : (x : ℕ) → x ≤ 0 → (y : ℕ) → orElse x y ≡ y
-or-none zero h y = refl
-or-none (suc x) h y = absurd (omega arith)
-
-or-some : (x : ℕ) → 0 < x → (y : ℕ) → orElse x y ≡ x
-or-some zero h y = absurd (omega arith)
-or-some (suc x) h y = refl
 
 module _ (ids engines starts : List ℕ) (held : ℕ) where
   abbrev latest : ℕ → ℕ

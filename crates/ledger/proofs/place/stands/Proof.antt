@@ -3,7 +3,7 @@ use Prim.Native.Nat.{ℕ, zero, suc, _+_, _-_, _≤_, _<_}
 use native.Mathlib.Numerals.{add-one}
 use native.Mathlib.Omega.{arith}
 use mathlib.Core.Path.{_≡_, refl, sym, ap, _∙_}
-use mathlib.Core.Bool.{Bool, true, false, _||_}
+use mathlib.Core.Bool.{true, false, or-true}
 use mathlib.Core.List.{List, [], _∷_}
 use lib.ListN.{length, take, getD}
 use lib.Seq.{take-suc}
@@ -13,10 +13,6 @@ use Rattle.model.specs.Lists.{any, has}
 use Rattle.model.proofs.Counting.{any-append}
 use Rattle.ledger.proofs.place.stands.Statement.{statement}
 use Rattle.ledger.proofs.place.stands.Tie as tie
-
-or-true : (b : Bool) → (b || true) ≡ true
-or-true true = refl
-or-true false = refl
 
 at-place : (x : ℕ) (l : List ℕ) (n i : ℕ) → i < n → n ≤ length l → x ≡ getD l i 0 → true ≡ has x (take n l)
 unfolding any

@@ -2,9 +2,9 @@
 use Prim.Native.Nat.{ℕ, suc, _+_, _-_, _≤_, _<_}
 use native.Mathlib.Numerals.{add-one}
 use native.Mathlib.Omega.{arith}
-use mathlib.Core.Path.{_≡_, refl, sym, ap, _∙_}
+use mathlib.Core.Path.{_≡_, sym, ap, _∙_}
 use mathlib.Core.Logic.{_⊎_, inl, inr, ⊎-elim}
-use mathlib.Core.Bool.{Bool, true, false, _||_, not}
+use mathlib.Core.Bool.{Bool, true, false, _||_, not, or-true}
 use mathlib.Core.List.{List}
 use lib.Dec.{eqb, ltb}
 use borrow.Author.Needs.{needs}
@@ -44,10 +44,6 @@ module _ (next : ℕ) (columns s : List ℕ) (n j : ℕ) where
       alone : (x : ℕ) (h : Bool) → (x ≡ 0) ⊎ (h ≡ false) → (eqb x 0 || not h) ≡ true
       alone x h (inl z) = rw (eq-eqb x 0 z)
       alone x h (inr f) = rw f (or-true (eqb x 0))
-        where
-          or-true : (a : Bool) → (a || true) ≡ true
-          or-true true = refl
-          or-true false = refl
 
 id-at-requires : tie.Need-id-at-requires
 id-at-requires c κs = search needs

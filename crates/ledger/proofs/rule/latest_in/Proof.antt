@@ -5,6 +5,7 @@ use mathlib.Core.Path.{_≡_, refl, sym, ap, _∙_}
 use mathlib.Core.List.{List}
 use lib.ListN.{getD}
 use Rattle.model.specs.Owning.{orElse}
+use Rattle.model.proofs.Latest.{or-some, or-none}
 use Rattle.memory.specs.Gathering.{holderOf, latestOf}
 use Rattle.ledger.proofs.rule.latest_in.Statement.{statement}
 use Rattle.ledger.proofs.rule.latest_in.Tie as tie
@@ -21,18 +22,10 @@ module _ (e : ℕ) (ids engines starts : List ℕ) where
     step-by = step k p ∙ ap (λ (y : ℕ). orElse y (latestOf e ids engines starts (k - 1))) (sym q)
 
     last-here : 0 < x → x ≡ latestOf e ids engines starts k
-    last-here h = sym (step-by ∙ some x h _)
-      where
-        some : (x : ℕ) → 0 < x → (y : ℕ) → orElse x y ≡ x
-        some zero h y = absurd (omega arith)
-        some (suc x) h y = refl
+    last-here h = sym (step-by ∙ or-some x h _)
 
     last-next : x ≤ 0 → latestOf e ids engines starts k ≡ latestOf e ids engines starts (k - 1)
-    last-next h = step-by ∙ none x h _
-      where
-        none : (x : ℕ) → x ≤ 0 → (y : ℕ) → orElse x y ≡ y
-        none zero h y = refl
-        none (suc x) h y = absurd (omega arith)
+    last-next h = step-by ∙ or-none x h _
 
 -- no scan from k on has one
 abbrev Inv-loop : tie.InvT-loop

@@ -1,36 +1,33 @@
 -- `ledger::rule::owner_of` meets its contract. Assumes nothing.
-use Prim.Native.Nat.{ℕ, _+_, _-_, _*_, _≤_, _<_}
+use Prim.Native.Nat.{ℕ, _+_, _-_, _≤_, _<_}
 use native.Mathlib.Nat.{sub-zero}
 use native.Mathlib.Omega.{arith}
 use mathlib.Core.Path.{_≡_, refl, sym, ap, _∙_}
 use mathlib.Core.List.{List}
-use lib.ListN.{getD}
 use Rattle.engine.specs.Body.{rows}
 use Rattle.model.specs.Lists.{find}
 use Rattle.memory.specs.Memory.{ownersIn}
 use Rattle.ledger.specs.Sound.{orNone}
 use Rattle.model.proofs.Tables.{found-here, found-past}
 use Rattle.memory.proofs.Rows.{rows-step, rows-end}
+use Rattle.ledger.proofs.Owners.{ownerAt}
 use Rattle.ledger.proofs.rule.owner_of.Statement.{statement}
 use Rattle.ledger.proofs.rule.owner_of.Tie as tie
 
-abbrev entry : List ℕ → ℕ → ℕ × ℕ
-entry owners k = (getD owners (2 * k) 0, getD owners (2 * k + 1) 0)
-
 module _ (owners : List ℕ) (e owned k : ℕ) where
-  found : k < owned → entry owners k .0 ≡ e → orNone (find e (rows (entry owners) k (owned - k))) ≡ entry owners k .1
-  found h q = ap orNone (ap (find e) (rows-step (entry owners) k owned k h refl) ∙ found-here e (entry owners k) _ (sym q))
+  found : k < owned → ownerAt owners k .0 ≡ e → orNone (find e (rows (ownerAt owners) k (owned - k))) ≡ ownerAt owners k .1
+  found h q = ap orNone (ap (find e) (rows-step (ownerAt owners) k owned k h refl) ∙ found-here e (ownerAt owners k) _ (sym q))
 
-  past : k < owned → (entry owners k .0 ≡ e → ⊥) → find e (rows (entry owners) k (owned - k)) ≡ find e (rows (entry owners) (k + 1) (owned - (k + 1)))
-  past h q = ap (find e) (rows-step (entry owners) k owned k h refl) ∙ found-past e (entry owners k) _ (λ z. q (sym z))
+  past : k < owned → (ownerAt owners k .0 ≡ e → ⊥) → find e (rows (ownerAt owners) k (owned - k)) ≡ find e (rows (ownerAt owners) (k + 1) (owned - (k + 1)))
+  past h q = ap (find e) (rows-step (ownerAt owners) k owned k h refl) ∙ found-past e (ownerAt owners k) _ (λ z. q (sym z))
 
-  ended : owned ≤ k → orNone (find e (rows (entry owners) k (owned - k))) ≡ 0
+  ended : owned ≤ k → orNone (find e (rows (ownerAt owners) k (owned - k))) ≡ 0
   unfolding find
-  ended h = ap (λ l. orNone (find e l)) (rows-end (entry owners) k owned k h)
+  ended h = ap (λ l. orNone (find e l)) (rows-end (ownerAt owners) k owned k h)
 
 -- none of the entries before k has the engine id
 abbrev Inv-loop : tie.InvT-loop
-Inv-loop owners owned e k₀ k = find e (ownersIn owners owned) ≡ find e (rows (entry owners) k (owned - k))
+Inv-loop owners owned e k₀ k = find e (ownersIn owners owned) ≡ find e (rows (ownerAt owners) k (owned - k))
 
 abbrev μ-loop : tie.MeasureT-loop
 μ-loop owners owned e k₀ k = owned - k

@@ -8,7 +8,8 @@ use Rattle.engine.specs.declared.types.Association.{Association}
 use Rattle.memory.specs.Memory.{cells, over}
 use Rattle.ledger.specs.Sound.{engineIn}
 use Rattle.refusing.specs.Refusing.{enginesIn}
-use Rattle.memory.proofs.Cells.{length-rows, cells-over}
+use Rattle.engine.proofs.Passing.{length-rows}
+use Rattle.memory.proofs.Cells.{cells-over}
 use Rattle.memory.proofs.Over.{length-over}
 use Rattle.memory.proofs.Counts.{associations-few}
 use Rattle.refusing.proofs.Joining.{Joins, joins-none, joins-more, joins-all}

@@ -3,10 +3,9 @@ use Prim.Native.Nat.{_-_}
 use native.Mathlib.Nat.{zero-add}
 use native.Mathlib.Omega.{arith}
 use mathlib.Core.Path.{sym}
-use Rattle.engine.proofs.Passing.{row-at}
+use Rattle.engine.proofs.Passing.{row-at, length-rows}
 use Rattle.ledger.specs.Sound.{engineIn}
 use Rattle.refusing.specs.Refusing.{enginesIn}
-use Rattle.memory.proofs.Cells.{length-rows}
 use Rattle.memory.proofs.Writes.{Writes, writes-none, writes-more, writes-all}
 use Rattle.refusing.proofs.refuse.owner_keys.Statement.{statement}
 use Rattle.refusing.proofs.refuse.owner_keys.Tie as tie
