@@ -34,8 +34,8 @@ use Rattle.model.specs.Emitting.{Emitted, report, listing, associationsWords, w
 use Rattle.model.specs.Refiner.{arrive, emit, leave, release, settle, full8, full9, full10, pushFrame, push, takes}
 use Rattle.model.specs.History.{Op, pushed, step, run}
 use Rattle.model.proofs.Examples.{lagging}
-use Rattle.refined.specs.Frame.{SmootherFrame, headOk as formHead, trackOk as formTrack, associationOk as formAssociation, sensorOk, exact, rowsOk, wellFormed, stateAt, lastAt, stateOf}
-use Rattle.smoother.specs.Pass.{chain, runBack, smoothedAt, statesTo, emitted}
+use Rattle.refined.specs.Frame.{SmootherFrame, headOk as formHead, trackOk as formTrack, associationOk as formAssociation, sensorOk, exact, rowsOk, wellFormed}
+use Rattle.smoother.specs.Pass.{chain, runBack, smoothedAt, statesTo, emitted, stateAt, lastAt, stateOf}
 use Rattle.smoother.specs.Smoother.{Lent, bounded, windowFits, allFormed, ruleOk, outFits, laterRefusal, settle as settleFrame, release as releaseFrame, push as pushSmoother, takes as takeSmoother}
 use Rattle.both.specs.Smoothed.{handed, Call, pushed as handOver, taken, step as callStep, smoothing}
 

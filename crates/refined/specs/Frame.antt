@@ -1,15 +1,13 @@
 -- Document 01, "Emitted words" and "Numbers": a frame as the smoother takes and gives it. Definitions only.
-use Prim.Native.Nat.{ℕ, zero, suc, _+_, _*_, _^_}
-use mathlib.Core.Bool.{Bool, cond, _&&_}
+use Prim.Native.Nat.{ℕ, _+_, _*_, _^_}
+use mathlib.Core.Bool.{Bool, _&&_}
 use mathlib.Core.List.{List}
-use mathlib.Core.Option.{Option, none, some}
-use lib.ListN.{length, getD, take, drop}
+use lib.ListN.{length, getD}
 use lib.Dec.{leb, ltb, eqb}
 use lib.IntN.{ℤ}
 use lib.Ieee.{Float, nan}
 use Rattle.scalar.specs.Scalar.{bitsOf, signed}
 use Rattle.engine.specs.Body.{all, codeOk, presentOk, timeOk}
-use Rattle.rts.specs.Smoothing.{Estimate, estimate}
 
 -- "A smoother frame is these two lists at their exact length"
 pub record SmootherFrame : Type 0 where
@@ -117,22 +115,3 @@ rowsOk w x =
 -- "all else is free"
 unfoldable pub wellFormed : ℕ → SmootherFrame → Bool
 wellFormed most f = headOk most (f .words) && (exact (f .words) (f .numbers) && rowsOk (f .words) (f .numbers))
-
--- ---- the state of a track
-
--- position, velocity and covariance of track i
-unfoldable pub stateAt : List Float → ℕ → Estimate Float
-stateAt x i = estimate (take 6 (drop (42 * i) x)) (take 36 (drop (42 * i + 6) x))
-
--- the last of the first n tracks that has the id
-unfoldable pub lastAt : ℕ → List ℕ → ℕ → Option ℕ
-lastAt id w zero = none
-lastAt id w (suc n) = cond (eqb (idWord w n) id) (some n) (lastAt id w n)
-
-abbrev pub stateIf : List Float → Option ℕ → Option (Estimate Float)
-stateIf x none = none
-stateIf x (some i) = some (stateAt x i)
-
--- the state of an id in a frame; "a repeated id: its last record"
-unfoldable pub stateOf : ℕ → SmootherFrame → Option (Estimate Float)
-stateOf id f = stateIf (f .numbers) (lastAt id (f .words) (trackCount (f .words)))

@@ -14,8 +14,8 @@ use lib.Ieee.{Float}
 use Rattle.rts.specs.Smoothing.{Estimate}
 use Rattle.smoother.specs.declared.FixedLagSmoother.{FixedLagSmoother}
 use Rattle.smoother.specs.declared.pass.Passed.{Passed}
-use Rattle.refined.specs.Frame.{SmootherFrame, time, trackCount, idWord, wordsLong, lastAt, stateAt, stateOf}
-use Rattle.smoother.specs.Pass.{backOne, chain, runBack, smoothedAt}
+use Rattle.refined.specs.Frame.{SmootherFrame, time, trackCount, idWord, wordsLong}
+use Rattle.smoother.specs.Pass.{backOne, chain, runBack, smoothedAt, lastAt, stateAt, stateOf}
 use Rattle.smoother.specs.Window.{wordsIn, numbersIn, slotWords, frameIn, framesFrom, framesIn, estimateOf, passedOf}
 
 -- ---- the frames that are left from the k-th on

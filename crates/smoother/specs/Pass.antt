@@ -1,18 +1,37 @@
 -- Document 01, "smoother.rs": the backward pass over held frames. Definitions only.
-use Prim.Native.Nat.{ℕ, zero, suc, _*_}
+use Prim.Native.Nat.{ℕ, zero, suc, _+_, _*_}
 use mathlib.Core.Bool.{cond}
 use mathlib.Core.List.{List, [], _∷_, _++_}
 use mathlib.Core.Option.{Option, none, some}
-use lib.ListN.{set, drop}
-use lib.Dec.{ltb}
+use lib.ListN.{set, take, drop}
+use lib.Dec.{ltb, eqb}
 use lib.IntN.{ℤ}
 use lib.Ieee.{Float, binary64, sub}
 use Rattle.scalar.specs.Scalar.{secondsOf}
 use Rattle.scalar.specs.F64.{f64}
 use Rattle.rts.specs.declared.Step.{Step}
 use Rattle.rts.specs.declared.Step.the-variants.{Smoothed, Skipped, Failed}
-use Rattle.rts.specs.Smoothing.{Estimate, Answer, back}
-use Rattle.refined.specs.Frame.{SmootherFrame, time, trackCount, idWord, stateAt, stateOf}
+use Rattle.rts.specs.Smoothing.{Estimate, Answer, estimate, back}
+use Rattle.refined.specs.Frame.{SmootherFrame, time, trackCount, idWord}
+
+-- ---- the state of a track
+
+-- position, velocity and covariance of track i
+unfoldable pub stateAt : List Float → ℕ → Estimate Float
+stateAt x i = estimate (take 6 (drop (42 * i) x)) (take 36 (drop (42 * i + 6) x))
+
+-- the last of the first n tracks that has the id
+unfoldable pub lastAt : ℕ → List ℕ → ℕ → Option ℕ
+lastAt id w zero = none
+lastAt id w (suc n) = cond (eqb (idWord w n) id) (some n) (lastAt id w n)
+
+abbrev pub stateIf : List Float → Option ℕ → Option (Estimate Float)
+stateIf x none = none
+stateIf x (some i) = some (stateAt x i)
+
+-- the state of an id in a frame; "a repeated id: its last record"
+unfoldable pub stateOf : ℕ → SmootherFrame → Option (Estimate Float)
+stateOf id f = stateIf (f .numbers) (lastAt id (f .words) (trackCount (f .words)))
 
 -- ---- choosing the chain
 

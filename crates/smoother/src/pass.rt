@@ -11,8 +11,8 @@ ghost use mathlib.Core.Option.{some};
 ghost use Prim.Native.Nat.{_+_, _-_, _*_, _<_, _≤_};
 ghost use lib.ListN.{length};
 ghost use Rattle.scalar.specs.Scalar.{secondsOf, signed};
-ghost use Rattle.refined.specs.Frame.{trackCount, lastAt, stateAt};
-ghost use Rattle.smoother.specs.Pass.{backOne, chain, runBack, smoothedAt};
+ghost use Rattle.refined.specs.Frame.{trackCount};
+ghost use Rattle.smoother.specs.Pass.{backOne, chain, runBack, smoothedAt, lastAt, stateAt};
 ghost use Rattle.smoother.specs.Window.{wordsIn, frameIn, framesFrom, framesIn, Fitting, AllCounted, estimateOf, passedOf, foundOf};
 
 // Position and velocity, and their covariance by rows.

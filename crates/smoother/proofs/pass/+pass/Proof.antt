@@ -5,8 +5,8 @@ use mathlib.Core.List.{_∷_}
 use mathlib.Core.Option.{some}
 use native.Mathlib.Omega.{arith}
 use borrow.Author.Needs.{needs}
-use Rattle.refined.specs.Frame.{time, stateAt}
-use Rattle.smoother.specs.Pass.{backOne, chain, runBack}
+use Rattle.refined.specs.Frame.{time}
+use Rattle.smoother.specs.Pass.{backOne, chain, runBack, stateAt}
 use Rattle.smoother.specs.Window.{wordsIn, frameIn, foundOf}
 use Rattle.smoother.proofs.Chains.{one-more, no-more, last-below, tracks-of, enough, found, last-one, goes-on, lacks, none-left}
 use borrow.Fn.Kinds.{In}

@@ -1,7 +1,8 @@
 -- `smoother::pass::chosen` meets its contract. Assumes nothing.
 use mathlib.Core.Path.{sym, ap, _∙_}
 use native.Mathlib.Omega.{arith}
-use Rattle.refined.specs.Frame.{idWord, stateAt}
+use Rattle.refined.specs.Frame.{idWord}
+use Rattle.smoother.specs.Pass.{stateAt}
 use Rattle.smoother.specs.Window.{foundOf}
 use Rattle.smoother.proofs.Chains.{tracks-of, enough, found, gave, failed, absent}
 use borrow.Author.Needs.{needs}

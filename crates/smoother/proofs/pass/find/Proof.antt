@@ -7,7 +7,8 @@ use mathlib.Core.Option.{none, some}
 use native.Mathlib.Omega.{arith}
 use lib.Dec.{eqb}
 use borrow.Author.Tests.{eq-eqb, ne-eqb}
-use Rattle.refined.specs.Frame.{trackCount, idWord, lastAt}
+use Rattle.refined.specs.Frame.{trackCount, idWord}
+use Rattle.smoother.specs.Pass.{lastAt}
 use Rattle.smoother.proofs.pass.find.Statement.{statement}
 use Rattle.smoother.proofs.pass.find.Tie as tie
 

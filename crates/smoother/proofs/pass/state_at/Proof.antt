@@ -1,5 +1,5 @@
 -- `smoother::pass::state_at` meets its contract. Assumes nothing.
-use Rattle.refined.specs.Frame.{stateAt}
+use Rattle.smoother.specs.Pass.{stateAt}
 use borrow.Author.Needs.{needs}
 use Rattle.smoother.proofs.pass.state_at.Statement.{statement}
 use Rattle.smoother.proofs.pass.state_at.Tie as tie
