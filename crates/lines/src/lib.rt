@@ -1,12 +1,16 @@
 // Text for standard output, gathered in a buffer and written when that is full. Each function takes how many bytes are gathered, and gives it back.
 use libc::STDOUT_FILENO;
 use scalar::bits;
+ghost use mathlib.Core.Path.{_≡_};
+ghost use Prim.Native.Nat.{_+_, _≤_};
 
 // The most bytes gathered.
 pub const ROOM: usize = 4096;
 
 // The first n bytes are written; nothing is left.
-pub fn flush(out: &[u8; ROOM], n: usize) -> usize {
+pub fn flush(out: &[u8; ROOM], n: usize) -> usize
+    ensures { λ r. ⌜ r ≡ 0 ⌝ }
+{
     let all = &out[..];
     if n <= all.len() {
         io::write_all(STDOUT_FILENO, &all[..n]);
@@ -53,12 +57,34 @@ pub fn put_signed(out: &mut [u8; ROOM], n: usize, word: u64) -> usize {
     put_bytes(out, at, &text[..k])
 }
 
+// A hexadecimal digit, lower case, of the last four bits of d.
+fn digit(d: u64) -> u8 {
+    let v = (d % 16) as u8;
+    if v < 10 { b'0' + v } else { b'a' - 10 + v }
+}
+
+// Where 17 bytes can be put: what is gathered is written if they do not fit behind it.
+fn room_for_17(out: &[u8; ROOM], n: usize) -> usize
+    ensures { λ r. ⌜ r + 17 ≤ 4096 ⌝ }
+{
+    if n <= ROOM - 17 {
+        return n;
+    }
+    flush(out, n)
+}
+
 // A number in 16 hexadecimal digits, after a space.
 pub fn put_hex(out: &mut [u8; ROOM], n: usize, x: u64) -> usize {
-    let mut text = [0u8; 16];
-    let k = io::hex(x, 16, &mut text);
-    let at = put_byte(out, n, b' ');
-    put_bytes(out, at, &text[..k])
+    let at = room_for_17(out, n);
+    out[at] = b' ';
+    let mut rest = x;
+    let mut i: usize = 16;
+    while 0 < i {
+        out[at + i] = digit(rest);
+        rest = rest / 16;
+        i -= 1;
+    }
+    at + 17
 }
 
 fn put_words(out: &mut [u8; ROOM], n: usize, words: &[u64]) -> usize {
