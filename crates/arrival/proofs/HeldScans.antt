@@ -13,11 +13,12 @@ use lib.Dec.{leb, ltb}
 use borrow.Author.Tests.{le-leb, leb-true, lt-ltb, ltb-true}
 use Rattle.engine.specs.Body.{narrow, associationCount, refusal, frameOf, rows}
 use Rattle.engine.proofs.Passing.{sized-body, length-rows, row-at}
-use Rattle.memory.specs.Memory.{slotAt, lengthAt, bodyAt, idAt, scanIn, scansIn, over}
+use Rattle.buffers.specs.Buffers.{over}
+use Rattle.memory.specs.Memory.{slotAt, lengthAt, bodyAt, idAt, scanIn, scansIn}
 use Rattle.arrival.specs.Arriving.{columnWords}
 use Rattle.memory.proofs.Counts.{sensors-few}
 use Rattle.memory.proofs.Rows.{rows-more, rows-same}
-use Rattle.memory.proofs.Over.{length-over, over-before, over-in, over-after}
+use Rattle.buffers.proofs.Over.{length-over, over-before, over-in, over-after}
 
 -- a body that passes fits its slot
 pub body-fits : (s : List ℕ) → refusal narrow s ≡ 0 → length s ≤ 2096

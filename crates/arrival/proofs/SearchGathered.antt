@@ -1,6 +1,6 @@
 -- What was gathered of the held scans is what the search asks, and ids put back are the search's scans. Assumes nothing.
-use Prim.Native.Nat.{ℕ, zero, suc, _+_, _-_, _*_, _≤_, _<_}
-use native.Mathlib.Nat.{zero-add, add-zero}
+use Prim.Native.Nat.{ℕ, zero, suc, _+_, _-_, _*_, _%_, _≤_, _<_}
+use native.Mathlib.Nat.{zero-add, add-zero, mod-eq-of-lt}
 use native.Mathlib.Numerals.{add-one}
 use native.Mathlib.Omega.{arith}
 use mathlib.Core.Path.{_≡_, refl, sym, ap, _∙_}
@@ -10,7 +10,7 @@ use lib.ListN.{length, take, drop, getD, length-append, length-map, List·getD-a
 use lib.Seq.{getD-append-add, drop-drop, take-nil}
 use lib.Dec.{eqb, ltb, leb}
 use lib.Ieee.{Float, nan}
-use borrow.Author.Tests.{lt-ltb, leb-true, leb-false}
+use borrow.Author.Tests.{leb-true, leb-false}
 use Rattle.scalar.specs.Scalar.{secondsOf}
 use Rattle.engine.specs.declared.config.FgoConfig.{FgoConfig}
 use Rattle.engine.specs.declared.types.Association.{Association}
@@ -35,9 +35,10 @@ use Rattle.search.specs.Gathered as search
 use Rattle.windows.specs.Columns.{picked, spread, putBack}
 use Rattle.search.specs.Gathered.{GatheredFrom, Spare}
 use Rattle.windows.proofs.Spreads.{above}
-use Rattle.memory.specs.Memory.{prefixIn, entryIn, tableIn, bodyAt, scanIn, scansIn, over}
+use Rattle.buffers.specs.Buffers.{over}
+use Rattle.memory.specs.Memory.{prefixIn, entryIn, tableIn, bodyAt, scanIn, scansIn}
 use Rattle.memory.specs.Gathering.{Gathered, gatheredIn, gathered, numbersFor, dotsOf, foundIn, foundOf, Held, GatheredAll, spreadAll, Scattered}
-use Rattle.memory.proofs.Over.{length-over, over-in}
+use Rattle.buffers.proofs.Over.{length-over, over-in}
 use Rattle.memory.proofs.LatestGathered.{Each}
 use Rattle.memory.proofs.GatheredScans as scans
 use Rattle.memory.proofs.GatheredScans.{each-rows}
@@ -76,7 +77,8 @@ numbers-at c z (g ∷ gs) (suc i) b h k =
 det-at : (c : FgoConfig) (first k i : ℕ) (ds : List Float) (o : Dot) → i < 128 → ((b : ℕ) → b < 4 → getD ds (4 * i + b) nan ≡ getD (o .x ∷ o .y ∷ noise c o ∷ secondsOf (o .time) ∷ []) b nan) → first + k ≡ o .scan → detAt (record { first = first; dots = ds }) k i ≡ detOf c o
 det-at c first k i ds o l e s =
     let x : getD ds (4 * i) nan ≡ o .x = ap (λ (m : ℕ). getD ds m nan) (sym (add-zero (4 * i))) ∙ e 0 (omega arith) in
-    rw (lt-ltb i 128 l, x, e 1 (omega arith), e 2 (omega arith), e 3 (omega arith), s)
+    let m : i % 128 ≡ i = mod-eq-of-lt l in
+    rw (m, x, e 1 (omega arith), e 2 (omega arith), e 3 (omega arith), s)
 
 -- the j-th of a scan is the j-th association that lies in a window
 module _ (n : ℕ) (f : Frame) (z : Gathered) where

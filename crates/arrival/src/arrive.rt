@@ -22,7 +22,8 @@ use windows::moves::Tally;
 ghost use mathlib.Core.Path.{_≡_};
 ghost use Prim.Native.Nat.{_*_, _≤_};
 ghost use lib.ListN.{length};
-ghost use Rattle.memory.specs.Memory.{memory, slotAt, over};
+ghost use Rattle.buffers.specs.Buffers.{over};
+ghost use Rattle.memory.specs.Memory.{memory, slotAt};
 ghost use Rattle.arrival.specs.Arriving.{columnWords, Searches, Searched, Holds, HeldBy, Lent, Arrives, Arrived};
 
 // A body over the slot of scan n.

@@ -19,7 +19,7 @@ abbrev nought : Float
 nought = ofBits binary64 0
 
 -- none yet: 0.0 is not above 0
-pub kept-none : Kept (replicate 256 nought)
+pub kept-none : Kept (replicate 512 nought)
 kept-none =
     record {
       long = refl;
@@ -27,8 +27,8 @@ kept-none =
       right = λ i h e. absurd (not-above (subst (λ (x : Float). lt nought x ≡ true) (zero-at i h) e));
     }
   where
-    zero-at : (i : ℕ) → i < 128 → getD (replicate 256 nought) (2 * i) nan ≡ nought
-    zero-at i h = getD-replicate 256 (2 * i) nought nan (omega arith)
+    zero-at : (i : ℕ) → i < 256 → getD (replicate 512 nought) (2 * i) nan ≡ nought
+    zero-at i h = getD-replicate 512 (2 * i) nought nan (omega arith)
 
     held : T (fits binary64 nought) × T (not (isNan nought))
     held = unfold ofBits fits isNan in (tt, tt)
@@ -36,7 +36,7 @@ kept-none =
     not-above : lt nought nought ≡ true → ⊥
     not-above e = unfold ofBits lt in subst T (sym e) tt
 
-module _ (s : Float) (held : T (fits binary64 s)) (above : lt nought s ≡ true) (logs : List Float) (k : Kept logs) (i : ℕ) (h : i < 128) where
+module _ (s : Float) (held : T (fits binary64 s)) (above : lt nought s ≡ true) (logs : List Float) (k : Kept logs) (i : ℕ) (h : i < 256) where
   -- the one at i is that of s
   pub found : toBits binary64 (getD logs (2 * i) nan) ≡ toBits binary64 s → Recalled s (getD logs (2 * i + 1) nan) logs
   found e =
@@ -47,7 +47,7 @@ module _ (s : Float) (held : T (fits binary64 s)) (above : lt nought s ≡ true)
   pub stored : (l : Float) → l ≡ logTerm f64 s → Recalled s l (set (set logs (2 * i) s) (2 * i + 1) l)
   stored l e = record { is = e; kept = record { long = simp length-set (k .long); variance = even; right = odd } }
     where
-      one-long : 2 * i + 1 < 256
+      one-long : 2 * i + 1 < 512
       one-long = omega arith
 
       put : List Float
@@ -65,13 +65,13 @@ module _ (s : Float) (held : T (fits binary64 s)) (above : lt nought s ≡ true)
       other : (n : ℕ) → (n ≡ 2 * i → ⊥) → (n ≡ 2 * i + 1 → ⊥) → getD put n nan ≡ getD logs n nan
       other n a b = getD-set-other (set logs (2 * i) s) (2 * i + 1) n l nan b ∙ getD-set-other logs (2 * i) n s nan a
 
-      even : (j : ℕ) → j < 128 → T (fits binary64 (getD put (2 * j) nan)) × T (not (isNan (getD put (2 * j) nan)))
+      even : (j : ℕ) → j < 256 → T (fits binary64 (getD put (2 * j) nan)) × T (not (isNan (getD put (2 * j) nan)))
       even j g = elim (ℕ-discrete j i) [
         | yes q ↦ subst (λ (n : ℕ). T (fits binary64 (getD put (2 * n) nan)) × T (not (isNan (getD put (2 * n) nan)))) (sym q) (rw here (held, positive-no-nan s above))
         | no q ↦ rw (other (2 * j) (λ (w : 2 * j ≡ 2 * i). q (omega arith)) (λ (w : 2 * j ≡ 2 * i + 1). omega arith)) (k .variance j g)
       ]
 
-      odd : (j : ℕ) → j < 128 → lt nought (getD put (2 * j) nan) ≡ true → getD put (2 * j + 1) nan ≡ logTerm f64 (getD put (2 * j) nan)
+      odd : (j : ℕ) → j < 256 → lt nought (getD put (2 * j) nan) ≡ true → getD put (2 * j + 1) nan ≡ logTerm f64 (getD put (2 * j) nan)
       odd j g a = elim (ℕ-discrete j i) [
         | yes q ↦ subst (λ (n : ℕ). getD put (2 * n + 1) nan ≡ logTerm f64 (getD put (2 * n) nan)) (sym q) (rw (beside, here) e)
         | no q ↦

@@ -1,14 +1,16 @@
 -- How the fold over a window goes on: its parts, and the misses it counts. Assumes nothing.
 use mathlib.Core.Path.{_≡_, refl, sym, ap, _∙_}
-use mathlib.Core.List.{List, [], _∷_, _++_}
+use mathlib.Core.List.{List, [], _∷_, _++_, foldl}
 use Prim.Native.Nat.{ℕ, zero, suc, _+_, _-_, _*_, _≤_, _<_}
 use native.Mathlib.Nat.{add-suc, add-zero, suc-add}
 use native.Mathlib.Omega.{arith}
 use native.Mathlib.Numerals.{add-one}
 use lib.ListN.{length, getD, drop}
 use lib.Seq.{drop-cons}
+use lib.Ieee.{Float}
 use Rattle.engine.specs.declared.config.FgoConfig.{FgoConfig}
 use Rattle.engine.specs.declared.types.ScanIndex.{ScanIndex}
+use Rattle.engine.specs.Config.{density}
 use Rattle.kf.specs.declared.filter.Kf.{Kf}
 use Rattle.costs.specs.declared.cost.Run.{Run}
 use Rattle.costs.specs.declared.cost.Fold.{Fold}
@@ -30,12 +32,29 @@ dets-append v k (suc j ∷ r) q =
     ap (λ (l : List Det). detAt v k j ∷ l)
     (dets-append v (suc k) r q ∙ ap (λ (n : ℕ). dets v (suc k) r ++ dets v n q) (suc-add k (length r) ∙ sym (add-suc k (length r))))
 
+-- slots without a detection
+pub dets-none : (v : View) (k : ℕ) (r : List ℕ) → ((j : ℕ) → getD r j 0 ≡ 0) → dets v k r ≡ []
+unfolding dets
+dets-none v k [] h = refl
+dets-none v k (zero ∷ r) h = dets-none v (suc k) r (λ j. h (suc j))
+dets-none v k (suc x ∷ r) h = absurd (omega (arith, h 0))
+
+-- after a detection the fold is one over runs
+pub run-going : (c : FgoConfig) (s : Run) (ds : List Det) → run c (Going s) ds ≡ Going (foldl (added (density c)) s ds)
+unfolding run step
+run-going c s [] = refl
+run-going c s (d ∷ ds) = run-going c (added (density c) s d) ds
+
 -- one detection adds at most its scan's number
-pub misses-step : (c : FgoConfig) (s : Fold) (d : Det) → missesOf (step c s d) ≤ missesOf s + d .scan
-unfolding step added
+misses-added : (q : Float) (s : Run) (d : Det) → added q s d .misses ≤ s .misses + d .scan
+unfolding added
+misses-added q s d = omega arith
+
+misses-step : (c : FgoConfig) (s : Fold) (d : Det) → missesOf (step c s d) ≤ missesOf s + d .scan
+unfolding step
 misses-step c Fresh d = omega arith
-misses-step c (Frozen k l) d = omega arith
-misses-step c (Going s) d = omega arith
+misses-step c (Frozen k l) d = misses-added (density c) (resumed k l) d
+misses-step c (Going s) d = misses-added (density c) s d
 
 -- the rest of a row from i on: what a loop has left
 pub rest-none : (v : View) (k i : ℕ) (r : List ℕ) → length r ≤ i → dets v (k + i) (drop i r) ≡ []
@@ -66,27 +85,25 @@ module _ (v : View) (k i : ℕ) (r : List ℕ) (h : i < length r) where
   rest-takes z = rw (move, add-one i) (rest-at (suc (getD r i 0 - 1)) (omega arith))
 
 -- the invariant of a loop: what is left, taken on from s, gives the whole; and misses stay few
-pub record Inv (c : FgoConfig) (v : View) (whole : Fold) (most : ℕ) (r : List ℕ) (k : ℕ) (s : Run) (i : ℕ) : Type 0 where
+pub record Inv (q : Float) (v : View) (whole : Run) (most : ℕ) (r : List ℕ) (k : ℕ) (s : Run) (i : ℕ) : Type 0 where
   pub few : s .misses ≤ most + i * 17179869184
-  pub rest : run c (Going s) (dets v (k + i) (drop i r)) ≡ whole
+  pub rest : foldl (added q) s (dets v (k + i) (drop i r)) ≡ whole
 
-module _ {c : FgoConfig} {v : View} {whole : Fold} {most : ℕ} {r : List ℕ} {k : ℕ} {s : Run} {i : ℕ} (inv : Inv c v whole most r k s i) where
+module _ {q : Float} {v : View} {whole : Run} {most : ℕ} {r : List ℕ} {k : ℕ} {s : Run} {i : ℕ} (inv : Inv q v whole most r k s i) where
   -- no detection in this scan
-  pub skips : i < length r → getD r i 0 ≤ 0 → Inv c v whole most r k s (i + 1)
-  skips h z = record { few = omega (arith, inv .few); rest = sym (ap (run c (Going s)) (rest-skips v k i r h z)) ∙ inv .rest }
+  pub skips : i < length r → getD r i 0 ≤ 0 → Inv q v whole most r k s (i + 1)
+  skips h z = record { few = omega (arith, inv .few); rest = sym (ap (foldl (added q) s) (rest-skips v k i r h z)) ∙ inv .rest }
 
   -- one in this scan
-  pub takes : i < length r → 0 < getD r i 0 → v .first + (k + i) < 17179869184 → Inv c v whole most r k (added c s (detAt v (k + i) (getD r i 0 - 1))) (i + 1)
-  unfolding run step
+  pub takes : i < length r → 0 < getD r i 0 → v .first + (k + i) < 17179869184 → Inv q v whole most r k (added q s (detAt v (k + i) (getD r i 0 - 1))) (i + 1)
   takes h z early =
       record {
-        few = omega (arith, inv .few, misses-step c (Going s) (detAt v (k + i) (getD r i 0 - 1)));
-        rest = sym (ap (run c (Going s)) (rest-takes v k i r h z)) ∙ inv .rest;
+        few = omega (arith, inv .few, misses-added q s (detAt v (k + i) (getD r i 0 - 1)));
+        rest = sym (ap (foldl (added q) s) (rest-takes v k i r h z)) ∙ inv .rest;
       }
 
-  pub ends : length r ≤ i → Going s ≡ whole
-  unfolding run
-  ends h = sym (ap (run c (Going s)) (rest-none v k i r h)) ∙ inv .rest
+  pub ends : length r ≤ i → s ≡ whole
+  ends h = sym (ap (foldl (added q) s) (rest-none v k i r h)) ∙ inv .rest
 
 -- a loop over leading slots: none so far has a detection
 pub record Passed (r : List ℕ) (i : ℕ) : Type 0 where

@@ -1,10 +1,10 @@
 -- Document 01, "Cost", and the windows that the code lends. Definitions only.
-use Prim.Native.Nat.{ℕ, zero, suc, _+_, _-_, _*_, _<_, _≤_}
+use Prim.Native.Nat.{ℕ, zero, suc, _+_, _-_, _*_, _%_, _<_, _≤_}
 use mathlib.Core.Path.{_≡_}
-use mathlib.Core.Bool.{true, cond, not}
+use mathlib.Core.Bool.{true, not}
 use mathlib.Core.List.{List, [], _∷_, foldl}
 use lib.ListN.{length, getD, drop}
-use lib.Dec.{T, ltb}
+use lib.Dec.{T}
 use lib.IntN.{pos}
 use lib.Ieee.{Float, nan, binary64, fits, isNan, ofBits, ofInt, add, mul, lt}
 use Rattle.engine.specs.declared.config.FgoConfig.{FgoConfig}
@@ -31,10 +31,10 @@ pub record Det : Type 0 where
 abbrev pub gap : ℕ → ℕ → ℕ
 gap scan last = scan - last - 1
 
--- "Each further one predicts and adds its NLL; scans skipped since the last (or frozen last) are misses"
-unfoldable pub added : FgoConfig → Run → Det → Run
-added c s d =
-    let u = updated (predicted (s .kf) (d .t) (density c)) (d .x) (d .y) (d .r) in
+-- "Each further one predicts and adds its NLL; scans skipped since the last (or frozen last) are misses"; q is the acceleration spectral density
+unfoldable pub added : Float → Run → Det → Run
+added q s d =
+    let u = updated (predicted (s .kf) (d .t) q) (d .x) (d .y) (d .r) in
     record { kf = u .kf; total = add binary64 (s .total) (u .nll); last = record { 0 = d .scan }; misses = s .misses + gap (d .scan) (s .last .0) }
 
 -- "From a frozen part: its filter, total 0.0"
@@ -48,8 +48,8 @@ born c d = record { kf = started (d .x) (d .y) (d .t) (d .r) (variance c); total
 -- one detection more
 unfoldable pub step : FgoConfig → Fold → Det → Fold
 step c Fresh d = Going (born c d)
-step c (Frozen k l) d = Going (added c (resumed k l) d)
-step c (Going s) d = Going (added c s d)
+step c (Frozen k l) d = Going (added (density c) (resumed k l) d)
+step c (Going s) d = Going (added (density c) s d)
 
 -- the fold over detections: one after the other
 unfoldable pub run : FgoConfig → Fold → List Det → Fold
@@ -76,16 +76,11 @@ pub record View : Type 0 where
 abbrev pub viewOf : ScanIndex → List Float → View
 viewOf first dots = record { first = first .0; dots = dots }
 
--- what stands past the last dot
-abbrev pub noDot : Dot
-noDot = record { x = nan; y = nan; r = nan; t = nan }
-
--- dot i; NaN past the 128th
+-- dot i, of 128 counted round
 abbrev pub dotAt : List Float → ℕ → Dot
 dotAt ds i =
-    cond (ltb i 128)
-    (record { x = getD ds (4 * i) nan; y = getD ds (4 * i + 1) nan; r = getD ds (4 * i + 2) nan; t = getD ds (4 * i + 3) nan })
-    noDot
+    let o = 4 * (i % 128) in
+    record { x = getD ds o nan; y = getD ds (o + 1) nan; r = getD ds (o + 2) nan; t = getD ds (o + 3) nan }
 
 -- a dot, as the detection of a scan
 abbrev pub detOf : ScanIndex → Dot → Det
@@ -111,9 +106,9 @@ missesOf (Going s) = s .misses
 
 -- logarithms worked out before: a variance s above 0, and beside it ln((2·pi)·s); 0.0 where there is none
 pub record Kept (logs : List Float) : Type 0 where
-  pub long : length logs ≡ 256
-  pub variance : (i : ℕ) → i < 128 → T (fits binary64 (getD logs (2 * i) nan)) × T (not (isNan (getD logs (2 * i) nan)))
-  pub right : (i : ℕ) → i < 128 → lt (ofBits binary64 0) (getD logs (2 * i) nan) ≡ true → getD logs (2 * i + 1) nan ≡ logTerm f64 (getD logs (2 * i) nan)
+  pub long : length logs ≡ 512
+  pub variance : (i : ℕ) → i < 256 → T (fits binary64 (getD logs (2 * i) nan)) × T (not (isNan (getD logs (2 * i) nan)))
+  pub right : (i : ℕ) → i < 256 → lt (ofBits binary64 0) (getD logs (2 * i) nan) ≡ true → getD logs (2 * i + 1) nan ≡ logTerm f64 (getD logs (2 * i) nan)
 
 -- l is the logarithm that an update of variance s adds, and the table is right
 pub record Recalled (s l : Float) (logs : List Float) : Type 0 where

@@ -8,6 +8,7 @@ use kf::filter::Kf;
 use scalar::log;
 ghost use mathlib.Core.Path.{_≡_};
 ghost use Prim.Native.Nat.{_+_, _<_};
+ghost use mathlib.Core.List.{foldl};
 ghost use lib.ListN.{drop};
 ghost use Rattle.costs.specs.declared.cost.Fold.the-variants.{Going};
 ghost use Rattle.costs.specs.Cost.{dotAt, gap, added, born, run, closed, cost, dets, detOf, viewOf, Kept, Recalled, Asks, Leading};
@@ -20,8 +21,8 @@ pub const DETECTIONS: usize = 128;
 
 pub const DOTS: usize = 512;
 
-// Logarithms worked out before, at most 128: a variance, and the logarithm that it adds.
-pub const LOGS: usize = 256;
+// Logarithms worked out before, at most 256: a variance, and the logarithm that it adds.
+pub const LOGS: usize = 512;
 
 // Where the fold over a window stands.
 pub enum Fold {
@@ -48,24 +49,16 @@ pub struct Dot {
     pub t: f64,
 }
 
-// Dot i; NaN past the last.
+// Dot i, of 128 counted round.
 pub fn dot_at(dots: &[f64; DOTS], i: usize) -> Dot
     ensures { λ d. ⌜ d ≡ dotAt (now (dots .entry)) i ⌝ }
 {
-    if i < DETECTIONS {
-        return Dot {
-            x: dots[4 * i],
-            y: dots[4 * i + 1],
-            r: dots[4 * i + 2],
-            t: dots[4 * i + 3],
-        };
-    }
-    let nan = 0.0 / 0.0;
+    let o = 4 * (i % DETECTIONS);
     Dot {
-        x: nan,
-        y: nan,
-        r: nan,
-        t: nan,
+        x: dots[o],
+        y: dots[o + 1],
+        r: dots[o + 2],
+        t: dots[o + 3],
     }
 }
 
@@ -86,7 +79,7 @@ fn log_of(s: f64, logs: &mut [f64; LOGS]) -> f64
 {
     if 0.0 < s {
         let b = f64::to_bits(s);
-        let i = (b / 0x1_0000_0000 % 128) as usize;
+        let i = (b % 256) as usize;
         if f64::to_bits(logs[2 * i]) == b {
             return logs[2 * i + 1];
         }
@@ -99,16 +92,16 @@ fn log_of(s: f64, logs: &mut [f64; LOGS]) -> f64
 }
 
 impl Run {
-    // Predict to the detection's time, update with its position, and add its NLL; the scans skipped are misses.
-    fn add(self, c: FgoConfig, scan: ScanIndex, d: Dot, logs: &mut [f64; LOGS]) -> Run
+    // Predict to the detection's time, update with its position, and add its NLL; the scans skipped are misses. q is the acceleration spectral density.
+    fn add(self, q: f64, scan: ScanIndex, d: Dot, logs: &mut [f64; LOGS]) -> Run
         requires { ⌜ (self .misses + scan .0 < 18446744073709551616) × Kept (now logs) ⌝ }
-        ensures { λ u. ⌜ (u ≡ added c self (detOf scan d)) × Kept (now (logs .exit)) ⌝ }
+        ensures { λ u. ⌜ (u ≡ added q self (detOf scan d)) × Kept (now (logs .exit)) ⌝ }
     {
         let last = self.last;
         let misses = self.misses + skipped(scan.0, last.0);
         let kf = self.kf;
         let total = self.total;
-        let p = kf.predict(d.t, c.accel_spectral_density);
+        let p = kf.predict(d.t, q);
         let l = log_of(p.p00 + d.r, logs);
         let u = p.update_by(d.x, d.y, d.r, l);
         let moved = u.kf;
@@ -163,7 +156,7 @@ fn leading(slots: &[usize]) -> usize
 
 // The fold over the slots of a row from one on, after a detection or a frozen part: the row begins at the held scan k.
 fn run_on<'a>(
-    c: FgoConfig,
+    q: f64,
     from: Run,
     slots: &'a [usize],
     begin: usize,
@@ -173,7 +166,7 @@ fn run_on<'a>(
     logs: &mut [f64; LOGS],
 ) -> Run
     requires { ⌜ Asks (now slots) k first (Going from) (now logs) ⌝ }
-    ensures { λ r. ⌜ (Going r ≡ run c (Going from) (dets (viewOf first (now (dots .entry))) (k + begin) (drop begin (now (slots .entry))))) × Kept (now (logs .exit)) ⌝ }
+    ensures { λ r. ⌜ (r ≡ foldl (added q) from (dets (viewOf first (now (dots .entry))) (k + begin) (drop begin (now (slots .entry))))) × Kept (now (logs .exit)) ⌝ }
 {
     let mut r = from;
     let mut i = begin;
@@ -181,7 +174,7 @@ fn run_on<'a>(
         let code = slots[i];
         if 0 < code {
             let scan = ScanIndex(first.0 + (k + i) as u64);
-            r = r.add(c, scan, dot_at(dots, code - 1), logs);
+            r = r.add(q, scan, dot_at(dots, code - 1), logs);
         }
         i += 1;
     }
@@ -210,7 +203,16 @@ pub fn run_window<'a>(
         Fold::Fresh => {
             let scan = ScanIndex(first.0 + (k + i) as u64);
             let r = born_at(c, scan, dot_at(dots, slots[i] - 1));
-            Fold::Going(run_on(c, r, slots, i + 1, k, first, dots, logs))
+            Fold::Going(run_on(
+                c.accel_spectral_density,
+                r,
+                slots,
+                i + 1,
+                k,
+                first,
+                dots,
+                logs,
+            ))
         }
         Fold::Frozen { kf, last } => {
             let r = Run {
@@ -219,24 +221,34 @@ pub fn run_window<'a>(
                 last,
                 misses: 0,
             };
-            Fold::Going(run_on(c, r, slots, i, k, first, dots, logs))
+            Fold::Going(run_on(c.accel_spectral_density, r, slots, i, k, first, dots, logs))
         }
-        Fold::Going(r) => Fold::Going(run_on(c, r, slots, i, k, first, dots, logs)),
+        Fold::Going(r) => Fold::Going(run_on(
+            c.accel_spectral_density,
+            r,
+            slots,
+            i,
+            k,
+            first,
+            dots,
+            logs,
+        )),
     }
 }
 
-// The cost of a window, from a frozen part or from none. It asks what `run_window` asks.
+// The cost of a window, of which `from` is the fold so far and the slots from the held scan k on are the rest. It asks what `run_window` asks.
 pub fn cost_of<'a>(
     c: FgoConfig,
     from: Fold,
     slots: &'a [usize],
+    k: usize,
     first: ScanIndex,
     dots: &'a [f64; DOTS],
     logs: &mut [f64; LOGS],
 ) -> f64
-    requires { ⌜ Asks (now slots) 0 first from (now logs) ⌝ }
-    ensures { λ r. ⌜ (r ≡ cost c from (dets (viewOf first (now (dots .entry))) 0 (now (slots .entry)))) × Kept (now (logs .exit)) ⌝ }
+    requires { ⌜ Asks (now slots) k first from (now logs) ⌝ }
+    ensures { λ r. ⌜ (r ≡ cost c from (dets (viewOf first (now (dots .entry))) k (now (slots .entry)))) × Kept (now (logs .exit)) ⌝ }
 {
-    let f = run_window(c, from, slots, 0, first, dots, logs);
+    let f = run_window(c, from, slots, k, first, dots, logs);
     f.close(c)
 }

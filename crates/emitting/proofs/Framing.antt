@@ -9,7 +9,8 @@ use lib.Ieee.{Float}
 use Rattle.engine.specs.declared.config.FgoConfig.{FgoConfig}
 use Rattle.engine.specs.Body.{narrow, associationCount, sensorCount, frameOf}
 use Rattle.model.specs.Emitting.{Listed, Emitted, listing, trackWords, trackNumbers, wordsOf, numbersOf}
-use Rattle.memory.specs.Memory.{bodyAt, idAt, scanIn, tableIn, over}
+use Rattle.buffers.specs.Buffers.{over}
+use Rattle.memory.specs.Memory.{bodyAt, idAt, scanIn, tableIn}
 use Rattle.emitting.specs.Writing.{idsIn, associationsIn, costsIn, headIn, PutTracks, frameIn, PutFrame}
 use Rattle.engine.proofs.Passing.{length-rows}
 use Rattle.memory.proofs.Counts.{sensors-long, associations-long}
@@ -17,7 +18,7 @@ use Rattle.emitting.proofs.Associations.{costs-long}
 use Rattle.emitting.proofs.Associations.{associations-size}
 use Rattle.emitting.proofs.Listing.{words-size, numbers-size}
 use Rattle.memory.proofs.Writes.{Written, written-more, over-first}
-use Rattle.memory.proofs.Over.{length-over}
+use Rattle.buffers.proofs.Over.{length-over}
 
 module _ (columns : List ℕ) (n : ℕ) (s : List ℕ) (ls : List Listed) where
   -- the frame that the body s says, with these tracks

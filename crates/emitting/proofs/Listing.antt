@@ -18,7 +18,8 @@ use Rattle.model.specs.Lists.{consIf, keep}
 use Rattle.model.specs.Freezing.{listable}
 use Rattle.model.specs.Emitting.{Listed, report, listing, trackWords, trackNumbers}
 use Rattle.model.proofs.Counting.{keep-append, count-le}
-use Rattle.memory.specs.Memory.{prefixIn, entryIn, tableIn, over, lastIn}
+use Rattle.buffers.specs.Buffers.{over}
+use Rattle.memory.specs.Memory.{prefixIn, entryIn, tableIn, lastIn}
 use Rattle.emitting.specs.Writing.{reportIn, PutTrack, PutTracks}
 use Rattle.engine.proofs.Laid.{length-flat}
 use Rattle.engine.proofs.Passing.{length-rows}

@@ -14,7 +14,8 @@ use Rattle.kf.specs.declared.filter.Kf.{Kf}
 use Rattle.model.specs.Emitting.{Listed, Emitted, report, listing, trackWords, covariance, trackNumbers, associationsWords, costNumber, wordsOf, numbersOf}
 use Rattle.memory.specs.declared.state.Prefix.{Prefix}
 use Rattle.emitting.specs.declared.emit.Size.{Size}
-use Rattle.memory.specs.Memory.{keyIn, prefixIn, entryIn, tableIn, bodyAt, idAt, scanIn, over}
+use Rattle.buffers.specs.Buffers.{over}
+use Rattle.memory.specs.Memory.{keyIn, prefixIn, entryIn, tableIn, bodyAt, idAt, scanIn}
 use Rattle.freezing.specs.Frozen.{PartOk, PartsOk}
 
 -- a frozen part by value that can be listed at a time

@@ -26,7 +26,8 @@ ghost use Rattle.engine.specs.Body.{narrow, timeOk, associationCount, sensorCou
 ghost use Rattle.engine.specs.Encode.{costPresent};
 ghost use Rattle.model.specs.Freezing as freezing;
 ghost use Rattle.model.specs.Emitting as model;
-ghost use Rattle.memory.specs.Memory.{cells, idAt, partOf, tableIn, over, lastIn, associationIn};
+ghost use Rattle.buffers.specs.Buffers.{over};
+ghost use Rattle.memory.specs.Memory.{cells, idAt, partOf, tableIn, lastIn, associationIn};
 ghost use Rattle.freezing.specs.Frozen.{PartsOk};
 ghost use Rattle.emitting.specs.Writing.{Lists, rowOf, reportIn, PutsTrack, PutTrack, Roomy, PutTracks, associationsIn, costsIn, frameIn, PutsFrame, PutFrame, headIn};
 
@@ -131,9 +132,9 @@ fn put_track<'a, 'b, 'c>(
     let id = RefinedId(tracks[6 * k]);
     let p = state::prefix_at(tracks, filters, k);
     let ws = track_words(c, time, id, p);
-    state::put_words(words, 6 + 6 * i, &ws);
+    buffers::put_words(words, 6 + 6 * i, &ws);
     let ns = track_numbers(c, time, id, p);
-    state::put_numbers(numbers, 42 * i, &ns);
+    buffers::put_numbers(numbers, 42 * i, &ns);
 }
 
 // Whether frozen part k is listed at a time: its age is at most coast_ns.
@@ -219,7 +220,7 @@ fn put_associations<'a, 'b>(
     while j < body::association_count(s) {
         let a = body::association(s, j);
         let ws = association_words(a, state::id_at(columns, n, j));
-        state::put_words(words, o + 4 * j, &ws);
+        buffers::put_words(words, o + 4 * j, &ws);
         j += 1;
     }
 }
@@ -267,7 +268,7 @@ fn put_head<'a, 'b>(s: &'b [u8], tracks: usize, words: &'a mut [u64])
         body::sensor_count(s) as u64,
         0,
     ];
-    state::put_words(words, 0, &ws);
+    buffers::put_words(words, 0, &ws);
 }
 
 // The frame of scan n, after its detections were frozen. The body must pass, all times be in bounds, and the buffers hold 910 words and 5,408 numbers.

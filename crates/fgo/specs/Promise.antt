@@ -20,7 +20,8 @@ use Rattle.fgo.specs.declared.refiner.Opened.the-variants as opened
 use Rattle.fgo.specs.declared.refiner.Counted.{Counted}
 use Rattle.fgo.specs.declared.refiner.Counted.the-variants as counted
 use Rattle.fgo.specs.declared.refiner.Pushed.{Pushed}
-use Rattle.memory.specs.Memory.{Memory, stateOf, over}
+use Rattle.buffers.specs.Buffers.{over}
+use Rattle.memory.specs.Memory.{Memory, stateOf}
 use Rattle.ledger.specs.Sound.{bodiesOk, soundOk}
 
 -- ---- document 01's numbers

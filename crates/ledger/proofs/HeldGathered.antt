@@ -16,7 +16,7 @@ use Rattle.windows.specs.Rows.{columnAt}
 use Rattle.windows.specs.Columns.{putBack}
 use Rattle.memory.specs.Memory.{scanIn, scansIn}
 use Rattle.memory.specs.Gathering.{gathered, foundOf, latestOf, Held, GatheredAll}
-use Rattle.memory.proofs.Over.{length-over}
+use Rattle.buffers.proofs.Over.{length-over}
 use Rattle.ledger.proofs.Scans.{scan-complete}
 use Rattle.memory.proofs.LatestGathered.{Each, Engines, latest-gathered}
 use Rattle.memory.proofs.GatheredScans.{engines-gathered, ids-gathered, gathered-few, put-back-same, each-rows, column-gathered, found-within}

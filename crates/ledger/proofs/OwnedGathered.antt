@@ -23,11 +23,12 @@ use Rattle.model.specs.Rule.{All, allOf, ownerIs, ownedBy}
 use Rattle.model.proofs.Ties.{Engine, Tied, TiedScan}
 use Rattle.model.proofs.Latest.{tied-latest}
 use Rattle.memory.specs.declared.state.FixedLagRefiner.{FixedLagRefiner}
-use Rattle.memory.specs.Memory.{scanIn, scansIn, ownersIn, over}
+use Rattle.buffers.specs.Buffers.{over}
+use Rattle.memory.specs.Memory.{scanIn, scansIn, ownersIn}
 use Rattle.memory.specs.Gathering.{engineOf, gatheredIn, gatheredOf, gathered, enginesOf, foundOf, latestOf, GatheredAll}
 use Rattle.ledger.specs.Sound.{orNone, columnsOk, ownedAt, ownedAll, ownedOk, Owning}
 use Rattle.memory.proofs.Rows.{rows-all}
-use Rattle.memory.proofs.Over.{over-in}
+use Rattle.buffers.proofs.Over.{over-in}
 use Rattle.ledger.proofs.AllOf.{all-same, all-list, allOf-append}
 use Rattle.ledger.proofs.Scans.{tied-column}
 use Rattle.ledger.proofs.HeldGathered.{found-128, latest-same}

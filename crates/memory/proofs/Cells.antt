@@ -8,7 +8,8 @@ use mathlib.Core.List.{List, [], _∷_, _++_}
 use lib.ListN.{length, take, drop, getD, set, length-append, length-set}
 use lib.Seq.{take-suc, take-suc-set, take-at}
 use Rattle.engine.specs.Body.{rows}
-use Rattle.memory.specs.Memory.{cells, over}
+use Rattle.buffers.specs.Buffers.{over}
+use Rattle.memory.specs.Memory.{cells}
 use Rattle.memory.proofs.Rows.{rows-more}
 
 module _ {A : Type 0} (d : A) where

@@ -18,7 +18,7 @@ use Rattle.model.proofs.Windows.{detections-cons}
 use Rattle.windows.specs.Rows.{segment, columnAt}
 use Rattle.windows.specs.Columns.{picked, spread, putBack}
 use Rattle.windows.proofs.Spreads.{spread-self}
-use Rattle.memory.specs.Memory.{over}
+use Rattle.buffers.specs.Buffers.{over}
 use Rattle.memory.specs.Gathering.{engineOf, Gathered, gatheredIn, gatheredOf, gathered, idsOf, enginesOf}
 use Rattle.memory.proofs.Rows.{rows-more, rows-first, rows-parts}
 use Rattle.memory.proofs.LatestGathered.{Each, enginesIn}

@@ -13,7 +13,8 @@ use Rattle.engine.specs.declared.config.FgoConfig.{FgoConfig}
 use Rattle.engine.specs.Body.{narrow, associationCount, refusal, frameOf, rows}
 use Rattle.model.specs.Lists.{keep}
 use Rattle.model.specs.Windows.{detections}
-use Rattle.memory.specs.Memory.{bodyAt, idAt, scanIn, scansIn, over}
+use Rattle.buffers.specs.Buffers.{over}
+use Rattle.memory.specs.Memory.{bodyAt, idAt, scanIn, scansIn}
 use Rattle.memory.specs.Gathering.{gathered, idsOf, enginesOf, dotsOf, countIn, foundIn, foundOf, Held, GathersScan, GatheredScan, Filled, GatheredAll}
 use Rattle.engine.proofs.Passing.{length-rows}
 use Rattle.memory.proofs.Counts.{associations-long}

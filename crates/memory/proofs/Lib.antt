@@ -1,7 +1,6 @@
 pub mod Rows
 pub mod Present
 pub mod Cells
-pub mod Over
 pub mod Writes
 pub mod Parts
 pub mod Columns

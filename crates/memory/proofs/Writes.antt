@@ -6,8 +6,8 @@ use mathlib.Core.Path.{_≡_, refl, sym, ap, _∙_}
 use mathlib.Core.List.{List, [], _++_, append-assoc}
 use lib.ListN.{length, take, drop, getD, set, length-append, take-append-drop}
 use lib.Seq.{paste, paste-zero, length-take-le, drop-at}
-use Rattle.memory.specs.Memory.{over}
-use Rattle.memory.proofs.Over.{length-over, over-more, paste-more, paste-long, paste-over}
+use Rattle.buffers.specs.Buffers.{over}
+use Rattle.buffers.proofs.Over.{length-over, over-more, paste-more, paste-long, paste-over}
 
 -- where i of the list g were written over l, from place o on, one by one
 pub record Writes {A : Type 0} (o : ℕ) (g l : List A) (i : ℕ) (l′ : List A) : Type 0 where

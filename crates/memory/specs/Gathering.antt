@@ -16,7 +16,8 @@ use Rattle.engine.specs.Body.{narrow, associationCount, refusal, frameOf, rows}
 use Rattle.model.specs.Windows.{Scan, Dot, inWindows, detections, dotOf, noise}
 use Rattle.model.specs.Owning.{orElse}
 use Rattle.windows.specs.Columns.{spread}
-use Rattle.memory.specs.Memory.{slotAt, bodyAt, idAt, scansIn, over}
+use Rattle.buffers.specs.Buffers.{over}
+use Rattle.memory.specs.Memory.{slotAt, bodyAt, idAt, scansIn}
 
 -- the engine id of an association, 0 where it has none
 abbrev pub engineOf : Associated → ℕ

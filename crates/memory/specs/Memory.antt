@@ -5,8 +5,8 @@
 use Prim.Native.Nat.{ℕ, _+_, _*_, _%_}
 use mathlib.Core.Path.{_≡_}
 use mathlib.Core.Bool.{Bool, cond}
-use mathlib.Core.List.{List, [], _∷_, _++_}
-use lib.ListN.{length, take, drop, getD}
+use mathlib.Core.List.{List, [], _∷_}
+use lib.ListN.{take, drop, getD}
 use lib.Dec.{leb, ltb}
 use lib.IntN.{ℤ}
 use lib.Ieee.{Float, nan}
@@ -166,10 +166,6 @@ stateOf r m =
     }
 
 -- ---- writing
-
--- a list with another one over it, from place o on
-unfoldable pub over : {A : Type 0} → ℕ → List A → List A → List A
-over o g l = take o l ++ (g ++ drop (o + length g) l)
 
 -- after frozen part i was written over the part k: every other part is as it was
 pub record Copied (i k : ℕ) (tracks : List ℕ) (filters : List Float) (tracks′ : List ℕ) (filters′ : List Float) : Type 0 where

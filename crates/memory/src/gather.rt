@@ -13,7 +13,8 @@ ghost use mathlib.Core.Path.{_≡_};
 ghost use Prim.Native.Nat.{_+_, _*_, _<_, _≤_};
 ghost use lib.ListN.{length, getD};
 ghost use Rattle.engine.specs.Body.{narrow, associationCount, refusal};
-ghost use Rattle.memory.specs.Memory.{over, associationIn};
+ghost use Rattle.buffers.specs.Buffers.{over};
+ghost use Rattle.memory.specs.Memory.{associationIn};
 ghost use Rattle.memory.specs.Gathering.{engineOf, dotsOf, dotIn, countIn, Scattered, foundIn, foundOf, Held, GathersScan, GatheredScan, Filled, GatheredAll, ScatteredScan};
 
 // Numbers of detections before each scan, and in all.
@@ -113,7 +114,7 @@ fn put_dot<'a, 'b>(c: FgoConfig, s: &'b [u8], j: usize, p: usize, dots: &'a mut 
     let d = body::observation(s, index);
     let t = bits::seconds(body::time_of(s));
     let ns = [d.x, d.y, c.position_sigma_m * c.position_sigma_m, t];
-    state::put_numbers(dots, 4 * p, &ns);
+    buffers::put_numbers(dots, 4 * p, &ns);
 }
 
 // The numbers of the detections in windows of scan n, of which the first is detection o; the number after the last.

@@ -1,4 +1,6 @@
 // What a refiner keeps by value, and how it reads and writes the memory that is lent to it.
+use buffers::put_numbers;
+use buffers::put_words;
 use engine::body;
 use engine::config::FgoConfig;
 use engine::types::ClassLabel;
@@ -9,12 +11,11 @@ use model::moves::FgoCounters;
 use scalar::bits;
 ghost use mathlib.Core.Path.{_≡_};
 ghost use Prim.Native.Nat.{_+_, _-_, _*_, _<_, _≤_};
-ghost use lib.ListN.{length};
 ghost use lib.Ieee.{nan};
 ghost use Rattle.engine.specs.Body.{rows};
 ghost use Rattle.model.specs.Lists.{has};
 ghost use Rattle.model.specs.Emitting.{classWord};
-ghost use Rattle.memory.specs.Memory.{cells, slotAt, lengthAt, bodyAt, idAt, scansIn, inWindow, classIn, kfIn, prefixIn, partOf, over, Copied, Put};
+ghost use Rattle.memory.specs.Memory.{cells, slotAt, lengthAt, bodyAt, idAt, scansIn, inWindow, classIn, kfIn, prefixIn, partOf, Copied, Put};
 
 // Bodies of held scans: 17 slots of 2,096 bytes.
 pub const BODIES: usize = 35632;
@@ -196,30 +197,6 @@ fn numbers_at(filters: &[f64; FILTERS], k: usize) -> [f64; 13]
         filters[o + 11],
         filters[o + 12],
     ]
-}
-
-// Words over others, from place o on; they must fit.
-pub fn put_words<'a, 'b>(out: &'a mut [u64], o: usize, src: &'b [u64])
-    requires { ⌜ o + length (now src) ≤ length (now out) ⌝ }
-    ensures { λ _. ⌜ now (out .exit) ≡ over o (now (src .entry)) (now (out .entry)) ⌝ }
-{
-    let mut i: usize = 0;
-    while i < src.len() {
-        out[o + i] = src[i];
-        i += 1;
-    }
-}
-
-// The same with numbers.
-pub fn put_numbers<'a, 'b>(out: &'a mut [f64], o: usize, src: &'b [f64])
-    requires { ⌜ o + length (now src) ≤ length (now out) ⌝ }
-    ensures { λ _. ⌜ now (out .exit) ≡ over o (now (src .entry)) (now (out .entry)) ⌝ }
-{
-    let mut i: usize = 0;
-    while i < src.len() {
-        out[o + i] = src[i];
-        i += 1;
-    }
 }
 
 // Frozen part `from` over the part `to`, both below 128.

@@ -123,6 +123,10 @@ gains-nothing : (d best : Float) → Nothing d → le best nought ≡ true → w
 gains-nothing (fin false zero e) best zero-is h = no-lower (sub binary64 best tiny) (less best h) .1
 gains-nothing nan best nan-is h = no-lower (sub binary64 best tiny) (less best h) .0
 
+-- a number less itself does not
+pub nothing-wins : (x best : Float) → le best nought ≡ true → wins (sub binary64 x x) best ≡ false
+nothing-wins x best h = gains-nothing (sub binary64 x x) best (itself x) h
+
 -- the best so far is of gain 0.0 or below
 pub best-below : (best m : PairMove) → le (pairGain best) nought ≡ true → le (pairGain (betterPair best m)) nought ≡ true
 best-below best m h = go (wins (pairGain m) (pairGain best)) refl
@@ -131,7 +135,7 @@ best-below best m h = go (wins (pairGain m) (pairGain best)) refl
     go true q = lower (pairGain m) (sub binary64 (pairGain best) tiny) (less (pairGain best) h) q
     go false q = h
 
-start : le nought nought ≡ true
+pub start : le nought nought ≡ true
 unfolding le lt eq ofBits ofFields odd
 start = refl
 
@@ -155,7 +159,7 @@ module _ (c : FgoConfig) (n : ℕ) (ps : List (ℕ × Prefix)) (ss : List Scan) 
 
     -- "A swap that leaves a's window equal" never wins
     pub never-wins : (f : ℕ) → window a n (swapped c n ps a b f ss) ≡ window a n ss → (best : Float) → le best nought ≡ true → wins (pairGain (trySwap c n ps a b ss (base a b) f)) best ≡ false
-    never-wins f e best h = rw (same-gain f e) (gains-nothing (sub binary64 (base a b) (base a b)) best (itself (base a b)) h)
+    never-wins f e best h = rw (same-gain f e) (nothing-wins (base a b) best h)
 
     -- and that is so of one from whose cut on neither has a detection
     pub leaves-equal : (f : ℕ) → from f (window a n ss) ≡ [] → from f (window b n ss) ≡ [] → window a n (swapped c n ps a b f ss) ≡ window a n ss

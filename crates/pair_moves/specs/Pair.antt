@@ -1,8 +1,9 @@
 -- The best move of a pair of rows: document 01's candidates, in its order. Definitions only.
 use Prim.Native.Nat.{ℕ, _+_, _-_}
+use mathlib.Core.Path.{_≡_}
 use mathlib.Core.Bool.{Bool, true, false, cond}
 use mathlib.Core.List.{List, [], _∷_, map, foldl}
-use lib.ListN.{getD, drop}
+use lib.ListN.{getD}
 use lib.Dec.{eqb}
 use lib.IntN.{pos}
 use lib.Ieee.{Float, binary64, ofInt}
@@ -10,13 +11,14 @@ use Rattle.engine.specs.declared.config.FgoConfig.{FgoConfig}
 use Rattle.engine.specs.declared.types.RefinedId.{RefinedId}
 use Rattle.engine.specs.Config.{clutter}
 use Rattle.costs.specs.declared.cost.Fold.{Fold}
-use Rattle.costs.specs.Cost.{View, dets, cost}
+use Rattle.costs.specs.Cost.{View, missesOf}
 use Rattle.model.specs.declared.moves.PairMove.{PairMove}
 use Rattle.model.specs.declared.moves.PairMove.the-variants.{Stay, Swap, Merge}
 use Rattle.model.specs.Lists.{keep, upFrom}
 use Rattle.model.specs.Searching.{betterPair}
-use Rattle.pair_moves.specs.declared.pair.Heads.{Heads}
-use Rattle.pricing.specs.Price.{_⊕_, _⊖_, _⊗_, rowCost, crossed, scanAt, onTo}
+use Rattle.pair_moves.specs.declared.pair.Overlap.{Overlap}
+use Rattle.pricing.specs.declared.price.Hall.{Hall}
+use Rattle.pricing.specs.Price.{_⊕_, _⊖_, _⊗_, rowCost, crossed, scanAt, viewIn, Priced, Ends}
 
 -- ---- rows
 
@@ -29,14 +31,29 @@ mergedRow own [] b = []
 mergedRow own (x ∷ a) [] = x ∷ a
 mergedRow own (x ∷ a) (y ∷ b) = keptSlot own x y ∷ mergedRow own a b
 
+-- what the scans of two rows count, each by its two entries
+unfoldable pub countRows : (ℕ → ℕ → ℕ) → List ℕ → List ℕ → ℕ
+countRows f [] b = 0
+countRows f (x ∷ a) [] = 0
+countRows f (x ∷ a) (y ∷ b) = f x y + countRows f a b
+
 abbrev pub bothHave : ℕ → ℕ → ℕ
 bothHave x y = cond (eqb x 0) 0 (cond (eqb y 0) 0 1)
 
 -- the scans that both rows have
-unfoldable pub sharedRows : List ℕ → List ℕ → ℕ
-sharedRows [] b = 0
-sharedRows (x ∷ a) [] = 0
-sharedRows (x ∷ a) (y ∷ b) = bothHave x y + sharedRows a b
+abbrev pub sharedRows : List ℕ → List ℕ → ℕ
+sharedRows a b = countRows bothHave a b
+
+abbrev pub onlyHas : ℕ → ℕ → ℕ
+onlyHas x y = cond (eqb x 0) 0 (cond (eqb y 0) 1 0)
+
+-- the scans that the first row has and the second has not
+abbrev pub aloneRows : List ℕ → List ℕ → ℕ
+aloneRows a b = countRows onlyHas a b
+
+-- how two rows lie to each other
+abbrev pub overlapOf : List ℕ → List ℕ → Overlap
+overlapOf a b = record { shared = sharedRows a b; mine = aloneRows a b; theirs = aloneRows b a }
 
 -- ---- the best move of a pair
 
@@ -52,8 +69,12 @@ unfoldable pub trySwapRow : FgoConfig → View → Fold → Fold → List ℕ �
 trySwapRow c v pa pb a b base g = Swap (scanAt v g) (rowCost c v pa (crossed g a b) ⊕ rowCost c v pb (crossed g b a) ⊖ base)
 
 -- "d = (cost + losers·clutter_cost) − base"
+abbrev pub mergeOf : FgoConfig → RefinedId → Bool → Float → ℕ → Float → PairMove
+mergeOf c k own cost lost base = Merge k own (cost ⊕ ofInt binary64 (pos lost) ⊗ clutter c ⊖ base)
+
+-- "With the merged track's cost"
 unfoldable pub tryMergeRow : FgoConfig → View → RefinedId → Bool → Fold → List ℕ → List ℕ → ℕ → Float → PairMove
-tryMergeRow c v k own p a b lost base = Merge k own (rowCost c v p (mergedRow own a b) ⊕ ofInt binary64 (pos lost) ⊗ clutter c ⊖ base)
+tryMergeRow c v k own p a b lost base = mergeOf c k own (rowCost c v p (mergedRow own a b)) lost base
 
 unfoldable pub bestSwapRow : FgoConfig → View → Fold → Fold → List Bool → List ℕ → List ℕ → Float → PairMove
 bestSwapRow c v pa pb close a b base = foldl betterPair Stay (map (trySwapRow c v pa pb a b base) (cutsOf close))
@@ -69,16 +90,13 @@ unfoldable pub bestPairRow : FgoConfig → View → RefinedId → RefinedId → 
 bestPairRow c v x y pa pb close a b base =
     betterMerge c v y pb b a base (betterMerge c v x pa a b base (bestSwapRow c v pa pb close a b base))
 
--- ---- heads: the folds over the scans before a cut are kept and go on to the next cut
+-- ---- what the inner functions ask
 
--- the swap at cut g, by the heads of both rows
-unfoldable pub triedSwap : FgoConfig → View → List ℕ → List ℕ → Float → Heads → ℕ → Heads
-triedSwap c v a b base h g =
-    let ha = onTo c v (h .done) g a (h .a) in
-    let hb = onTo c v (h .done) g b (h .b) in
-    record {
-      best = betterPair (h .best) (Swap (scanAt v g) (cost c ha (dets v g (drop g b)) ⊕ cost c hb (dets v g (drop g a)) ⊖ base));
-      a = ha;
-      b = hb;
-      done = g;
-    }
+-- a keeper that costs `cost` with the row a and what it goes on from, another row b, and how the two lie to each other
+pub record Merges (h : Hall) (p : Fold) (cost : Float) (o : Overlap) (a b : List ℕ) (end : ℕ) (dots logs : List Float) : Type 0 where
+  pub priced : Priced h logs
+  pub idle : missesOf p ≡ 0
+  pub mine : Ends end a
+  pub theirs : Ends end b
+  pub paid : cost ≡ rowCost (h .config) (viewIn h dots) p a
+  pub lie : o ≡ overlapOf a b

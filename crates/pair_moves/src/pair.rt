@@ -1,5 +1,4 @@
 // The best move of a pair of rows.
-use costs::cost;
 use costs::cost::DOTS;
 use costs::cost::Fold;
 use costs::cost::LOGS;
@@ -7,22 +6,17 @@ use costs::cost::SCANS;
 use engine::types::RefinedId;
 use engine::types::ScanIndex;
 use model::moves::PairMove;
+use pricing::price;
 use pricing::price::Hall;
+use windows::rows;
 ghost use mathlib.Core.Path.{_≡_};
-ghost use Prim.Native.Nat.{_≤_};
-ghost use lib.ListN.{length};
-ghost use Rattle.costs.specs.Cost.{Kept};
+ghost use mathlib.Core.Bool.{true, false};
+ghost use Prim.Native.Nat.{_≤_, _<_};
+ghost use lib.ListN.{length, drop};
+ghost use Rattle.costs.specs.Cost.{dets, cost, missesOf, Kept};
 ghost use Rattle.model.specs.Searching.{pairGain, betterPair};
-ghost use Rattle.pricing.specs.Price.{Priced, Fit, Until, viewIn};
-ghost use Rattle.pair_moves.specs.Pair.{cutAt, keptSlot, mergedRow, bothHave, sharedRows, tryMergeRow, bestSwapRow, betterMerge, bestPairRow, triedSwap};
-
-// The best move so far of a pair, and the folds over its two rows before a scan.
-pub struct Heads {
-    pub best: PairMove,
-    pub a: Fold,
-    pub b: Fold,
-    pub done: usize,
-}
+ghost use Rattle.pricing.specs.Price.{_⊕_, _⊖_, rowCost, Priced, Fit, Ends, viewIn};
+ghost use Rattle.pair_moves.specs.Pair.{cutAt, keptSlot, mergedRow, bothHave, onlyHas, overlapOf, mergeOf, bestSwapRow, betterMerge, bestPairRow, Merges};
 
 fn pair_gain(m: PairMove) -> f64
     ensures { λ r. ⌜ r ≡ pairGain m ⌝ }
@@ -49,44 +43,26 @@ fn better_pair(best: PairMove, m: PairMove) -> PairMove
     }
 }
 
-// The swap at a cut, no earlier than the one before.
-fn try_swap<'a>(
+// The gain of the swap at a cut, by the folds over both rows before it. The rows end at ea and eb.
+fn swap_gain<'a>(
     hall: Hall,
+    fa: Fold,
+    fb: Fold,
     a: &'a [usize; SCANS],
     b: &'a [usize; SCANS],
-    base: f64,
-    h: Heads,
+    ea: usize,
+    eb: usize,
     cut: usize,
+    base: f64,
     dots: &'a [f64; DOTS],
     logs: &mut [f64; LOGS],
-) -> Heads
-    requires { ⌜ Priced hall (now logs) × (cut ≤ 17) × Until cut (h .done) (h .a) (now a) × Until cut (h .done) (h .b) (now b) ⌝ }
-    ensures { λ r. ⌜ (r ≡ triedSwap (hall .config) (viewIn hall (now (dots .entry))) (now (a .entry)) (now (b .entry)) base h cut) × Kept (now (logs .exit)) ⌝ }
+) -> f64
+    requires { ⌜ Priced hall (now logs) × Ends ea (now a) × Ends eb (now b) × (missesOf fa < 288230376151711744) × (missesOf fb < 288230376151711744) ⌝ }
+    ensures { λ r. ⌜ (r ≡ cost (hall .config) fa (dets (viewIn hall (now (dots .entry))) cut (drop cut (now (b .entry)))) ⊕ cost (hall .config) fb (dets (viewIn hall (now (dots .entry))) cut (drop cut (now (a .entry)))) ⊖ base) × Kept (now (logs .exit)) ⌝ }
 {
-    let best = h.best;
-    let fa = h.a;
-    let fb = h.b;
-    let done = h.done;
-    let a = &a[..];
-    let b = &b[..];
-    let ha = cost::run_window(hall.config, fa, &a[done..cut], done, hall.first, dots, logs);
-    let hb = cost::run_window(hall.config, fb, &b[done..cut], done, hall.first, dots, logs);
-    let na = cost::run_window(hall.config, ha, &b[cut..], cut, hall.first, dots, logs);
-    let nb = cost::run_window(hall.config, hb, &a[cut..], cut, hall.first, dots, logs);
-    let gain = na.close(hall.config) + nb.close(hall.config) - base;
-    let best = better_pair(
-        best,
-        PairMove::Swap {
-            cut: ScanIndex(hall.first.0 + cut as u64),
-            gain,
-        },
-    );
-    Heads {
-        best,
-        a: ha,
-        b: hb,
-        done: cut,
-    }
+    let x = price::rest_cost(hall, fa, b, cut, eb, dots, logs);
+    let y = price::rest_cost(hall, fb, a, cut, ea, dots, logs);
+    x + y - base
 }
 
 // A pair may be cut at scan k: it is close in k, or in the scan before.
@@ -105,7 +81,7 @@ fn is_cut(close: &[bool; SCANS], k: usize) -> bool
     close[k - 1]
 }
 
-// The best swap, at each cut.
+// The best swap, at each cut: the folds over both rows go on from cut to cut. A cut at or past the end of both, `end`, would leave them as they are.
 fn best_swap<'a>(
     hall: Hall,
     pa: Fold,
@@ -113,27 +89,33 @@ fn best_swap<'a>(
     close: &'a [bool; SCANS],
     a: &'a [usize; SCANS],
     b: &'a [usize; SCANS],
+    ea: usize,
+    eb: usize,
+    end: usize,
     base: f64,
     dots: &'a [f64; DOTS],
     logs: &mut [f64; LOGS],
 ) -> PairMove
-    requires { ⌜ Priced hall (now logs) × Fit pa (now a) × Fit pb (now b) × (length (now close) ≡ 17) ⌝ }
+    requires { ⌜ Priced hall (now logs) × Fit pa (now a) × Fit pb (now b) × Ends ea (now a) × Ends eb (now b) × Ends end (now a) × Ends end (now b) × (length (now close) ≡ 17) × (base ≡ rowCost (hall .config) (viewIn hall (now dots)) pa (now a) ⊕ rowCost (hall .config) (viewIn hall (now dots)) pb (now b)) ⌝ }
     ensures { λ r. ⌜ (r ≡ bestSwapRow (hall .config) (viewIn hall (now (dots .entry))) pa pb (now (close .entry)) (now (a .entry)) (now (b .entry)) base) × Kept (now (logs .exit)) ⌝ }
 {
-    let mut h = Heads {
-        best: PairMove::Stay,
-        a: pa,
-        b: pb,
-        done: 0,
-    };
+    let mut best = PairMove::Stay;
+    let mut fa = pa;
+    let mut fb = pb;
+    let mut done: usize = 0;
     let mut k: usize = 0;
-    while k <= SCANS {
+    while k < end {
         if is_cut(close, k) {
-            h = try_swap(hall, a, b, base, h, k, dots, logs);
+            fa = price::run_to(hall, fa, a, done, k, dots, logs);
+            fb = price::run_to(hall, fb, b, done, k, dots, logs);
+            done = k;
+            let gain = swap_gain(hall, fa, fb, a, b, ea, eb, k, base, dots, logs);
+            let cut = ScanIndex(hall.first.0 + k as u64);
+            best = better_pair(best, PairMove::Swap { cut, gain });
         }
         k += 1;
     }
-    h.best
+    best
 }
 
 // Of two detections in one scan the keeper's own is kept, or the other's.
@@ -174,79 +156,169 @@ fn both_have(x: usize, y: usize) -> u64
     1
 }
 
-// The scans that both rows have.
-fn shared<'a>(a: &'a [usize; SCANS], b: &'a [usize; SCANS]) -> u64
-    requires { ⌜ (length (now a) ≡ 17) × (length (now b) ≡ 17) ⌝ }
-    ensures { λ r. ⌜ r ≡ sharedRows (now (a .entry)) (now (b .entry)) ⌝ }
+// 1 where a scan has a detection of the first row and none of the second.
+fn only_has(x: usize, y: usize) -> u64
+    ensures { λ r. ⌜ r ≡ onlyHas x y ⌝ }
 {
-    let mut n: u64 = 0;
-    let mut k: usize = 0;
-    while k < SCANS {
-        n += both_have(a[k], b[k]);
-        k += 1;
+    if x == 0 {
+        return 0;
     }
-    n
+    if y == 0 {
+        return 1;
+    }
+    0
 }
 
-// The merge of row b into row a, whose track is the keeper.
-fn try_merge<'a>(
+// How two rows lie to each other: the scans that both have, those that only the first has, and those that only the second has.
+pub struct Overlap {
+    pub shared: u64,
+    pub mine: u64,
+    pub theirs: u64,
+}
+
+impl Overlap {
+    // The same, seen from the second row.
+    fn turned(self) -> Overlap
+        ensures { λ r. ⌜ r ≡ (record { shared = self .shared; mine = self .theirs; theirs = self .mine }) ⌝ }
+    {
+        Overlap {
+            shared: self.shared,
+            mine: self.theirs,
+            theirs: self.mine,
+        }
+    }
+}
+
+// How two rows lie to each other.
+fn overlap_of<'a>(a: &'a [usize; SCANS], b: &'a [usize; SCANS]) -> Overlap
+    requires { ⌜ (length (now a) ≡ 17) × (length (now b) ≡ 17) ⌝ }
+    ensures { λ r. ⌜ r ≡ overlapOf (now (a .entry)) (now (b .entry)) ⌝ }
+{
+    let mut shared: u64 = 0;
+    let mut mine: u64 = 0;
+    let mut theirs: u64 = 0;
+    let mut k: usize = 0;
+    while k < SCANS {
+        let x = a[k];
+        let y = b[k];
+        shared += both_have(x, y);
+        mine += only_has(x, y);
+        theirs += only_has(y, x);
+        k += 1;
+    }
+    Overlap {
+        shared,
+        mine,
+        theirs,
+    }
+}
+
+// What the row of a merged track costs; both rows end at `end` at the latest.
+fn merged_cost<'a>(
     hall: Hall,
-    keeper: RefinedId,
     own: bool,
     p: Fold,
     a: &'a [usize; SCANS],
     b: &'a [usize; SCANS],
-    lost: u64,
-    base: f64,
+    end: usize,
     dots: &'a [f64; DOTS],
     logs: &mut [f64; LOGS],
-) -> PairMove
-    requires { ⌜ Priced hall (now logs) × Fit p (now a) × (length (now b) ≡ 17) ⌝ }
-    ensures { λ r. ⌜ (r ≡ tryMergeRow (hall .config) (viewIn hall (now (dots .entry))) keeper own p (now (a .entry)) (now (b .entry)) lost base) × Kept (now (logs .exit)) ⌝ }
+) -> f64
+    requires { ⌜ Priced hall (now logs) × (missesOf p ≡ 0) × Ends end (now a) × Ends end (now b) ⌝ }
+    ensures { λ r. ⌜ (r ≡ rowCost (hall .config) (viewIn hall (now (dots .entry))) p (mergedRow own (now (a .entry)) (now (b .entry)))) × Kept (now (logs .exit)) ⌝ }
 {
     let mut row = [0usize; SCANS];
     merge_rows(own, a, b, &mut row);
-    let cost = cost::cost_of(hall.config, p, &row, hall.first, dots, logs);
+    price::rest_cost(hall, p, &row, 0, end, dots, logs)
+}
+
+// The cost of a merged row that keeps the keeper's own detections: what the keeper costs now, where the other row has no scan that it has not.
+fn own_cost<'a>(
+    hall: Hall,
+    p: Fold,
+    cost: f64,
+    o: Overlap,
+    a: &'a [usize; SCANS],
+    b: &'a [usize; SCANS],
+    end: usize,
+    dots: &'a [f64; DOTS],
+    logs: &mut [f64; LOGS],
+) -> f64
+    requires { ⌜ Merges hall p cost o (now a) (now b) end (now dots) (now logs) ⌝ }
+    ensures { λ r. ⌜ (r ≡ rowCost (hall .config) (viewIn hall (now (dots .entry))) p (mergedRow true (now (a .entry)) (now (b .entry)))) × Kept (now (logs .exit)) ⌝ }
+{
+    if o.theirs == 0 {
+        return cost;
+    }
+    merged_cost(hall, true, p, a, b, end, dots, logs)
+}
+
+// The cost of a merged row that keeps the other's detections: that of the other row, where the keeper has no scan that it has not.
+fn other_cost<'a>(
+    hall: Hall,
+    p: Fold,
+    cost: f64,
+    o: Overlap,
+    a: &'a [usize; SCANS],
+    b: &'a [usize; SCANS],
+    end: usize,
+    dots: &'a [f64; DOTS],
+    logs: &mut [f64; LOGS],
+) -> f64
+    requires { ⌜ Merges hall p cost o (now a) (now b) end (now dots) (now logs) ⌝ }
+    ensures { λ r. ⌜ (r ≡ rowCost (hall .config) (viewIn hall (now (dots .entry))) p (mergedRow false (now (a .entry)) (now (b .entry)))) × Kept (now (logs .exit)) ⌝ }
+{
+    if o.mine == 0 {
+        return price::rest_cost(hall, p, b, 0, end, dots, logs);
+    }
+    merged_cost(hall, false, p, a, b, end, dots, logs)
+}
+
+// A merge by what its row costs.
+fn merge_of(hall: Hall, keeper: RefinedId, own: bool, cost: f64, lost: u64, base: f64) -> PairMove
+    ensures { λ r. ⌜ r ≡ mergeOf (hall .config) keeper own cost lost base ⌝ }
+{
     let gain = cost + std::num::nearest_u64_to_f64(lost) * hall.config.clutter_cost - base;
     PairMove::Merge { keeper, own, gain }
 }
 
-// The best so far or one of the two merges into a keeper. Where no scan is shared both are the same row, whose cost is worked out once.
+// The best so far or one of the two merges into a keeper, whose window costs `cost` now. Where no scan is shared both are the same row, whose cost is worked out once.
 fn better_merge<'a>(
     hall: Hall,
     best: PairMove,
     keeper: RefinedId,
     p: Fold,
+    cost: f64,
+    o: Overlap,
     a: &'a [usize; SCANS],
     b: &'a [usize; SCANS],
+    end: usize,
     base: f64,
     dots: &'a [f64; DOTS],
     logs: &mut [f64; LOGS],
 ) -> PairMove
-    requires { ⌜ Priced hall (now logs) × Fit p (now a) × (length (now b) ≡ 17) ⌝ }
+    requires { ⌜ Merges hall p cost o (now a) (now b) end (now dots) (now logs) ⌝ }
     ensures { λ r. ⌜ (r ≡ betterMerge (hall .config) (viewIn hall (now (dots .entry))) keeper p (now (a .entry)) (now (b .entry)) base best) × Kept (now (logs .exit)) ⌝ }
 {
-    let lost = shared(a, b);
-    let kept = try_merge(hall, keeper, true, p, a, b, lost, base, dots, logs);
-    let first = better_pair(best, kept);
+    let lost = o.shared;
+    let own = own_cost(hall, p, cost, o, a, b, end, dots, logs);
+    let first = better_pair(best, merge_of(hall, keeper, true, own, lost, base));
     if lost == 0 {
-        return better_pair(
-            first,
-            PairMove::Merge {
-                keeper,
-                own: false,
-                gain: pair_gain(kept),
-            },
-        );
+        return better_pair(first, merge_of(hall, keeper, false, own, lost, base));
     }
-    better_pair(
-        first,
-        try_merge(hall, keeper, false, p, a, b, lost, base, dots, logs),
-    )
+    let other = other_cost(hall, p, cost, o, a, b, end, dots, logs);
+    better_pair(first, merge_of(hall, keeper, false, other, lost, base))
 }
 
-// The best move of a pair: its ids, what their windows go on from, the scans in which they are close, their rows, and what they cost now.
-// It asks for rows of 17 scans, scan numbers below 2^33, and logarithms that are right.
+// The later of two ends.
+fn later(x: usize, y: usize) -> usize
+    ensures { λ r. ⌜ (x ≤ r) × (y ≤ r) × (x ≤ 17 → y ≤ 17 → r ≤ 17) ⌝ }
+{
+    if x < y { y } else { x }
+}
+
+// The best move of a pair: its ids, what their windows go on from, the scans in which they are close, their rows, and what each costs now.
+// It asks for rows of 17 scans, scan numbers below 2^33, and costs and logarithms that are right.
 pub fn best_of_pair<'a>(
     hall: Hall,
     x: RefinedId,
@@ -256,14 +328,33 @@ pub fn best_of_pair<'a>(
     close: &'a [bool; SCANS],
     a: &'a [usize; SCANS],
     b: &'a [usize; SCANS],
-    base: f64,
+    ca: f64,
+    cb: f64,
     dots: &'a [f64; DOTS],
     logs: &mut [f64; LOGS],
 ) -> PairMove
-    requires { ⌜ Priced hall (now logs) × Fit pa (now a) × Fit pb (now b) × (length (now close) ≡ 17) ⌝ }
-    ensures { λ r. ⌜ (r ≡ bestPairRow (hall .config) (viewIn hall (now (dots .entry))) x y pa pb (now (close .entry)) (now (a .entry)) (now (b .entry)) base) × Kept (now (logs .exit)) ⌝ }
+    requires { ⌜ Priced hall (now logs) × Fit pa (now a) × Fit pb (now b) × (length (now close) ≡ 17) × (ca ≡ rowCost (hall .config) (viewIn hall (now dots)) pa (now a)) × (cb ≡ rowCost (hall .config) (viewIn hall (now dots)) pb (now b)) ⌝ }
+    ensures { λ r. ⌜ (r ≡ bestPairRow (hall .config) (viewIn hall (now (dots .entry))) x y pa pb (now (close .entry)) (now (a .entry)) (now (b .entry)) (ca ⊕ cb)) × Kept (now (logs .exit)) ⌝ }
 {
-    let swap = best_swap(hall, pa, pb, close, a, b, base, dots, logs);
-    let first = better_merge(hall, swap, x, pa, a, b, base, dots, logs);
-    better_merge(hall, first, y, pb, b, a, base, dots, logs)
+    let base = ca + cb;
+    let ea = rows::end_of(a);
+    let eb = rows::end_of(b);
+    let end = later(ea, eb);
+    let swap = best_swap(hall, pa, pb, close, a, b, ea, eb, end, base, dots, logs);
+    let o = overlap_of(a, b);
+    let first = better_merge(hall, swap, x, pa, ca, o, a, b, end, base, dots, logs);
+    better_merge(
+        hall,
+        first,
+        y,
+        pb,
+        cb,
+        o.turned(),
+        b,
+        a,
+        end,
+        base,
+        dots,
+        logs,
+    )
 }

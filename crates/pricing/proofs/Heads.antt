@@ -1,24 +1,18 @@
--- The fold over the scans of a row before a cut, kept and taken on: what it gives with a tail, and that its misses stay few. Assumes nothing.
+-- The fold over the scans of a row before a cut, kept and taken on: what it gives with the rest, and that its misses stay few. Assumes nothing.
 use mathlib.Core.Path.{_≡_, refl, sym, ap, _∙_}
-use mathlib.Core.List.{List, _++_}
+use mathlib.Core.List.{List, _++_, append-nil}
 use Prim.Native.Nat.{ℕ, _+_, _-_, _≤_, _<_}
 use native.Mathlib.Nat.{zero-add}
 use native.Mathlib.Omega.{arith}
-use lib.ListN.{length, take, drop, length-take, length-drop}
-use lib.Seq.{length-take-le, take-add, take-all}
-use lib.Ieee.{Float}
+use lib.ListN.{length, getD, take, drop, length-take, length-drop, take-append-drop}
+use lib.Seq.{length-take-le, take-add, getD-drop, ext-getD}
 use Rattle.engine.specs.declared.config.FgoConfig.{FgoConfig}
-use Rattle.engine.specs.declared.types.ScanIndex.{ScanIndex}
 use Rattle.costs.specs.declared.cost.Fold.{Fold}
-use Rattle.costs.specs.Cost.{View, viewOf, dets, run, closed, cost, missesOf, Kept, Asks}
-use Rattle.costs.proofs.Steps.{run-append, dets-append, misses-run}
-use Rattle.windows.specs.Rows.{segment}
-use Rattle.windows.proofs.Segments.{length-segment}
-use Rattle.pricing.specs.Price.{Fit, Until, rowCost, headOf, crossed, onTo}
-
--- a part of a row from its start on, as the code lends it
-rest-of : (k : ℕ) (r : List ℕ) → take (length r - k) (drop k r) ≡ drop k r
-rest-of k r = take-all (length r - k) (drop k r) (omega (arith, length-drop k r))
+use Rattle.costs.specs.Cost.{Det, View, dets, run, closed, cost, missesOf}
+use Rattle.costs.proofs.Steps.{run-append, dets-append, dets-none, misses-run}
+use Rattle.windows.specs.Rows.{segment, endFrom}
+use Rattle.windows.proofs.RowEnds.{end-empty, end-by}
+use Rattle.pricing.specs.Price.{Fit, Until, Ends, rowCost, headOf, crossed, onTo}
 
 module _ (c : FgoConfig) (v : View) (p : Fold) (r : List ℕ) where
   -- what follows the scans before k goes on from the head
@@ -44,28 +38,38 @@ module _ (c : FgoConfig) (v : View) (p : Fold) (r : List ℕ) where
       let m : length (take k r) ≤ 17 = omega (arith, length-take k r) in
       omega (arith, misses-run c v p 0 (take k r) (omega arith))
 
--- ---- what the code asks and gets
+-- ---- the rest of a row, up to its end
 
-module _ {k g : ℕ} {f : Fold} {r : List ℕ} (u : Until g k f r) (first : ScanIndex) (early : first .0 < 8589934592) (end : g ≤ 17) where
-  -- on to the cut
-  pub asks-part : {logs : List Float} → Kept logs → Asks (segment k g r) k first f logs
-  asks-part kept = record { short = omega (arith, length-segment k g r (omega arith)); early = early; few = omega arith; kept = kept }
+pub ends-at : {r : List ℕ} {e : ℕ} → length r ≡ 17 → e ≡ endFrom 0 0 r → Ends e r
+ends-at {r} {e} l q = record { within = omega (arith, end-by r); long = l; empty = λ k h. end-empty r k (omega arith) }
 
-  -- and from n on to the end of a row
-  pub asks-rest : {logs : List Float} {h : Fold} (c : FgoConfig) (dots : List Float) → h ≡ onTo c (viewOf first dots) k g r f → (n : ℕ) (q : List ℕ) → n ≤ 17 → length q ≡ 17 → Kept logs → Asks (take (length q - n) (drop n q)) n first h logs
-  asks-rest c dots e n q l t kept =
-      let s = length-segment k g r (omega arith) in
-      let m = misses-run c (viewOf first dots) f k (segment k g r) (omega arith) in
-      record {
-        short = omega (arith, length-take (length q - n) (drop n q), length-drop n q);
-        early = early;
-        few = rw e (omega arith);
-        kept = kept;
-      }
+pub ends-later : {r : List ℕ} {d e : ℕ} → d ≤ e → e ≤ 17 → Ends d r → Ends e r
+ends-later h l s = record { within = l; long = s .long; empty = λ k g. s .empty k (omega arith) }
 
--- the cost of a head and a tail
-pub tail-cost : (c : FgoConfig) (v : View) (n : ℕ) (q : List ℕ) {h w t : Fold} {x : Float} → h ≡ w → t ≡ run c h (dets v n (take (length q - n) (drop n q))) → x ≡ closed c t → x ≡ cost c w (dets v n (drop n q))
-tail-cost c v n q e f g = g ∙ ap (closed c) (f ∙ (λ i. run c (e i) (dets v n (rest-of n q i))))
+-- rows that have ended before a cut are not changed by it
+pub ends-same : {end : ℕ} {r q : List ℕ} → Ends end r → Ends end q → (g : ℕ) → end ≤ g → crossed g r q ≡ r
+ends-same {end} {r} {q} s t g h =
+    ap (λ (l : List ℕ). take g r ++ l)
+    (ext-getD 0 (drop g q) (drop g r) (omega (arith, length-drop g q, length-drop g r, s .long, t .long)) (λ i l. getD-drop g q i 0 ∙ t .empty (g + i) (omega arith) ∙ sym (getD-drop g r i 0 ∙ s .empty (g + i) (omega arith))))
+    ∙ take-append-drop g r
+
+module _ {end : ℕ} {r : List ℕ} (e : Ends end r) (c : FgoConfig) (v : View) (f : Fold) (k : ℕ) where
+  -- nothing is left
+  pub rest-gone : end ≤ k → closed c f ≡ cost c f (dets v k (drop k r))
+  unfolding run
+  rest-gone h = sym (ap (cost c f) (dets-none v k (drop k r) (λ j. getD-drop k r j 0 ∙ e .empty (k + j) (omega arith))))
+
+  -- what is left lies before the end
+  pub rest-held : k ≤ end → cost c f (dets v k (segment k end r)) ≡ cost c f (dets v k (drop k r))
+  rest-held h =
+      ap (cost c f)
+      (sym (append-nil (dets v k (segment k end r)))
+      ∙ ap (λ (l : List Det). dets v k (segment k end r) ++ l) (sym (dets-none v (k + length (segment k end r)) (drop (end - k) (drop k r)) past))
+      ∙ sym (dets-append v k (segment k end r) (drop (end - k) (drop k r)))
+      ∙ ap (dets v k) (take-append-drop (end - k) (drop k r)))
+    where
+      past : (j : ℕ) → getD (drop (end - k) (drop k r)) j 0 ≡ 0
+      past j = getD-drop (end - k) (drop k r) j 0 ∙ getD-drop k r (end - k + j) 0 ∙ e .empty (k + (end - k + j)) (omega arith)
 
 -- f is the head of a row before a scan that is no later than k
 pub record Along (c : FgoConfig) (v : View) (p : Fold) (r : List ℕ) (k done : ℕ) (f : Fold) : Type 0 where
@@ -90,3 +94,7 @@ module _ {c : FgoConfig} {v : View} {p : Fold} {r : List ℕ} {k done : ℕ} {f 
 
   pub until : v .first < 8589934592 → Fit p r → Until k done f r
   until e t = record { before = a .before; few = rw (a .is) (head-few c v p r done e (t .long) (t .idle)); long = t .long }
+
+  -- few misses there too
+  pub few-on : k ≤ length r → v .first < 8589934592 → Fit p r → {g : Fold} → g ≡ onTo c v done k r f → missesOf g < 288230376151711744
+  few-on h e t q = rw (q, on-to h) (head-few c v p r k e (t .long) (t .idle))

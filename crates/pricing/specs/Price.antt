@@ -92,3 +92,9 @@ pub record Until (k done : ℕ) (f : Fold) (r : List ℕ) : Type 0 where
   pub before : done ≤ k
   pub few : missesOf f < 288230376151711744
   pub long : length r ≡ 17
+
+-- a row of 17 scans with no detection from scan `end` on
+pub record Ends (end : ℕ) (r : List ℕ) : Type 0 where
+  pub within : end ≤ 17
+  pub long : length r ≡ 17
+  pub empty : (k : ℕ) → end ≤ k → getD r k 0 ≡ 0

@@ -1,11 +1,17 @@
-// What does not change during a search, and what the windows of its tracks go on from.
+// What does not change during a search, what the windows of its tracks go on from, and what they cost.
+use costs::cost;
+use costs::cost::DOTS;
 use costs::cost::Fold;
+use costs::cost::LOGS;
+use costs::cost::SCANS;
 use engine::config::FgoConfig;
 use engine::types::ScanIndex;
 use kf::filter::Kf;
 ghost use mathlib.Core.Path.{_≡_};
 ghost use Prim.Native.Nat.{_≤_, _<_};
-ghost use Rattle.pricing.specs.Price.{frozenAt, partAmong};
+ghost use lib.ListN.{drop};
+ghost use Rattle.costs.specs.Cost.{dets, cost, missesOf, Kept};
+ghost use Rattle.pricing.specs.Price.{frozenAt, partAmong, onTo, viewIn, Priced, Until, Ends};
 
 // The words and numbers that stand for a frozen track: its id and its last scan are the first words, its filter the first numbers.
 pub const TRACK: usize = 6;
@@ -64,4 +70,42 @@ pub fn part_of<'a>(
         n += 1;
     }
     Fold::Fresh
+}
+
+// The fold over the scans of a row from k up to g, going on from f. It asks for scan numbers below 2^33, logarithms that are right, few misses so far, and a
+// row of 17 scans.
+pub fn run_to<'a>(
+    hall: Hall,
+    f: Fold,
+    row: &'a [usize; SCANS],
+    k: usize,
+    g: usize,
+    dots: &'a [f64; DOTS],
+    logs: &mut [f64; LOGS],
+) -> Fold
+    requires { ⌜ Priced hall (now logs) × (g ≤ 17) × Until g k f (now row) ⌝ }
+    ensures { λ r. ⌜ (r ≡ onTo (hall .config) (viewIn hall (now (dots .entry))) k g (now (row .entry)) f) × Kept (now (logs .exit)) ⌝ }
+{
+    let row = &row[..];
+    cost::run_window(hall.config, f, &row[k..g], k, hall.first, dots, logs)
+}
+
+// What a window costs: f is the fold over its scans before k, the rest is the row from k on, which has no detection from `end` on. It asks what `run_to` asks.
+pub fn rest_cost<'a>(
+    hall: Hall,
+    f: Fold,
+    row: &'a [usize; SCANS],
+    k: usize,
+    end: usize,
+    dots: &'a [f64; DOTS],
+    logs: &mut [f64; LOGS],
+) -> f64
+    requires { ⌜ Priced hall (now logs) × Ends end (now row) × (missesOf f < 288230376151711744) ⌝ }
+    ensures { λ r. ⌜ (r ≡ cost (hall .config) f (dets (viewIn hall (now (dots .entry))) k (drop k (now (row .entry))))) × Kept (now (logs .exit)) ⌝ }
+{
+    if end <= k {
+        return f.close(hall.config);
+    }
+    let row = &row[..];
+    cost::cost_of(hall.config, f, &row[k..end], k, hall.first, dots, logs)
 }

@@ -13,7 +13,8 @@ ghost use lib.ListN.{length};
 ghost use Rattle.engine.specs.Body.{narrow, refusal, frameOf};
 ghost use Rattle.model.specs.Lists.{has};
 ghost use Rattle.model.specs.Refiner as model;
-ghost use Rattle.memory.specs.Memory.{cells, over};
+ghost use Rattle.buffers.specs.Buffers.{over};
+ghost use Rattle.memory.specs.Memory.{cells};
 ghost use Rattle.refusing.specs.Refusing.{fullIn, enginesIn, joinEnd, joinedIn, Refuses, pushRefusal};
 
 // Engine ids with an owner, and those of one frame.

@@ -13,7 +13,7 @@ use Rattle.windows.specs.Rows.{Tabled}
 use Rattle.windows.specs.Near.{rowAt}
 use Rattle.search.specs.Pass.{Scene, rowOn, costOn, pairRest, trackRest, Listed, Due, Stands, Left, From, Carried}
 use Rattle.search.proofs.Costing.{costed-start, costed-more}
-use Rattle.search.proofs.Meeting.{table-row}
+use Rattle.search.proofs.Meeting.{table-row, table-entered}
 
 -- ---- place by place
 
@@ -97,4 +97,12 @@ module _ {e : Scene} {n next count : ℕ} {old moved table ids rows due : List �
 pub stands-first :
     {e : Scene} {n next count : ℕ} {old was table ids rows due moved : List ℕ} {costs logs : List Float} → Tabled (e .starts) ids table n rows →
     Carried e count next old was table ids n costs due logs → length moved ≡ 128 → Stands e n table rows ids costs moved logs
-stands-first tabled o m = record { costed = o .costed; rows-long = tabled .long; marks = m; same = λ k h z. sym (table-row tabled k h); kept = o .kept }
+stands-first tabled o m =
+    record {
+      costed = o .costed;
+      rows-long = tabled .long;
+      entered = table-entered tabled;
+      marks = m;
+      same = λ k h z. sym (table-row tabled k h);
+      kept = o .kept;
+    }

@@ -12,9 +12,9 @@ use lib.Dec.{eqb}
 use lib.Ieee.{Float, nan}
 use borrow.Author.Count.{below-more}
 use Rattle.costs.specs.declared.cost.Fold.{Fold}
-use Rattle.costs.specs.Cost.{missesOf, Kept, Asks}
+use Rattle.costs.specs.Cost.{missesOf}
 use Rattle.pricing.specs.Price.{frozenAt, partFrom, rowCost, Fit}
-use Rattle.search.specs.Pass.{Scene, viewOn, partOn, rowOn, costOn, Able, Listed, Costed}
+use Rattle.search.specs.Pass.{Scene, viewOn, partOn, rowOn, costOn, Listed, Costed}
 use Rattle.windows.proofs.RowSlots.{row-length}
 use Rattle.search.proofs.Listing.{listed-apart}
 
@@ -38,12 +38,8 @@ module _ (e : Scene) (ids : List ℕ) (x : ℕ) {p : Fold} {r : List ℕ} (row :
         long = ap length row ∙ row-length (e .starts) ids x;
       }
 
-  pub row-asks : {logs : List Float} → Able e → Kept logs → Asks r 0 (e .hall .first) p logs
-  row-asks able kept =
-      record { short = omega (arith, row-fit .long); early = able .early; few = omega (arith, row-fit .idle); kept = kept }
-
-  pub row-costs : {v : Float} → v ≡ rowCost (e .hall .config) (viewOn e) p r → v ≡ costOn e ids x
-  row-costs q = q ∙ (λ i. rowCost (e .hall .config) (viewOn e) (part i) (row i))
+  pub row-costs : rowCost (e .hall .config) (viewOn e) p r ≡ costOn e ids x
+  row-costs = λ i. rowCost (e .hall .config) (viewOn e) (part i) (row i)
 
 -- ---- the costs kept
 

@@ -1,53 +1,23 @@
--- Two rows that are close in a scan meet: each begins no later than the other ends. So the entries of a table say which are close as the rows do. Assumes nothing.
-use Prim.Native.Nat.{ℕ, zero, suc, _+_, _-_, _*_, _≤_, _<_}
-use native.Mathlib.Nat.{le-refl, le-trans}
+-- Two rows that are close in a scan meet: each begins no later than the other ends. So the entries of a table say which are close as the rows do, and outside of which scans they are not. Assumes nothing.
+use Prim.Native.Nat.{ℕ, _+_, _-_, _*_, _≤_, _<_, max, min}
+use native.Mathlib.Nat.{le-refl}
 use native.Mathlib.Omega.{arith}
 use mathlib.Core.Path.{_≡_, refl, sym, ap, _∙_, subst}
 use mathlib.Core.Logic.{_⊎_, inl, inr}
-use mathlib.Core.Bool.{Bool, true, false, cond, _&&_}
+use mathlib.Core.Bool.{Bool, true, false, _&&_}
 use mathlib.Core.List.{List, [], _∷_, map}
-use lib.ListN.{getD, take, drop}
+use lib.ListN.{length, getD, take, drop, length-take}
 use lib.Seq.{getD-take, getD-drop, take-at, take-take}
-use lib.Dec.{T, leb, ltb}
+use lib.Dec.{T, leb}
 use lib.Ieee.{Float}
 use mir.Facts.{or-yes}
-use borrow.Author.Tests.{lt-ltb, le-leb}
+use borrow.Author.Tests.{le-leb}
 use Rattle.model.specs.Lists.{any, upFrom}
 use Rattle.windows.specs.Rows.{rowOf, firstIn, endFrom, entryOf, Tabled}
-use Rattle.windows.specs.Near.{closeAt, closeScans, anyClose, meets, rowAt, CloseRows}
+use Rattle.windows.specs.Near.{closeAt, closeScans, anyClose, meets, rowAt, CloseWithin, Entered, CloseRows}
 use Rattle.windows.proofs.RowSlots.{row-length, entry-first, entry-end}
-use Rattle.search.proofs.CutTests.{Meet, close-meet, near-some}
-
--- ---- where a row begins and ends
-
-first-by : (r : List ℕ) (k : ℕ) → 0 < getD r k 0 → firstIn r ≤ k
-unfolding firstIn
-first-by [] k h = absurd (omega arith)
-first-by (x ∷ r) zero h = rw (lt-ltb 0 x h) (le-refl 0)
-first-by (x ∷ r) (suc k) h = go (ltb 0 x) (first-by r k h)
-  where
-    go : (b : Bool) → firstIn r ≤ k → cond b 0 (suc (firstIn r)) ≤ suc k
-    go true i = omega arith
-    go false i = omega arith
-
-end-keeps : (n e : ℕ) (r : List ℕ) → e ≤ n → e ≤ endFrom n e r
-unfolding endFrom
-end-keeps n e [] h = le-refl e
-end-keeps n e (x ∷ r) h = go (ltb 0 x) (λ d. end-keeps (suc n) d r)
-  where
-    go : (b : Bool) → ((d : ℕ) → d ≤ suc n → d ≤ endFrom (suc n) d r) → e ≤ endFrom (suc n) (cond b (suc n) e) r
-    go true f = le-trans (omega arith) (f (suc n) (le-refl (suc n)))
-    go false f = f e (omega arith)
-
-end-past : (n e : ℕ) (r : List ℕ) (k : ℕ) → e ≤ n → 0 < getD r k 0 → n + suc k ≤ endFrom n e r
-unfolding endFrom
-end-past n e [] k h g = absurd (omega arith)
-end-past n e (x ∷ r) zero h g = rw (lt-ltb 0 x g) (le-trans (omega arith) (end-keeps (suc n) (suc n) r (le-refl (suc n))))
-end-past n e (x ∷ r) (suc k) h g = go (ltb 0 x) (λ d l. end-past (suc n) d r k l g)
-  where
-    go : (b : Bool) → ((d : ℕ) → d ≤ suc n → suc n + suc k ≤ endFrom (suc n) d r) → n + suc (suc k) ≤ endFrom (suc n) (cond b (suc n) e) r
-    go true f = le-trans (omega arith) (f (suc n) (le-refl (suc n)))
-    go false f = le-trans (omega arith) (f e (omega arith))
+use Rattle.windows.proofs.RowEnds.{first-by, end-past, end-by}
+use Rattle.search.proofs.CutTests.{same-answer, Meet, close-meet, near-some}
 
 -- ---- two rows that are close in a scan
 
@@ -61,19 +31,30 @@ module _ (q : Float) (dots : List Float) (a b : List ℕ) where
       go (inl h) r = (k, close-meet dots q a b k h)
       go (inr h) r = r h
 
+  -- near detections stand in each row from its first scan on and before its end
+  meet-ends : {k : ℕ} (m : Meet dots q a b k) → (firstIn a ≤ m .i) × (firstIn b ≤ m .j) × (m .i < endFrom 0 0 a) × (m .j < endFrom 0 0 b)
+  meet-ends m =
+      let s = near-some q dots (getD a (m .i) 0) (getD b (m .j) 0) (m .by) in
+      let mine : 0 < getD a (m .i) 0 = omega (arith, s .2) in
+      let theirs : 0 < getD b (m .j) 0 = omega (arith, s .3) in
+      (first-by a (m .i) mine, first-by b (m .j) theirs, omega (arith, end-past 0 0 a (m .i) (le-refl 0) mine), omega (arith, end-past 0 0 b (m .j) (le-refl 0) theirs))
+
   -- the rows meet where they are close
   close-meets : anyClose (closeScans q dots a b) ≡ true → (leb (firstIn a) (endFrom 0 0 b) && leb (firstIn b) (endFrom 0 0 a)) ≡ true
   unfolding closeScans
   close-meets h =
       let m = any-meet (upFrom 0 17) (subst T (sym h) tt) .1 in
-      let s = near-some q dots (getD a (m .i) 0) (getD b (m .j) 0) (m .by) in
-      let mine : 0 < getD a (m .i) 0 = omega (arith, s .2) in
-      let theirs : 0 < getD b (m .j) 0 = omega (arith, s .3) in
-      let f : firstIn a ≤ endFrom 0 0 b =
-      le-trans (first-by a (m .i) mine) (le-trans (m .left) (le-trans (omega arith) (end-past 0 0 b (m .j) (le-refl 0) theirs))) in
-      let g : firstIn b ≤ endFrom 0 0 a =
-      le-trans (first-by b (m .j) theirs) (le-trans (m .right) (le-trans (omega arith) (end-past 0 0 a (m .i) (le-refl 0) mine))) in
-      rw (le-leb (firstIn a) (endFrom 0 0 b) f, le-leb (firstIn b) (endFrom 0 0 a) g)
+      let e = meet-ends m in
+      rw (le-leb (firstIn a) (endFrom 0 0 b) (omega (arith, e .0, e .3, m .left)), le-leb (firstIn b) (endFrom 0 0 a) (omega (arith, e .1, e .2, m .right)))
+
+  -- they are close nowhere before the later beginning but in the scan before it, and nowhere from the earlier end on
+  close-within : {from to : ℕ} → from ≡ max (firstIn a) (firstIn b) - 1 → to ≡ min (endFrom 0 0 a) (endFrom 0 0 b) → length a ≤ 17 → CloseWithin q dots a b from to
+  close-within f t l =
+      record {
+        few = omega (arith, end-by a);
+        before = λ k h. same-answer (closeAt q dots a b k) false (λ c. let m = close-meet dots q a b k c in let e = meet-ends m in omega (arith, e .0, e .1, m .low, m .left, m .right)) absurd;
+        after = λ k h. same-answer (closeAt q dots a b k) false (λ c. let m = close-meet dots q a b k c in let e = meet-ends m in omega (arith, e .2, e .3, m .low)) absurd;
+      }
 
 -- ---- the entries of a table
 
@@ -107,6 +88,9 @@ module _ {starts ids table rows : List ℕ} {n : ℕ} (t : Tabled starts ids tab
   unfolding row
   table-end = entry-word 18 (omega arith) ∙ entry-end row (row-length starts ids (getD table i 0))
 
+  pub table-entered : Entered rows i
+  table-entered = record { first = table-first ∙ sym (ap firstIn table-row); end = table-end ∙ sym (ap (endFrom 0 0) table-row) }
+
 no-more : (m b : Bool) → (b ≡ true → m ≡ true) → (m && b) ≡ b
 no-more m true h = rw (h refl)
 no-more true false h = refl
@@ -124,6 +108,17 @@ table-close {starts} {is} {table} {rows} q dots t i j h g =
     ∙ no-more (leb (firstIn a) (endFrom 0 0 b) && leb (firstIn b) (endFrom 0 0 a)) (anyClose (closeScans q dots a b)) (close-meets q dots a b)
 
 -- ---- what is found of two entries
+
+pub rows-within :
+    (q : Float) (dots : List Float) (rows : List ℕ) (i j : ℕ) {from to : ℕ} → Entered rows i → Entered rows j →
+    from ≡ max (getD rows (19 * i + 17) 0) (getD rows (19 * j + 17) 0) - 1 → to ≡ min (getD rows (19 * i + 17 + 1) 0) (getD rows (19 * j + 17 + 1) 0) →
+    CloseWithin q dots (rowAt rows i) (rowAt rows j) from to
+rows-within q dots rows i j a b f t =
+    close-within q dots (rowAt rows i) (rowAt rows j) (f ∙ (λ m. max (a .first m) (b .first m) - 1))
+    (t ∙ (λ m. min ((next i ∙ a .end) m) ((next j ∙ b .end) m))) (omega (arith, length-take (19 * i + 17 - 19 * i) (drop (19 * i) rows)))
+  where
+    next : (n : ℕ) → getD rows (19 * n + 17 + 1) 0 ≡ getD rows (19 * n + 18) 0
+    next n = ap (λ m. getD rows m 0) (omega arith)
 
 module _ (q : Float) (dots : List Float) (rows : List ℕ) (i j : ℕ) {m : Bool} (meet : m ≡ meets rows i j) where
   pub rows-apart : (close : List Bool) → m ≡ false → CloseRows q dots rows i j false close

@@ -104,6 +104,7 @@ module _ {e : Scene} {n : ℕ} {table rows ids : List ℕ} {costs : List Float} 
       record {
         costed = costed-anew listed (s .costed) i j h g new l other v w p q;
         rows-long = s .rows-long;
+        entered = s .entered;
         marks = length-set (set moved i 1) j 1 ∙ length-set moved i 1 ∙ s .marks;
         same = λ k b z.
             let m = two-marks moved (s .marks) i j 1 (omega (arith, listed .within)) (omega (arith, listed .within)) (omega arith) k z in

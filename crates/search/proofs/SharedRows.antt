@@ -11,7 +11,7 @@ use Rattle.model.specs.Lists.{has, upFrom}
 use Rattle.model.specs.Windows.{Scan, Prefix}
 use Rattle.model.specs.Searching.{shared}
 use Rattle.windows.specs.Rows.{Starts, columnAt, slotAt, rowOf}
-use Rattle.pair_moves.specs.Pair.{bothHave, sharedRows}
+use Rattle.pair_moves.specs.Pair.{countRows, bothHave, sharedRows}
 use Rattle.search.specs.Pass.{Scene}
 use Rattle.windows.specs.Columns.{spread, putBack}
 use Rattle.search.proofs.Standing.{HeldFrom, Standing, SharedRows}
@@ -26,7 +26,7 @@ both-have (suc x) (suc y) = rw (ne-eqb (suc x) 0 (λ e. omega arith), ne-eqb (su
 module _ (e : Scene) (ids : List ℕ) (begins : Starts (e .starts)) (long : length ids ≡ 128) (a b : ℕ) (ha : 0 < a) (hb : 0 < b) where
   none-shared : (m k : ℕ) → k + m ≡ 17 → ((j : ℕ) → k ≤ j → j < 17 → getD (e .starts) (suc j) 0 ≡ getD (e .starts) j 0) →
       sharedRows (map (slotAt (e .starts) ids a) (upFrom k m)) (map (slotAt (e .starts) ids b) (upFrom k m)) ≡ 0
-  unfolding upFrom sharedRows
+  unfolding upFrom countRows
   none-shared zero k h z = refl
   none-shared (suc m) k h z =
       let r = none-shared m (suc k) (omega arith) (λ j p q. z j (omega arith) q) in
@@ -36,7 +36,7 @@ module _ (e : Scene) (ids : List ℕ) (begins : Starts (e .starts)) (long : leng
   shared-from : (ss : List Scan) (m k : ℕ) → k + m ≡ 17 → length ss ≤ m →
       ((j : ℕ) → k + length ss ≤ j → j < 17 → getD (e .starts) (suc j) 0 ≡ getD (e .starts) j 0) → HeldFrom e k ss →
       shared a b (putBack (e .starts) ids k ss) ≡ sharedRows (map (slotAt (e .starts) ids a) (upFrom k m)) (map (slotAt (e .starts) ids b) (upFrom k m))
-  unfolding shared putBack upFrom sharedRows
+  unfolding shared putBack upFrom countRows
   shared-from [] m k h l z d = sym (none-shared m k h (λ j p. z j (omega arith)))
   shared-from (s ∷ ss) zero k h l z d = absurd (omega arith)
   shared-from (s ∷ ss) (suc m) k h l z d =

@@ -14,7 +14,7 @@ use Rattle.model.specs.declared.moves.TrackMove.{TrackMove}
 use Rattle.pricing.specs.declared.price.Hall.{Hall}
 use Rattle.windows.specs.declared.moves.Tally.{Tally}
 use Rattle.windows.specs.Rows.{Starts, rowOf, presentIn}
-use Rattle.windows.specs.Near.{square, closeScans, anyClose, rowAt}
+use Rattle.windows.specs.Near.{square, closeScans, anyClose, rowAt, Entered}
 use Rattle.pricing.specs.Price.{viewIn, partAmong, rowCost}
 use Rattle.pair_moves.specs.Pair.{bestPairRow}
 use Rattle.track_moves.specs.Track.{bestTrackRow}
@@ -169,10 +169,11 @@ pub record Due (e : Scene) (n : ℕ) (table rows due : List ℕ) : Type 0 where
   pub pair : (i j : ℕ) → i < j → j < n → Rests e table rows due i j
   pub track : (i : ℕ) → i < n → getD due i 0 < 2 → trackRest e (getD table i 0) (rowAt rows i) ≡ true
 
--- where the pairs are swept: costs kept, and the row of the table of rows at each place that did not move in this pass
+-- where the pairs are swept: costs kept, the table of rows, and at each place that did not move in this pass its row
 pub record Stands (e : Scene) (n : ℕ) (table rows ids : List ℕ) (costs : List Float) (moved : List ℕ) (logs : List Float) : Type 0 where
   pub costed : Costed e n table ids costs
   pub rows-long : length rows ≡ 2432
+  pub entered : (k : ℕ) → k < n → Entered rows k
   pub marks : length moved ≡ 128
   pub same : (k : ℕ) → k < n → getD moved k 0 ≡ 0 → rowOn e ids (getD table k 0) ≡ rowAt rows k
   pub kept : Kept logs

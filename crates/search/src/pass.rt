@@ -1,5 +1,4 @@
 // The passes of the search: every pair of tracks that come close, then every track.
-use costs::cost;
 use costs::cost::DETECTIONS;
 use costs::cost::DOTS;
 use costs::cost::LOGS;
@@ -20,14 +19,14 @@ use windows::rows::ENTRY;
 use windows::rows::ROWS;
 use windows::rows::STARTS;
 ghost use mathlib.Core.Path.{_≡_};
-ghost use mathlib.Core.Bool.{true};
+ghost use mathlib.Core.Bool.{true, false};
 ghost use mathlib.Core.List.{List};
-ghost use Prim.Native.Nat.{ℕ, _+_, _≤_, _<_};
-ghost use lib.ListN.{length, getD, take, drop};
+ghost use Prim.Native.Nat.{ℕ, _+_, _-_, _≤_, _<_, max, min};
+ghost use lib.ListN.{length, getD, take, drop, replicate};
 ghost use Rattle.costs.specs.Cost.{Kept};
 ghost use Rattle.model.specs.Windows.{Scan, Prefix};
 ghost use Rattle.engine.specs.Config.{radius, maxPasses};
-ghost use Rattle.windows.specs.Near.{square, rowAt, CloseRows};
+ghost use Rattle.windows.specs.Near.{square, rowAt, Entered, CloseRows};
 ghost use Rattle.windows.specs.Moves.{pairStays};
 ghost use Rattle.windows.specs.Rows.{Starts, rowOf, presentIn, Begins, Tabled};
 ghost use Rattle.search.specs.Pass.{Search, sceneOf, rowOn, costOn, closeOn, pairBest, pairStep, pairIf, trackStep, sweepOne, sweep, visit, passOver, passesOver, Able, Listed, Rests, Grows, Due, Stands, Visits, Stepped, Left, Carried, Tables};
@@ -65,7 +64,8 @@ fn track_cost<'a>(
     let mut row = [0usize; SCANS];
     rows::fill_row(x, starts, ids, &mut row);
     let p = price::part_of(x, hall.frozen, tracks, filters);
-    cost::cost_of(hall.config, p, &row, hall.first, dots, logs)
+    let end = rows::end_of(&row);
+    price::rest_cost(hall, p, &row, 0, end, dots, logs)
 }
 
 // The first place, from one on, whose id is not below x; n where there is none.
@@ -175,15 +175,22 @@ fn carry_all<'a>(
     }
 }
 
+// A byte of the table of rows as an entry of a row.
+fn wide(x: u8) -> usize
+    ensures { λ r. ⌜ r ≡ x ⌝ }
+{
+    x as usize
+}
+
 // The row at place i of the table of rows.
-fn copy_row(i: usize, rows: &[usize; ROWS], row: &mut [usize; SCANS])
+fn copy_row(i: usize, rows: &[u8; ROWS], row: &mut [usize; SCANS])
     requires { ⌜ (i < 128) × (length (now rows) ≡ 2432) × (length (now row) ≡ 17) ⌝ }
     ensures { λ r. ⌜ now (row .exit) ≡ rowAt (now (rows .entry)) i ⌝ }
 {
     let at = ENTRY * i;
     let mut k: usize = 0;
     while k < SCANS {
-        row[k] = rows[at + k];
+        row[k] = wide(rows[at + k]);
         k += 1;
     }
 }
@@ -193,7 +200,7 @@ fn row_now<'a>(
     same: bool,
     i: usize,
     x: u64,
-    rows: &'a [usize; ROWS],
+    rows: &'a [u8; ROWS],
     starts: &'a [usize; STARTS],
     ids: &'a [u64; DETECTIONS],
     row: &mut [usize; SCANS],
@@ -217,7 +224,7 @@ fn pair_step<'a>(
     t: Tally,
     close: &'a [bool; SCANS],
     table: &'a [u64; DETECTIONS],
-    rows: &'a [usize; ROWS],
+    rows: &'a [u8; ROWS],
     starts: &'a [usize; STARTS],
     dots: &'a [f64; DOTS],
     tracks: &'a [u64; TRACKS],
@@ -247,7 +254,8 @@ fn pair_step<'a>(
         close,
         &ra,
         &rb,
-        costs[i] + costs[j],
+        costs[i],
+        costs[j],
         dots,
         logs,
     );
@@ -271,16 +279,47 @@ fn pair_step<'a>(
     t.count_pair(m)
 }
 
-// Two entries of the table of rows are close: in which scans, and whether in any. Most pairs have no scan in common or beside each other.
+// The number before a; 0 for 0.
+fn before(a: u8) -> usize
+    ensures { λ r. ⌜ r ≡ a - 1 ⌝ }
+{
+    if a == 0 {
+        return 0;
+    }
+    (a - 1) as usize
+}
+
+// The first scan in which rows that begin at a and b can be close: the one before the later beginning.
+fn close_from(a: u8, b: u8) -> usize
+    ensures { λ r. ⌜ r ≡ max a b - 1 ⌝ }
+{
+    if a < b {
+        return before(b);
+    }
+    before(a)
+}
+
+// From which scan on rows that end at a and b cannot be close: the earlier end.
+fn close_to(a: u8, b: u8) -> usize
+    ensures { λ r. ⌜ r ≡ min a b ⌝ }
+{
+    if a < b {
+        return a as usize;
+    }
+    b as usize
+}
+
+// Two entries of the table of rows are close: in which scans, and whether in any. Most pairs have no scan in common or beside each other; the others are looked at only there.
+// It asks that the entries say where their rows begin and end, and that no scan is noted yet.
 fn close_rows<'a>(
     hall: Hall,
     i: usize,
     j: usize,
-    rows: &'a [usize; ROWS],
+    rows: &'a [u8; ROWS],
     dots: &'a [f64; DOTS],
     close: &mut [bool; SCANS],
 ) -> bool
-    requires { ⌜ (i < 128) × (j < 128) × (length (now rows) ≡ 2432) × (length (now close) ≡ 17) ⌝ }
+    requires { ⌜ (i < 128) × (j < 128) × (length (now rows) ≡ 2432) × Entered (now rows) i × Entered (now rows) j × (now close ≡ replicate 17 false) ⌝ }
     ensures { λ r. ⌜ (length (now (close .exit)) ≡ 17) × CloseRows (square (radius (hall .config))) (now (dots .entry)) (now (rows .entry)) i j r (now (close .exit)) ⌝ }
 {
     if near::meet(rows, i, j) {
@@ -288,9 +327,11 @@ fn close_rows<'a>(
         let b = ENTRY * j;
         let ea = a + SCANS;
         let eb = b + SCANS;
+        let from = close_from(rows[ea], rows[eb]);
+        let to = close_to(rows[ea + 1], rows[eb + 1]);
         let q = hall.config.radius_m * hall.config.radius_m;
         let all = &rows[..];
-        return near::close_scans(q, &all[a..ea], &all[b..eb], dots, close);
+        return near::close_scans(q, &all[a..ea], &all[b..eb], from, to, dots, close);
     }
     false
 }
@@ -330,7 +371,7 @@ fn pair_turn<'a>(
     j: usize,
     t: Tally,
     table: &'a [u64; DETECTIONS],
-    rows: &'a [usize; ROWS],
+    rows: &'a [u8; ROWS],
     due: &'a [u64; DETECTIONS],
     starts: &'a [usize; STARTS],
     dots: &'a [f64; DOTS],
@@ -378,7 +419,7 @@ fn sweep_one<'a>(
     i: usize,
     t0: Tally,
     table: &'a [u64; DETECTIONS],
-    rows: &'a [usize; ROWS],
+    rows: &'a [u8; ROWS],
     due: &'a [u64; DETECTIONS],
     starts: &'a [usize; STARTS],
     dots: &'a [f64; DOTS],
@@ -424,7 +465,7 @@ fn sweep_pairs<'a>(
     n: usize,
     t0: Tally,
     table: &'a [u64; DETECTIONS],
-    rows: &'a [usize; ROWS],
+    rows: &'a [u8; ROWS],
     due: &'a [u64; DETECTIONS],
     starts: &'a [usize; STARTS],
     dots: &'a [f64; DOTS],
@@ -552,7 +593,7 @@ fn track_turn<'a>(
     new: u64,
     t: Tally,
     table: &'a [u64; DETECTIONS],
-    rows: &'a [usize; ROWS],
+    rows: &'a [u8; ROWS],
     due: &'a [u64; DETECTIONS],
     starts: &'a [usize; STARTS],
     dots: &'a [f64; DOTS],
@@ -608,7 +649,7 @@ fn visit_tracks<'a>(
     n: usize,
     t0: Tally,
     table: &'a [u64; DETECTIONS],
-    rows: &'a [usize; ROWS],
+    rows: &'a [u8; ROWS],
     due: &'a [u64; DETECTIONS],
     starts: &'a [usize; STARTS],
     dots: &'a [f64; DOTS],
@@ -659,7 +700,7 @@ fn begin_pass<'a>(
     filters: &'a [f64; FILTERS],
     ids: &'a [u64; DETECTIONS],
     table: &mut [u64; DETECTIONS],
-    rows: &mut [usize; ROWS],
+    rows: &mut [u8; ROWS],
     costs: &mut [f64; DETECTIONS],
     due: &mut [u64; DETECTIONS],
     moved: &mut [u64; DETECTIONS],
@@ -700,7 +741,7 @@ fn move_all<'a>(
     n: usize,
     t0: Tally,
     table: &'a [u64; DETECTIONS],
-    rows: &'a [usize; ROWS],
+    rows: &'a [u8; ROWS],
     due: &'a [u64; DETECTIONS],
     starts: &'a [usize; STARTS],
     dots: &'a [f64; DOTS],
@@ -764,7 +805,7 @@ fn run_pass<'a>(
     filters: &'a [f64; FILTERS],
     ids: &mut [u64; DETECTIONS],
     table: &mut [u64; DETECTIONS],
-    rows: &mut [usize; ROWS],
+    rows: &mut [u8; ROWS],
     costs: &mut [f64; DETECTIONS],
     due: &mut [u64; DETECTIONS],
     moved: &mut [u64; DETECTIONS],
@@ -820,7 +861,7 @@ fn run_passes<'a>(
     ensures { λ r. ⌜ (_≡_ {A = Search} (record { ids = now (ids .exit); tally = r }) (passesOver (sceneOf hall (now (starts .entry)) (now (dots .entry)) (now (tracks .entry)) (now (filters .entry))) (maxPasses (hall .config)) (record { ids = now (ids .entry); tally = t0 }) (t0 .moved))) × (length (now (ids .exit)) ≡ 128) ⌝ }
 {
     let mut table = [0u64; DETECTIONS];
-    let mut rows = [0usize; ROWS];
+    let mut rows = [0u8; ROWS];
     let mut costs = [0.0; DETECTIONS];
     let mut due = [0u64; DETECTIONS];
     let mut moved = [0u64; DETECTIONS];

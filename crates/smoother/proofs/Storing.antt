@@ -6,11 +6,12 @@ use mathlib.Core.Bool.{Bool, true, false}
 use Prim.Native.Nat.{ℕ, zero, suc, _+_, _-_, _*_, _%_, _≤_, _<_}
 use native.Mathlib.Omega.{arith}
 use native.Mathlib.Nat.{mul-le-mul-right, suc-mul, add-zero, zero-add, mod-lt, mod-eq-of-lt, mod-eq-sub-mod, mod-add-mod}
-use lib.ListN.{length, take, drop, take-append-drop, length-drop}
+use lib.ListN.{length, take, drop, take-append-drop, length-append, length-drop}
 use lib.Dec.{ltb}
-use lib.Seq.{paste, drop-at, take-append-le, drop-append-le, take-append-seam, drop-drop, take-all, length-take-le, drop-paste, take-take, getD-take}
+use lib.Seq.{drop-at, take-append-le, drop-append-le, take-append-seam, drop-drop, length-take-le, take-take, getD-take}
 use borrow.Author.Tests.{ltb-true, ltb-false}
 use lib.Ieee.{Float}
+use Rattle.buffers.specs.Buffers.{over}
 use Rattle.smoother.specs.declared.FixedLagSmoother.{FixedLagSmoother}
 use Rattle.refined.specs.Frame.{SmootherFrame, frame, trackCount, associationCount, sensorCount, wordsLong, numbersLong}
 use Rattle.smoother.specs.Window.{slotOf, wide, deep, slotWords, slotNumbers, wordsIn, numbersIn, frameIn, framesFrom, framesIn, more, fewer}
@@ -18,44 +19,41 @@ use Rattle.smoother.proofs.Slots.{slot-within, turned, room}
 
 -- ---- parts of a list with s stored in it
 
-module _ {A : Type 0} (d s : List A) (at n p w : ℕ) where
+module _ {A : Type 0} (d s : List A) (at p w : ℕ) where
   -- a part before what was stored, and one after it
-  before : p + w ≤ at → at ≤ length d → take w (drop p (paste d at s n)) ≡ take w (drop p d)
+  before : p + w ≤ at → at ≤ length d → take w (drop p (over at s d)) ≡ take w (drop p d)
+  unfolding over
   before h l =
       let t : length (take at d) ≡ at = length-take-le at d l in
-      let r : List A = take n s ++ drop (at + n) d in
+      let r : List A = s ++ drop (at + length s) d in
       let m : length (drop p (take at d)) ≡ at - p = length-drop p (take at d) ∙ ap (λ k. k - p) t in
       let a : drop p (take at d ++ r) ≡ drop p (take at d) ++ r = drop-append-le p (take at d) r (omega arith) in
       let b : take w (drop p (take at d) ++ r) ≡ take w (drop p (take at d)) = take-append-le w (drop p (take at d)) r (omega arith) in
       let a′ : drop p (take at d ++ drop at d) ≡ drop p (take at d) ++ drop at d = drop-append-le p (take at d) (drop at d) (omega arith) in
       let b′ : take w (drop p (take at d) ++ drop at d) ≡ take w (drop p (take at d)) = take-append-le w (drop p (take at d)) (drop at d) (omega arith) in
-      ap (λ l. take w (drop p l)) (append-assoc (take at d) (take n s) (drop (at + n) d))
-      ∙ ap (take w) a
-      ∙ b
-      ∙ sym b′
-      ∙ ap (take w) (sym a′)
-      ∙ ap (λ l. take w (drop p l)) (take-append-drop at d)
+      ap (take w) a ∙ b ∙ sym b′ ∙ ap (take w) (sym a′) ∙ ap (λ l. take w (drop p l)) (take-append-drop at d)
 
-  after : at + n ≤ p → at ≤ length d → n ≤ length s → take w (drop p (paste d at s n)) ≡ take w (drop p d)
-  after h l m =
-      let e : at + n + (p - (at + n)) ≡ p = omega arith in
-      let q : drop (p - (at + n)) (drop (at + n) (paste d at s n)) ≡ drop (p - (at + n)) (drop (at + n) d) = ap (drop (p - (at + n))) (drop-paste d at s n l m) in
+  after : at + length s ≤ p → at ≤ length d → take w (drop p (over at s d)) ≡ take w (drop p d)
+  unfolding over
+  after h l =
+      let n : ℕ = at + length s in
+      let e : n + (p - n) ≡ p = omega arith in
+      let t : length (take at d ++ s) ≡ n = omega (arith, length-append (take at d) s, length-take-le at d l) in
+      let q : drop n (over at s d) ≡ drop n d = ap (drop n) (sym (append-assoc (take at d) s (drop n d))) ∙ drop-at (take at d ++ s) (drop n d) n t in
       ap (take w)
-      (ap (λ k. drop k (paste d at s n)) (sym e)
-      ∙ sym (drop-drop (p - (at + n)) (at + n) (paste d at s n))
-      ∙ q
-      ∙ drop-drop (p - (at + n)) (at + n) d
+      (ap (λ k. drop k (over at s d)) (sym e)
+      ∙ sym (drop-drop (p - n) n (over at s d))
+      ∙ ap (drop (p - n)) q
+      ∙ drop-drop (p - n) n d
       ∙ ap (λ k. drop k d) e)
 
 -- what was stored, read back
-back-again : {A : Type 0} (d s : List A) (at w : ℕ) → length s ≤ w → at + w ≤ length d → take (length s) (take w (drop at (paste d at s (length s)))) ≡ s
+back-again : {A : Type 0} (d s : List A) (at w : ℕ) → length s ≤ w → at + w ≤ length d → take (length s) (take w (drop at (over at s d))) ≡ s
+unfolding over
 back-again d s at w h l =
     let t : length (take at d) ≡ at = length-take-le at d (omega arith) in
-    let a : take (length s) s ≡ s = take-all (length s) s (omega arith) in
-    ap (λ l. take (length s) (take w (drop at l))) (append-assoc (take at d) (take (length s) s) (drop (at + length s) d))
-    ∙ ap (λ l. take (length s) (take w l)) (drop-at (take at d) (take (length s) s ++ drop (at + length s) d) at t)
-    ∙ take-take (length s) w (take (length s) s ++ drop (at + length s) d) h
-    ∙ ap (λ l. take (length s) (l ++ drop (at + length s) d)) a
+    ap (λ l. take (length s) (take w l)) (drop-at (take at d) (s ++ drop (at + length s) d) at t)
+    ∙ take-take (length s) w (s ++ drop (at + length s) d) h
     ∙ take-append-seam s (drop (at + length s) d)
 
 -- ---- two slots of the round are apart
@@ -99,12 +97,12 @@ up-to a b w h = rw (suc-mul a w) at (mul-le-mul-right w h)
 
 -- the k-th slot, after a list that fits was stored in the m-th
 keeps : {A : Type 0} (s : FixedLagSmoother) (d e : List A) (w k m : ℕ) → k < m → m ≤ s .lag → length e ≤ w → length d ≡ (s .lag + 1) * w
-    → take w (drop (slotOf s k * w) (paste d (slotOf s m * w) e (length e))) ≡ take w (drop (slotOf s k * w) d)
+    → take w (drop (slotOf s k * w) (over (slotOf s m * w) e d)) ≡ take w (drop (slotOf s k * w) d)
 keeps s d e w k m h l n z =
     let r = room (slotOf s m) (s .lag) w (length d) (slot-within s m) z in
     ⊎-elim
-    (λ o. before d e (slotOf s m * w) (length e) (slotOf s k * w) w (up-to (slotOf s k) (slotOf s m) w o) (omega arith))
-    (λ o. let u = up-to (slotOf s m) (slotOf s k) w o in after d e (slotOf s m * w) (length e) (slotOf s k * w) w (omega arith) (omega arith) (omega arith))
+    (λ o. before d e (slotOf s m * w) (slotOf s k * w) w (up-to (slotOf s k) (slotOf s m) w o) (omega arith))
+    (λ o. let u = up-to (slotOf s m) (slotOf s k) w o in after d e (slotOf s m * w) (slotOf s k * w) w (omega arith) (omega arith))
     (apart s k m h l)
 
 -- ---- a frame is stored
@@ -124,10 +122,10 @@ module _ (s : FixedLagSmoother) (win : List ℕ) (nums : List Float) (f : Smooth
     (long : length win ≡ (s .lag + 1) * wide s) (deeply : length nums ≡ (s .lag + 1) * deep s) (words : length (f .words) ≡ wordsLong (f .words))
     (numbers : length (f .numbers) ≡ numbersLong (f .words)) (fit : wordsLong (f .words) ≤ wide s) (fits : numbersLong (f .words) ≤ deep s) where
   abbrev win′ : List ℕ
-  win′ = paste win (slotOf s (s .held) * wide s) (f .words) (length (f .words))
+  win′ = over (slotOf s (s .held) * wide s) (f .words) win
 
   abbrev nums′ : List Float
-  nums′ = paste nums (slotOf s (s .held) * deep s) (f .numbers) (length (f .numbers))
+  nums′ = over (slotOf s (s .held) * deep s) (f .numbers) nums
 
   kept : (k : ℕ) → k < s .held → frameIn (more s) win′ nums′ k ≡ frameIn s win nums k
   unfolding slotOf slotWords slotNumbers wordsIn numbersIn

@@ -4,10 +4,12 @@ use mathlib.Core.List.{List, _++_, append-assoc}
 use Prim.Native.Nat.{ℕ, _+_, _-_, _*_, _≤_, _<_}
 use native.Mathlib.Omega.{arith}
 use native.Mathlib.Numerals.{add-one}
-use native.Mathlib.Nat.{le-refl, zero-add}
+use native.Mathlib.Nat.{zero-add}
 use lib.ListN.{length, take, drop, set, length-append, length-drop, length-set}
-use lib.Seq.{paste, take-paste, drop-paste, take-all, drop-drop, take-at, drop-append-add, length-take-le, set-append-left}
+use lib.Seq.{take-all, drop-drop, take-at, drop-append-add, length-take-le, set-append-left}
 use lib.Ieee.{Float}
+use Rattle.buffers.specs.Buffers.{over as overAt}
+use Rattle.buffers.proofs.Over.{over-more}
 use Rattle.rts.specs.Smoothing.{Estimate}
 use Rattle.refined.specs.Frame.{SmootherFrame}
 use Rattle.smoother.specs.Pass.{flat, statesTo, smoothedAt}
@@ -15,20 +17,14 @@ use Rattle.smoother.specs.Promise.{over}
 
 -- x, and p after it
 pub two : (d x p e r : List Float) (at : ℕ) → length x ≡ 6 → length p ≡ 36 → at + 42 ≤ length d
-    → e ≡ paste d at x (length x) → r ≡ paste e (at + 6) p (length p) → r ≡ take at d ++ ((x ++ p) ++ drop (at + 42) d)
+    → e ≡ overAt at x d → r ≡ overAt (at + 6) p e → r ≡ take at d ++ ((x ++ p) ++ drop (at + 42) d)
+unfolding overAt
 two d x p e r at m n h q o =
-    let q6 : e ≡ paste d at x 6 = q ∙ ap (paste d at x) m in
-    let o36 : r ≡ paste e (at + 6) p 36 = o ∙ ap (paste e (at + 6) p) n in
-    let a : take (at + 6) e ≡ take at d ++ x = ap (take (at + 6)) q6 ∙ take-paste d at x 6 (omega arith) (omega arith) ∙ ap (λ l. take at d ++ l) (take-all 6 x (omega arith)) in
-    let b : take 36 p ≡ p = take-all 36 p (omega arith) in
-    let f : drop (at + 6) e ≡ drop (at + 6) d = ap (drop (at + 6)) q6 ∙ drop-paste d at x 6 (omega arith) (omega arith) in
-    let s : at + 6 + 36 ≡ at + 42 = omega arith in
-    let c : drop (at + 6 + 36) e ≡ drop (at + 42) d = sym (drop-drop 36 (at + 6) e) ∙ ap (drop 36) f ∙ drop-drop 36 (at + 6) d ∙ ap (λ k. drop k d) s in
-    o36
-    ∙ (λ i. (a i ++ b i) ++ c i)
-    ∙ append-assoc (take at d ++ x) p (drop (at + 42) d)
-    ∙ append-assoc (take at d) x (p ++ drop (at + 42) d)
-    ∙ ap (λ l. take at d ++ l) (sym (append-assoc x p (drop (at + 42) d)))
+    let a : at + length (x ++ p) ≡ at + 42 = omega (arith, length-append x p) in
+    o
+    ∙ (λ i. overAt (at + sym m i) p (q i))
+    ∙ over-more at x d (omega arith) p
+    ∙ ap (λ k. take at d ++ ((x ++ p) ++ drop k d)) a
 
 -- a group more after what has been written
 group-more : (o p g x : List Float) (n k : ℕ) → length p ≡ n → x ≡ p ++ drop n o → take n x ++ (g ++ drop (n + k) x) ≡ (p ++ g) ++ drop (n + k) o
@@ -67,26 +63,22 @@ module _ (q : Float) (fs : List SmootherFrame) (f : SmootherFrame) (o : List Flo
       }
 
 -- a list over the front of a buffer, and one of its elements set
-pub flagged : (o w e : List ℕ) (v : ℕ) → e ≡ paste o 0 w (length w) → 5 < length w → set e 5 v ≡ over (set w 5 v) o
+pub flagged : (o w e : List ℕ) (v : ℕ) → e ≡ overAt 0 w o → 5 < length w → set e 5 v ≡ over (set w 5 v) o
+unfolding overAt
 flagged o w e v q h =
-    let a : paste o 0 w (length w) ≡ w ++ drop (length w) o = λ i. take-all (length w) w (le-refl (length w)) i ++ drop (zero-add (length w) i) o in
-    ap (λ l. set l 5 v) (q ∙ a)
+    ap (λ l. set l 5 v) (q ∙ ap (λ n. w ++ drop n o) (zero-add (length w)))
     ∙ set-append-left w (drop (length w) o) 5 v h
     ∙ ap (λ n. set w 5 v ++ drop n o) (sym (length-set w 5 v))
 
 -- the rest of a frame's numbers after its tracks
 pub costs : (o x e r g : List Float) (at : ℕ) → e ≡ g ++ drop at o → length g ≡ at
-    → r ≡ paste e at (take (length x - at) (drop at x)) (length (take (length x - at) (drop at x))) → r ≡ over (g ++ drop at x) o
+    → r ≡ overAt at (take (length x - at) (drop at x)) e → r ≡ over (g ++ drop at x) o
+unfolding overAt
 costs o x e r g at q l p =
     let d = drop at x in
     let t : take (length x - at) d ≡ d = take-all (length x - at) d (omega (arith, length-drop at x)) in
-    let a : r ≡ paste e at d (length d) = p ∙ ap (λ c. paste e at c (length c)) t in
     let n : at + length d ≡ length (g ++ d) = omega (arith, length-append g d, l) in
-    let b : take at e ≡ g = ap (take at) q ∙ take-at g (drop at o) at l in
-    let c : drop (at + length d) e ≡ drop (length (g ++ d)) o =
-    ap (drop (at + length d)) q
-    ∙ ap (λ m. drop (m + length d) (g ++ drop at o)) (sym l)
-    ∙ drop-append-add g (drop at o) (length d)
-    ∙ drop-drop (length d) at o
-    ∙ ap (λ m. drop m o) n in
-    a ∙ (λ i. (b i ++ take-all (length d) d (le-refl (length d)) i) ++ c i)
+    p
+    ∙ (λ i. overAt at (t i) (q i))
+    ∙ group-more o g d (g ++ drop at o) at (length d) l refl
+    ∙ ap (λ m. (g ++ d) ++ drop m o) n

@@ -1,7 +1,7 @@
 // The window: held frames in the slots of two lent buffers.
 use crate::FixedLagSmoother;
-use refined::copy::put_numbers;
-use refined::copy::put_words;
+use buffers::put_numbers;
+use buffers::put_words;
 use refined::frame;
 ghost use mathlib.Core.Path.{_≡_};
 ghost use Prim.Native.Nat.{_+_, _*_, _<_, _≤_};

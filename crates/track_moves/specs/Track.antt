@@ -1,10 +1,11 @@
 -- The best move of one row: document 01's candidates, in its order. Definitions only.
-use Prim.Native.Nat.{ℕ, suc, _+_}
-use mathlib.Core.Bool.{Bool, cond}
+use Prim.Native.Nat.{ℕ, suc, _+_, _<_}
+use mathlib.Core.Path.{_≡_}
+use mathlib.Core.Bool.{Bool, true, cond}
 use mathlib.Core.List.{List, _++_, map, foldl}
 use lib.ListN.{length, getD, take, drop}
 use lib.Dec.{ltb}
-use lib.Ieee.{Float}
+use lib.Ieee.{Float, nan}
 use Rattle.engine.specs.declared.config.FgoConfig.{FgoConfig}
 use Rattle.engine.specs.Config.{clutter}
 use Rattle.costs.specs.declared.cost.Fold.{Fold}
@@ -14,8 +15,7 @@ use Rattle.model.specs.declared.moves.TrackMove.{TrackMove}
 use Rattle.model.specs.declared.moves.TrackMove.the-variants.{Split, Drop, Stay as Rest}
 use Rattle.model.specs.Lists.{keep, upFrom}
 use Rattle.model.specs.Searching.{betterTrack}
-use Rattle.track_moves.specs.declared.track.Head.{Head}
-use Rattle.pricing.specs.Price.{_⊕_, _⊖_, rowCost, scanAt, onTo}
+use Rattle.pricing.specs.Price.{_⊕_, _⊖_, rowCost, headOf, scanAt}
 
 -- ---- rows
 
@@ -55,24 +55,21 @@ bestTrackRow c v p r base =
     let best = bestSplitRow c v p r base in
     cond (ltb 1 (length (marks r) + frozenOne p)) (bestDropRow c v p r base best) best
 
--- ---- heads: the folds over the scans before a cut are kept and go on to the next cut
+-- ---- by the fold over the scans before a detection
 
--- the split before scan k, by the head
-unfoldable pub triedSplit : FgoConfig → View → List ℕ → Float → Head → ℕ → Head
-triedSplit c v r base h k =
-    let f = onTo c v (h .done) k r (h .fold) in
-    record {
-      best = betterTrack (h .best) (Split (scanAt v k) (closed c f ⊕ cost c Fresh (dets v k (drop k r)) ⊖ base));
-      fold = f;
-      done = k;
-    }
+-- the best so far or the split before scan k; there is none before the first detection
+abbrev pub betterSplit : FgoConfig → View → TrackMove → Bool → Fold → List ℕ → ℕ → Float → TrackMove
+betterSplit c v best seen f r k base = cond seen (betterTrack best (Split (scanAt v k) (closed c f ⊕ cost c Fresh (dets v k (drop k r)) ⊖ base))) best
 
--- the drop of the detection in scan k, by the head
-unfoldable pub triedDrop : FgoConfig → View → List ℕ → Float → Head → ℕ → Head
-triedDrop c v r base h k =
-    let f = onTo c v (h .done) k r (h .fold) in
-    record {
-      best = betterTrack (h .best) (Drop (scanAt v k) (cost c f (dets v (suc k) (drop (suc k) r)) ⊕ clutter c ⊖ base));
-      fold = f;
-      done = k;
-    }
+-- what the drop of the detection in scan k gains
+abbrev pub dropGain : FgoConfig → View → Fold → List ℕ → ℕ → Float → Float
+dropGain c v f r k base = cost c f (dets v (suc k) (drop (suc k) r)) ⊕ clutter c ⊖ base
+
+-- for each detection before scan k what its drop gains
+pub record Dropped (c : FgoConfig) (v : View) (p : Fold) (r : List ℕ) (base : Float) (k : ℕ) (gains : List Float) : Type 0 where
+  pub long : length gains ≡ 17
+  pub each : (j : ℕ) → j < k → marked r j ≡ true → getD gains j nan ≡ dropGain c v (headOf c v p r j) r j base
+
+-- the best so far, or the drop of a detection, by what each gains; first is the number of the oldest scan
+unfoldable pub bestDropBy : ℕ → List Float → List ℕ → TrackMove → TrackMove
+bestDropBy first gains r best = foldl betterTrack best (map (λ k. Drop (record { 0 = first + k }) (getD gains k nan)) (marks r))

@@ -1,26 +1,20 @@
 // The best move of one row.
-use costs::cost;
 use costs::cost::DOTS;
 use costs::cost::Fold;
 use costs::cost::LOGS;
 use costs::cost::SCANS;
 use engine::types::ScanIndex;
 use model::moves::TrackMove;
+use pricing::price;
 use pricing::price::Hall;
+use windows::rows;
 ghost use mathlib.Core.Path.{_≡_};
 ghost use Prim.Native.Nat.{_≤_, _<_};
 ghost use lib.ListN.{length};
-ghost use Rattle.costs.specs.Cost.{Kept};
+ghost use Rattle.costs.specs.Cost.{missesOf, Kept};
 ghost use Rattle.model.specs.Searching.{trackGain, betterTrack};
-ghost use Rattle.pricing.specs.Price.{Priced, Fit, Until, viewIn};
-ghost use Rattle.track_moves.specs.Track.{marks, frozenOne, bestSplitRow, bestDropRow, bestTrackRow, triedSplit, triedDrop};
-
-// The best move so far of a track, and the fold over its row before a scan.
-pub struct Head {
-    pub best: TrackMove,
-    pub fold: Fold,
-    pub done: usize,
-}
+ghost use Rattle.pricing.specs.Price.{Priced, Fit, Ends, viewIn};
+ghost use Rattle.track_moves.specs.Track.{marks, frozenOne, betterSplit, dropGain, bestSplitRow, Dropped, bestDropBy, bestTrackRow};
 
 fn track_gain(m: TrackMove) -> f64
     ensures { λ r. ⌜ r ≡ trackGain m ⌝ }
@@ -42,138 +36,107 @@ fn better_track(best: TrackMove, m: TrackMove) -> TrackMove
     }
 }
 
-// The split before scan k.
-fn try_split<'a>(
+// The best so far or the split before scan k, by the fold over the row before it; there is none before the first detection.
+fn better_split<'a>(
     hall: Hall,
+    best: TrackMove,
+    seen: bool,
+    f: Fold,
     row: &'a [usize; SCANS],
-    base: f64,
-    h: Head,
     k: usize,
-    dots: &'a [f64; DOTS],
-    logs: &mut [f64; LOGS],
-) -> Head
-    requires { ⌜ Priced hall (now logs) × (k ≤ 17) × Until k (h .done) (h .fold) (now row) ⌝ }
-    ensures { λ r. ⌜ (r ≡ triedSplit (hall .config) (viewIn hall (now (dots .entry))) (now (row .entry)) base h k) × Kept (now (logs .exit)) ⌝ }
-{
-    let best = h.best;
-    let f = h.fold;
-    let done = h.done;
-    let row = &row[..];
-    let fold = cost::run_window(hall.config, f, &row[done..k], done, hall.first, dots, logs);
-    let t = cost::run_window(
-        hall.config,
-        Fold::Fresh,
-        &row[k..],
-        k,
-        hall.first,
-        dots,
-        logs,
-    );
-    let gain = fold.close(hall.config) + t.close(hall.config) - base;
-    let cut = ScanIndex(hall.first.0 + k as u64);
-    let best = better_track(best, TrackMove::Split { cut, gain });
-    Head {
-        best,
-        fold,
-        done: k,
-    }
-}
-
-// The drop of the detection in scan k.
-fn try_drop<'a>(
-    hall: Hall,
-    row: &'a [usize; SCANS],
-    base: f64,
-    h: Head,
-    k: usize,
-    dots: &'a [f64; DOTS],
-    logs: &mut [f64; LOGS],
-) -> Head
-    requires { ⌜ Priced hall (now logs) × (k < 17) × Until k (h .done) (h .fold) (now row) ⌝ }
-    ensures { λ r. ⌜ (r ≡ triedDrop (hall .config) (viewIn hall (now (dots .entry))) (now (row .entry)) base h k) × Kept (now (logs .exit)) ⌝ }
-{
-    let best = h.best;
-    let f = h.fold;
-    let done = h.done;
-    let row = &row[..];
-    let fold = cost::run_window(hall.config, f, &row[done..k], done, hall.first, dots, logs);
-    let next = k + 1;
-    let t = cost::run_window(
-        hall.config,
-        fold,
-        &row[next..],
-        next,
-        hall.first,
-        dots,
-        logs,
-    );
-    let gain = t.close(hall.config) + hall.config.clutter_cost - base;
-    let scan = ScanIndex(hall.first.0 + k as u64);
-    let best = better_track(best, TrackMove::Drop { scan, gain });
-    Head {
-        best,
-        fold,
-        done: k,
-    }
-}
-
-// The best split, after the first detection, the second and so on.
-fn best_split<'a>(
-    hall: Hall,
-    p: Fold,
-    row: &'a [usize; SCANS],
+    end: usize,
     base: f64,
     dots: &'a [f64; DOTS],
     logs: &mut [f64; LOGS],
 ) -> TrackMove
-    requires { ⌜ Priced hall (now logs) × Fit p (now row) ⌝ }
-    ensures { λ r. ⌜ (r ≡ bestSplitRow (hall .config) (viewIn hall (now (dots .entry))) p (now (row .entry)) base) × Kept (now (logs .exit)) ⌝ }
+    requires { ⌜ Priced hall (now logs) × Ends end (now row) × (k ≤ 17) ⌝ }
+    ensures { λ r. ⌜ (r ≡ betterSplit (hall .config) (viewIn hall (now (dots .entry))) best seen f (now (row .entry)) k base) × Kept (now (logs .exit)) ⌝ }
 {
-    let mut h = Head {
-        best: TrackMove::Stay,
-        fold: p,
-        done: 0,
-    };
+    if !seen {
+        return best;
+    }
+    let tail = price::rest_cost(hall, Fold::Fresh, row, k, end, dots, logs);
+    let gain = f.close(hall.config) + tail - base;
+    let cut = ScanIndex(hall.first.0 + k as u64);
+    better_track(best, TrackMove::Split { cut, gain })
+}
+
+// What the drop of the detection in scan k gains, by the fold over the row before it.
+fn drop_gain<'a>(
+    hall: Hall,
+    f: Fold,
+    row: &'a [usize; SCANS],
+    k: usize,
+    end: usize,
+    base: f64,
+    dots: &'a [f64; DOTS],
+    logs: &mut [f64; LOGS],
+) -> f64
+    requires { ⌜ Priced hall (now logs) × Ends end (now row) × (missesOf f < 288230376151711744) × (k < 17) ⌝ }
+    ensures { λ r. ⌜ (r ≡ dropGain (hall .config) (viewIn hall (now (dots .entry))) f (now (row .entry)) k base) × Kept (now (logs .exit)) ⌝ }
+{
+    price::rest_cost(hall, f, row, k + 1, end, dots, logs) + hall.config.clutter_cost - base
+}
+
+// The best split, after the first detection, the second and so on; and for each detection what its drop gains. The fold over the row goes on from one to the next.
+fn best_split<'a, 'b>(
+    hall: Hall,
+    p: Fold,
+    row: &'a [usize; SCANS],
+    end: usize,
+    base: f64,
+    gains: &'b mut [f64; SCANS],
+    dots: &'a [f64; DOTS],
+    logs: &mut [f64; LOGS],
+) -> TrackMove
+    requires { ⌜ Priced hall (now logs) × Fit p (now row) × Ends end (now row) × (length (now gains) ≡ 17) ⌝ }
+    ensures { λ r. ⌜ (r ≡ bestSplitRow (hall .config) (viewIn hall (now (dots .entry))) p (now (row .entry)) base) × Dropped (hall .config) (viewIn hall (now (dots .entry))) p (now (row .entry)) base end (now (gains .exit)) × Kept (now (logs .exit)) ⌝ }
+{
+    let mut best = TrackMove::Stay;
+    let mut fold = p;
+    let mut done: usize = 0;
     let mut seen = false;
     let mut k: usize = 0;
-    while k < SCANS {
+    while k < end {
         if 0 < row[k] {
-            if seen {
-                h = try_split(hall, row, base, h, k, dots, logs);
-            }
+            fold = price::run_to(hall, fold, row, done, k, dots, logs);
+            done = k;
+            best = better_split(hall, best, seen, fold, row, k, end, base, dots, logs);
+            gains[k] = drop_gain(hall, fold, row, k, end, base, dots, logs);
             seen = true;
         }
         k += 1;
     }
-    h.best
+    best
 }
 
-// The best so far, or the drop of a single detection.
+// The best so far, or the drop of a single detection, by what each gains.
 fn best_drop<'a>(
     hall: Hall,
-    best: TrackMove,
-    p: Fold,
+    first: TrackMove,
     row: &'a [usize; SCANS],
-    base: f64,
-    dots: &'a [f64; DOTS],
-    logs: &mut [f64; LOGS],
+    end: usize,
+    gains: &'a [f64; SCANS],
 ) -> TrackMove
-    requires { ⌜ Priced hall (now logs) × Fit p (now row) ⌝ }
-    ensures { λ r. ⌜ (r ≡ bestDropRow (hall .config) (viewIn hall (now (dots .entry))) p (now (row .entry)) base best) × Kept (now (logs .exit)) ⌝ }
+    requires { ⌜ (hall .first .0 < 8589934592) × Ends end (now row) × (length (now gains) ≡ 17) ⌝ }
+    ensures { λ r. ⌜ r ≡ bestDropBy (hall .first .0) (now (gains .entry)) (now (row .entry)) first ⌝ }
 {
-    let mut h = Head {
-        best,
-        fold: p,
-        done: 0,
-    };
+    let mut best = first;
     let mut k: usize = 0;
-    while k < SCANS {
+    while k < end {
         if 0 < row[k] {
-            h = try_drop(hall, row, base, h, k, dots, logs);
+            let scan = ScanIndex(hall.first.0 + k as u64);
+            best = better_track(
+                best,
+                TrackMove::Drop {
+                    scan,
+                    gain: gains[k],
+                },
+            );
         }
         k += 1;
     }
-    h.best
+    best
 }
 
 // The detections of a row.
@@ -216,9 +179,11 @@ pub fn best_of_track<'a>(
     requires { ⌜ Priced hall (now logs) × Fit p (now row) ⌝ }
     ensures { λ r. ⌜ (r ≡ bestTrackRow (hall .config) (viewIn hall (now (dots .entry))) p (now (row .entry)) base) × Kept (now (logs .exit)) ⌝ }
 {
-    let best = best_split(hall, p, row, base, dots, logs);
+    let end = rows::end_of(row);
+    let mut gains = [0.0; SCANS];
+    let best = best_split(hall, p, row, end, base, &mut gains, dots, logs);
     if 1 < length_of(row) + frozen_one(p) {
-        return best_drop(hall, best, p, row, base, dots, logs);
+        return best_drop(hall, best, row, end, &gains);
     }
     best
 }

@@ -2,5 +2,6 @@ pub mod Segments
 pub mod Filled
 pub mod Ascending
 pub mod RowSlots
+pub mod RowEnds
 pub mod Renamed
 pub mod Spreads

@@ -1,15 +1,28 @@
 -- A row's entries, and the table of all rows. Assumes nothing.
 use mathlib.Core.Path.{_≡_, ap, _∙_}
+use mathlib.Core.Bool.{Bool, true, false, cond}
 use mathlib.Core.List.{List, [], _∷_, _++_}
-use Prim.Native.Nat.{ℕ, _+_, _-_, _*_, _≤_, _<_}
+use Prim.Native.Nat.{ℕ, suc, _+_, _-_, _*_, _≤_, _<_}
 use native.Mathlib.Nat.{zero-add, not-suc-le-zero}
 use native.Mathlib.Omega.{arith}
-use lib.ListN.{length, getD, take, drop, length-append, List·getD-append}
+use lib.ListN.{length, getD, take, drop, length-append, length-take, List·getD-append}
 use lib.Seq.{getD-at, getD-append-add}
+use lib.Dec.{eqb}
 use borrow.Author.Count.{below-more}
-use Rattle.windows.specs.Rows.{slotAt, rowOf, firstIn, endFrom, entryOf, entryAt, Tabled}
+use Rattle.windows.specs.Rows.{columnAt, Starts, slotIn, slotAt, rowOf, firstIn, endFrom, entryOf, entryAt, Tabled}
 use Rattle.windows.proofs.Filled.{map-up-length, map-up-at}
+use Rattle.windows.proofs.Renamed.{starts-within}
 use Rattle.windows.proofs.Segments.{splice-length, splice-before, splice-at}
+
+-- one more than a place among those counted from n is at most one more than the last
+slot-within : (x n : ℕ) (l : List ℕ) → slotIn x n l ≤ n + length l
+unfolding slotIn
+slot-within x n [] = omega arith
+slot-within x n (y ∷ l) = go (eqb x y) (slot-within x (suc n) l)
+  where
+    go : (b : Bool) → slotIn x (suc n) l ≤ suc n + length l → cond b (suc n) (slotIn x (suc n) l) ≤ n + suc (length l)
+    go true h = omega arith
+    go false h = omega arith
 
 module _ (starts ids : List ℕ) (x : ℕ) where
   pub row-length : length (rowOf starts ids x) ≡ 17
@@ -19,6 +32,14 @@ module _ (starts ids : List ℕ) (x : ℕ) where
   pub row-at : (k : ℕ) → k < 17 → getD (rowOf starts ids x) k 0 ≡ slotAt starts ids x k
   unfolding rowOf
   row-at k h = map-up-at (slotAt starts ids x) 0 17 k 0 h ∙ ap (slotAt starts ids x) (zero-add k)
+
+  -- the places are those of 128 detections
+  pub row-within : Starts starts → (k : ℕ) → k < 17 → getD (rowOf starts ids x) k 0 ≤ 128
+  row-within s k h =
+      let a = getD starts k 0 in
+      let b = getD starts (suc k) 0 in
+      rw (row-at k h)
+      (omega (arith, slot-within x a (columnAt starts ids k), length-take (b - a) (drop a ids), s .rises k h, starts-within s (suc k) h))
 
 -- ---- a row with its first scan and its end
 

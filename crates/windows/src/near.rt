@@ -5,9 +5,10 @@ use costs::cost;
 use costs::cost::DOTS;
 use costs::cost::SCANS;
 ghost use mathlib.Core.Path.{_≡_};
-ghost use Prim.Native.Nat.{_+_, _*_, _<_};
-ghost use lib.ListN.{length, getD};
-ghost use Rattle.windows.specs.Near.{nearSlots, closeAt, closeScans, anyClose, meets};
+ghost use mathlib.Core.Bool.{false};
+ghost use Prim.Native.Nat.{_<_};
+ghost use lib.ListN.{length, getD, replicate};
+ghost use Rattle.windows.specs.Near.{nearSlots, closeSlots, closeScans, anyClose, meets, CloseWithin};
 
 // Two entries of rows have a detection each, at a squared distance below q.
 fn near_slots(q: f64, i: usize, j: usize, dots: &[f64; DOTS]) -> bool
@@ -27,57 +28,61 @@ fn near_slots(q: f64, i: usize, j: usize, dots: &[f64; DOTS]) -> bool
 }
 
 // Entry k of a row, 0 past its end.
-fn slot(row: &[usize], k: usize) -> usize
+fn slot(row: &[u8], k: usize) -> usize
     ensures { λ r. ⌜ r ≡ getD (now (row .entry)) k 0 ⌝ }
 {
     if k < row.len() {
-        return row[k];
+        return row[k] as usize;
     }
     0
 }
 
-// Two rows have a detection each that are near, in scan k or in k and k + 1.
-fn close_at<'a>(q: f64, a: &'a [usize], b: &'a [usize], k: usize, dots: &'a [f64; DOTS]) -> bool
-    requires { ⌜ k < 17 ⌝ }
-    ensures { λ r. ⌜ r ≡ closeAt q (now (dots .entry)) (now (a .entry)) (now (b .entry)) k ⌝ }
+// Two rows have a detection each that are near, in one scan or in it and the next: x and y in the scan, nx and ny in the next.
+fn close_slots(q: f64, x: usize, y: usize, nx: usize, ny: usize, dots: &[f64; DOTS]) -> bool
+    ensures { λ r. ⌜ r ≡ closeSlots q (now (dots .entry)) x y nx ny ⌝ }
 {
-    let x = slot(a, k);
-    let y = slot(b, k);
     if near_slots(q, x, y, dots) {
         return true;
     }
-    if near_slots(q, x, slot(b, k + 1), dots) {
+    if near_slots(q, x, ny, dots) {
         return true;
     }
-    near_slots(q, slot(a, k + 1), y, dots)
+    near_slots(q, nx, y, dots)
 }
 
-// For each scan whether the rows are close in it; and whether they are close in any.
+// For each scan whether the rows are close in it; and whether they are close in any. It asks for scans outside of which they are not, and that no scan is noted yet.
 pub fn close_scans<'a>(
     q: f64,
-    a: &'a [usize],
-    b: &'a [usize],
+    a: &'a [u8],
+    b: &'a [u8],
+    from: usize,
+    to: usize,
     dots: &'a [f64; DOTS],
     close: &mut [bool; SCANS],
 ) -> bool
-    requires { ⌜ length (now close) ≡ 17 ⌝ }
+    requires { ⌜ CloseWithin q (now dots) (now a) (now b) from to × (now close ≡ replicate 17 false) ⌝ }
     ensures { λ r. ⌜ (now (close .exit) ≡ closeScans q (now (dots .entry)) (now (a .entry)) (now (b .entry))) × (r ≡ anyClose (now (close .exit))) ⌝ }
 {
     let mut found = false;
-    let mut k: usize = 0;
-    while k < SCANS {
-        let c = close_at(q, a, b, k, dots);
-        close[k] = c;
-        if c {
+    let mut k = from;
+    let mut x = slot(a, k);
+    let mut y = slot(b, k);
+    while k < to {
+        let nx = slot(a, k + 1);
+        let ny = slot(b, k + 1);
+        if close_slots(q, x, y, nx, ny, dots) {
+            close[k] = true;
             found = true;
         }
+        x = nx;
+        y = ny;
         k += 1;
     }
     found
 }
 
 // Two entries of the table, both below 128, have equal or consecutive scans somewhere.
-pub fn meet(rows: &[usize; ROWS], i: usize, j: usize) -> bool
+pub fn meet(rows: &[u8; ROWS], i: usize, j: usize) -> bool
     requires { ⌜ (i < 128) × (j < 128) × (length (now rows) ≡ 2432) ⌝ }
     ensures { λ r. ⌜ r ≡ meets (now (rows .entry)) i j ⌝ }
 {

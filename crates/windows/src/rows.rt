@@ -3,8 +3,8 @@ use costs::cost::DETECTIONS;
 use costs::cost::SCANS;
 ghost use mathlib.Core.Path.{_≡_};
 ghost use mathlib.Core.List.{_++_};
-ghost use Prim.Native.Nat.{_+_, _*_, _≤_, _<_};
-ghost use lib.ListN.{length, take, drop};
+ghost use Prim.Native.Nat.{ℕ, _+_, _*_, _≤_, _<_};
+ghost use lib.ListN.{length, getD, take, drop};
 ghost use Rattle.model.specs.Lists.{insert as inserted};
 ghost use Rattle.windows.specs.Rows.{segment, Starts, slotIn, rowOf, presentIn, placeIn, firstIn, endFrom, entryOf, Tabled, Begins};
 
@@ -109,8 +109,8 @@ pub fn fill_row<'a>(
     }
 }
 
-// The first scan in which the row has a detection.
-fn first_in(row: &[usize; SCANS]) -> usize
+// The first scan in which the row has a detection, 17 where there is none. It asks for a row of 17 scans.
+pub fn first_in(row: &[usize; SCANS]) -> usize
     requires { ⌜ length (now row) ≡ 17 ⌝ }
     ensures { λ r. ⌜ r ≡ firstIn (now (row .entry)) ⌝ }
 {
@@ -124,35 +124,34 @@ fn first_in(row: &[usize; SCANS]) -> usize
     SCANS
 }
 
-// One more than the last scan in which the row has a detection.
-fn end_of(row: &[usize; SCANS]) -> usize
+// One more than the last scan in which the row has a detection, 0 where there is none. It asks for a row of 17 scans.
+pub fn end_of(row: &[usize; SCANS]) -> usize
     requires { ⌜ length (now row) ≡ 17 ⌝ }
     ensures { λ r. ⌜ r ≡ endFrom 0 0 (now (row .entry)) ⌝ }
 {
-    let mut e: usize = 0;
-    let mut k: usize = 0;
-    while k < SCANS {
-        if 0 < row[k] {
-            e = k + 1;
+    let mut e = SCANS;
+    while 0 < e {
+        if 0 < row[e - 1] {
+            return e;
         }
-        k += 1;
+        e -= 1;
     }
     e
 }
 
-// A row, its first scan and its end, as entry i of the table.
-fn put_entry<'a>(i: usize, row: &[usize; SCANS], rows: &mut [usize; ROWS])
-    requires { ⌜ (i < 128) × (length (now row) ≡ 17) × (length (now rows) ≡ 2432) ⌝ }
+// A row, its first scan and its end, as entry i of the table. It asks for a row whose entries fit a byte.
+fn put_entry<'a>(i: usize, row: &[usize; SCANS], rows: &mut [u8; ROWS])
+    requires { ⌜ (i < 128) × (length (now row) ≡ 17) × ((k : ℕ) → k < 17 → getD (now row) k 0 < 256) × (length (now rows) ≡ 2432) ⌝ }
     ensures { λ r. ⌜ now (rows .exit) ≡ take (19 * i) (now (rows .entry)) ++ (entryOf (now (row .entry)) ++ drop (19 * i + 19) (now (rows .entry))) ⌝ }
 {
     let at = ENTRY * i;
     let mut k: usize = 0;
     while k < SCANS {
-        rows[at + k] = row[k];
+        rows[at + k] = row[k] as u8;
         k += 1;
     }
-    rows[at + SCANS] = first_in(row);
-    rows[at + SCANS + 1] = end_of(row);
+    rows[at + SCANS] = first_in(row) as u8;
+    rows[at + SCANS + 1] = end_of(row) as u8;
 }
 
 // The rows of the first n ids of a table, 128 at most. It asks what `fill_row` asks.
@@ -161,7 +160,7 @@ pub fn fill_rows<'a>(
     table: &'a [u64; DETECTIONS],
     starts: &'a [usize; STARTS],
     ids: &'a [u64; DETECTIONS],
-    rows: &mut [usize; ROWS],
+    rows: &mut [u8; ROWS],
 )
     requires { ⌜ (n ≤ 128) × Starts (now starts) × (length (now ids) ≡ 128) × (length (now table) ≡ 128) × (length (now rows) ≡ 2432) ⌝ }
     ensures { λ r. ⌜ Tabled (now (starts .entry)) (now (ids .entry)) (now (table .entry)) n (now (rows .exit)) ⌝ }

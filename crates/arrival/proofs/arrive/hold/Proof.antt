@@ -8,7 +8,8 @@ use borrow.Author.Needs.{needs}
 use Rattle.engine.specs.Body.{narrow, associationCount}
 use Rattle.ledger.specs.declared.place.Placing.{Placing}
 use Rattle.memory.specs.declared.state.FixedLagRefiner.{FixedLagRefiner}
-use Rattle.memory.specs.Memory.{slotAt, over}
+use Rattle.buffers.specs.Buffers.{over}
+use Rattle.memory.specs.Memory.{slotAt}
 use Rattle.ledger.specs.Placing.{Placed}
 use Rattle.arrival.specs.Arriving.{columnWords, placedBy, Holds, HeldBy}
 use Rattle.memory.proofs.Counts.{associations-few}

@@ -3,7 +3,7 @@ use Prim.Native.Nat.{ℕ, _*_, _-_}
 use native.Mathlib.Omega.{arith}
 use mathlib.Core.Path.{refl, ap, _∙_}
 use lib.ListN.{length}
-use Rattle.memory.specs.Memory.{over}
+use Rattle.buffers.specs.Buffers.{over}
 use Rattle.memory.proofs.Writes.{Writes, writes-none, writes-more, writes-all}
 use Rattle.arrival.proofs.arrive.put_body.Statement.{statement}
 use Rattle.arrival.proofs.arrive.put_body.Tie as tie

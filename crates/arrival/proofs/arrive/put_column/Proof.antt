@@ -6,9 +6,9 @@ use mathlib.Core.Path.{_≡_, refl, sym, ap, _∙_}
 use mathlib.Core.List.{List, [], _∷_}
 use lib.ListN.{length, length-set, take, set}
 use lib.Seq.{length-take-le, getD-take}
-use Rattle.memory.specs.Memory.{over}
+use Rattle.buffers.specs.Buffers.{over}
 use Rattle.arrival.specs.Arriving.{columnWords}
-use Rattle.memory.proofs.Over.{over-more}
+use Rattle.buffers.proofs.Over.{over-more}
 use Rattle.memory.proofs.Writes.{Writes, writes-none, writes-more, writes-all}
 use Rattle.arrival.proofs.arrive.put_column.Statement.{statement}
 use Rattle.arrival.proofs.arrive.put_column.Tie as tie

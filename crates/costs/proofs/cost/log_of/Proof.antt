@@ -7,7 +7,7 @@ use lib.Ieee.{binary64, fits}
 use denote.Ref.{now}
 use Rattle.scalar.proofs.Positive.{positive-no-nan}
 use Rattle.costs.proofs.Logs.{found, stored}
-use Prim.Native.Nat.{_<_, _/_, _%_}
+use Prim.Native.Nat.{_<_, _%_}
 use lib.Ieee.{toBits}
 use Rattle.costs.proofs.cost.log_of.Statement.{statement}
 use Rattle.costs.proofs.cost.log_of.Tie as tie
@@ -28,7 +28,7 @@ element-copy-out-if2 : tie.Need-element-copy-out-if2
 element-copy-out-if2 c = search needs
 
 float-to-bits-if2 : tie.Need-float-to-bits-if2
-float-to-bits-if2 c = let h : toBits binary64 (c .before .before .args .s) / 4294967296 % 128 < 128 = omega arith in c .before .before .pre .variance _ h .1
+float-to-bits-if2 c = let h : toBits binary64 (c .before .before .args .s) % 256 < 256 = omega arith in c .before .before .pre .variance _ h .1
 
 mul-result : tie.Need-mul-result
 mul-result c = search needs

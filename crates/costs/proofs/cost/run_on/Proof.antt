@@ -1,20 +1,20 @@
 -- `costs::cost::run_on` meets its contract. Assumes nothing.
 use mathlib.Core.Path.{refl}
+use mathlib.Core.List.{foldl}
 use mathlib.Core.Logic.{⊎-elim}
 use Prim.Native.Nat.{_+_, _-_}
 use native.Mathlib.Omega.{arith}
 use lib.ListN.{length, drop}
-use Rattle.costs.specs.declared.cost.Fold.the-variants.{Going}
-use Rattle.costs.specs.Cost.{run, dets, viewOf, Kept}
+use Rattle.costs.specs.Cost.{added, dets, viewOf, Kept}
 use Rattle.costs.proofs.Steps.{Inv, skips, takes, ends}
 use Rattle.costs.proofs.cost.run_on.Statement.{statement}
 use Rattle.costs.proofs.cost.run_on.Tie as tie
 
 abbrev Inv-loop : tie.InvT-loop
-Inv-loop c slots begin k first dots logs₀ r₀ i₀ logs r i = Inv c (viewOf first dots) (run c (Going r₀) (dets (viewOf first dots) (k + i₀) (drop i₀ slots))) (r₀ .misses) slots k r i × Kept logs
+Inv-loop q slots begin k first dots logs₀ r₀ i₀ logs r i = Inv q (viewOf first dots) (foldl (added q) r₀ (dets (viewOf first dots) (k + i₀) (drop i₀ slots))) (r₀ .misses) slots k r i × Kept logs
 
 abbrev μ-loop : tie.MeasureT-loop
-μ-loop c slots begin k first dots logs₀ r₀ i₀ logs r i = length slots - i
+μ-loop q slots begin k first dots logs₀ r₀ i₀ logs r i = length slots - i
 
 loop-holds : tie.Need-loop-holds Inv-loop μ-loop
 loop-holds c = (record { few = omega arith; rest = refl }, c .before .pre .kept)

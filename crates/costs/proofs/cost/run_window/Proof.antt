@@ -4,7 +4,7 @@ use mathlib.Core.Path.{sym, ap, subst}
 use Prim.Native.Nat.{_<_}
 use native.Mathlib.Omega.{arith}
 use Rattle.costs.specs.Cost.{run, viewOf, missesOf}
-use Rattle.costs.proofs.Steps.{leads-none, leads-born, leads-frozen}
+use Rattle.costs.proofs.Steps.{run-going, leads-none, leads-born, leads-frozen}
 use Rattle.costs.proofs.cost.run_window.Statement.{statement}
 use Rattle.costs.proofs.cost.run_window.Tie as tie
 
@@ -63,7 +63,7 @@ run-on-requires-3 c κs =
 returns-2 : tie.Need-returns-2
 returns-2 c =
     let s = c .before .before .before .before .before .before .before .before .before .before .before in (
-      rw (c .run-on .ensures .0, c .before .before .born-at .ensures, c .before .before .before .dot-at .ensures, c .before .before .before .before .before .before .enum-told .given .1)
+      rw (c .run-on .ensures .0, ← run-going (s .args .c), c .before .before .born-at .ensures, c .before .before .before .dot-at .ensures, c .before .before .before .before .before .before .enum-told .given .1)
           (leads-born (s .args .c) _ (s .args .k) _ _ (c .before .before .before .before .before .before .before .before .before .leading .ensures) (c .before .before .before .before .before .before .before .before .if1 .left)),
       c .run-on .ensures .1,
     )
@@ -71,12 +71,12 @@ returns-2 c =
 returns-3 : tie.Need-returns-3
 returns-3 c =
     let s = c .before .before .before .before .before .before .before .before in
-    (rw (c .run-on2 .ensures .0, c .before .before .before .from .given .1) (leads-frozen (s .args .c) (viewOf (s .args .first) (s .args .dots .now)) (s .args .k) _ _ (c .before .before .before .before .before .before .leading .ensures) _ _ (c .before .before .before .before .before .if1 .left)), c .run-on2 .ensures .1)
+    (rw (c .run-on2 .ensures .0, ← run-going (s .args .c), c .before .before .before .from .given .1) (leads-frozen (s .args .c) (viewOf (s .args .first) (s .args .dots .now)) (s .args .k) _ _ (c .before .before .before .before .before .before .leading .ensures) _ _ (c .before .before .before .before .before .if1 .left)), c .run-on2 .ensures .1)
 
 returns-4 : tie.Need-returns-4
 returns-4 c =
     let s = c .before .before .before .before .before .before .before .before in
-    (rw (c .run-on3 .ensures .0, c .before .before .before .from2 .given .1) (ap (run (s .args .c) _) (sym (c .before .before .before .before .before .before .leading .ensures .rest (viewOf (s .args .first) (s .args .dots .now)) (s .args .k)))), c .run-on3 .ensures .1)
+    (rw (c .run-on3 .ensures .0, ← run-going (s .args .c), c .before .before .before .from2 .given .1) (ap (run (s .args .c) _) (sym (c .before .before .before .before .before .before .leading .ensures .rest (viewOf (s .args .first) (s .args .dots .now)) (s .args .k)))), c .run-on3 .ensures .1)
 
 pub run-window-spec : {M : Type 1} → statement M
 run-window-spec =

@@ -17,7 +17,8 @@ use Rattle.engine.specs.Body.{timeOk}
 use Rattle.model.specs.Windows as windows
 use Rattle.model.specs.Emitting.{report, trackWords, trackNumbers}
 use Rattle.memory.specs.declared.state.Prefix.{Prefix}
-use Rattle.memory.specs.Memory.{cells, heightsIn, keyIn, prefixIn, partOf, over}
+use Rattle.buffers.specs.Buffers.{over}
+use Rattle.memory.specs.Memory.{cells, heightsIn, keyIn, prefixIn, partOf}
 use Rattle.freezing.specs.Frozen.{PartOk}
 use Rattle.emitting.specs.Writing.{Lists}
 use Rattle.emitting.proofs.emit.put_track.Statement.{statement}

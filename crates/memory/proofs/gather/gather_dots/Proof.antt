@@ -3,7 +3,7 @@ use Prim.Native.Nat.{_-_, _≤_}
 use native.Mathlib.Omega.{arith}
 use mathlib.Core.Path.{_≡_, ap, _∙_}
 use borrow.Author.Needs.{needs}
-use Rattle.memory.specs.Memory.{over}
+use Rattle.buffers.specs.Buffers.{over}
 use Rattle.memory.specs.Gathering.{dotsOf, foundOf}
 use Rattle.memory.proofs.GatheringHeld.{NumbersHeld, numbers-held-none, numbers-held-fits, numbers-held-more}
 use Rattle.memory.proofs.gather.gather_dots.Statement.{statement}

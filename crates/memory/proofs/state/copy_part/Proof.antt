@@ -2,7 +2,7 @@
 use Prim.Native.Nat.{_*_}
 use mathlib.Core.Path.{_≡_, ap, _∙_}
 use lib.ListN.{length}
-use Rattle.memory.specs.Memory.{over}
+use Rattle.buffers.specs.Buffers.{over}
 use Rattle.memory.proofs.Parts.{copied}
 use borrow.Author.Needs.{needs}
 use Rattle.memory.proofs.state.copy_part.Statement.{statement}

@@ -5,12 +5,13 @@ use mathlib.Core.List.{List}
 use Prim.Native.Nat.{ℕ}
 use lib.ListN.{length, replicate}
 use Rattle.engine.specs.declared.types.Association.{Association}
-use Rattle.memory.specs.Memory.{cells, over}
+use Rattle.buffers.specs.Buffers.{over}
+use Rattle.memory.specs.Memory.{cells}
 use Rattle.ledger.specs.Sound.{engineIn}
 use Rattle.refusing.specs.Refusing.{enginesIn}
 use Rattle.engine.proofs.Passing.{length-rows}
 use Rattle.memory.proofs.Cells.{cells-over}
-use Rattle.memory.proofs.Over.{length-over}
+use Rattle.buffers.proofs.Over.{length-over}
 use Rattle.memory.proofs.Counts.{associations-few}
 use Rattle.refusing.proofs.Joining.{Joins, joins-none, joins-more, joins-all}
 use Rattle.refusing.proofs.refuse.joined_count.Statement.{statement}

@@ -5,7 +5,7 @@ use lib.ListN.{length}
 use Rattle.engine.specs.Config.{radius}
 use Rattle.windows.specs.Near.{square}
 use Rattle.search.proofs.CloseCuts.{close-long}
-use Rattle.search.proofs.Meeting.{rows-apart, rows-meet}
+use Rattle.search.proofs.Meeting.{rows-within, rows-apart, rows-meet}
 use Rattle.search.proofs.pass.close_rows.Statement.{statement}
 use Rattle.search.proofs.pass.close_rows.Tie as tie
 
@@ -24,8 +24,29 @@ add-ea c = search needs
 add-eb : tie.Need-add-eb
 add-eb c = search needs
 
-mul-close-scans : tie.Need-mul-close-scans
-mul-close-scans c = search needs
+element-copy-out-close-from : tie.Need-element-copy-out-close-from
+element-copy-out-close-from c = search needs
+
+element-copy-out-close-from-2 : tie.Need-element-copy-out-close-from-2
+element-copy-out-close-from-2 c = search needs
+
+close-from-requires : tie.Need-close-from-requires
+close-from-requires c κs = search needs
+
+add-close-to : tie.Need-add-close-to
+add-close-to c = search needs
+
+element-copy-out-close-to : tie.Need-element-copy-out-close-to
+element-copy-out-close-to c = search needs
+
+add-close-to-2 : tie.Need-add-close-to-2
+add-close-to-2 c = search needs
+
+element-copy-out-close-to-2 : tie.Need-element-copy-out-close-to-2
+element-copy-out-close-to-2 c = search needs
+
+close-to-requires : tie.Need-close-to-requires
+close-to-requires c κs = search needs
 
 sub-close-scans : tie.Need-sub-close-scans
 sub-close-scans c = search needs
@@ -35,9 +56,6 @@ part-close-scans-start c = search needs
 
 part-close-scans-end : tie.Need-part-close-scans-end
 part-close-scans-end c = search needs
-
-mul-close-scans-2 : tie.Need-mul-close-scans-2
-mul-close-scans-2 c = search needs
 
 sub-close-scans-2 : tie.Need-sub-close-scans-2
 sub-close-scans-2 c = search needs
@@ -49,18 +67,21 @@ part-close-scans-end-2 : tie.Need-part-close-scans-end-2
 part-close-scans-end-2 c = search needs
 
 close-scans-requires : tie.Need-close-scans-requires
-close-scans-requires c κs = search needs
+close-scans-requires c κs =
+    let s = c .before .before .before .before .before .before .before .before .before .before .before .before .before .args in
+    let p = c .before .before .before .before .before .before .before .before .before .before .before .before .before .pre in
+    (rows-within (square (radius (s .hall .config))) (s .dots .now) (s .rows .now) (s .i) (s .j) (p .3) (p .4) (c .before .before .before .before .before .before .before .before .close-from .ensures) (c .before .before .before .before .before .close-to .ensures), p .5)
 
 returns : tie.Need-returns
 returns c =
-    let s = c .before .before .before .before .before .before .before .before .args in
+    let s = c .before .before .before .before .before .before .before .before .before .before .before .before .before .before .args in
     let q = square (radius (s .hall .config)) in
-    (ap length (c .close-scans .ensures .0) ∙ close-long q (s .dots .now) _ _, rows-meet q (s .dots .now) (s .rows .now) (s .i) (s .j) (c .before .before .before .before .before .before .before .meet .ensures) (c .before .before .before .before .before .before .if1 .taken) (c .close-scans .ensures .0) (c .close-scans .ensures .1))
+    (ap length (c .close-scans .ensures .0) ∙ close-long q (s .dots .now) _ _, rows-meet q (s .dots .now) (s .rows .now) (s .i) (s .j) (c .before .before .before .before .before .before .before .before .before .before .before .before .before .meet .ensures) (c .before .before .before .before .before .before .before .before .before .before .before .before .if1 .taken) (c .close-scans .ensures .0) (c .close-scans .ensures .1))
 
 returns-2 : tie.Need-returns-2
 returns-2 c =
     let s = c .before .before .args in
-    (c .before .before .pre .3, rows-apart (square (radius (s .hall .config))) (s .dots .now) (s .rows .now) (s .i) (s .j) (c .before .meet .ensures) (s .close .now) (c .if1 .left))
+    (ap length (c .before .before .pre .5), rows-apart (square (radius (s .hall .config))) (s .dots .now) (s .rows .now) (s .i) (s .j) (c .before .meet .ensures) (s .close .now) (c .if1 .left))
 
 pub close-rows-spec : {M : Type 1} → statement M
 close-rows-spec =
@@ -71,11 +92,17 @@ close-rows-spec =
     mul-b
     add-ea
     add-eb
-    mul-close-scans
+    element-copy-out-close-from
+    element-copy-out-close-from-2
+    close-from-requires
+    add-close-to
+    element-copy-out-close-to
+    add-close-to-2
+    element-copy-out-close-to-2
+    close-to-requires
     sub-close-scans
     part-close-scans-start
     part-close-scans-end
-    mul-close-scans-2
     sub-close-scans-2
     part-close-scans-start-2
     part-close-scans-end-2

@@ -24,12 +24,12 @@ row-copied rows row i h l k all =
 
 -- one entry more
 copied-more :
-    (rows row : List ℕ) (at k : ℕ) → length row ≡ 17 → k < 17 → ((m : ℕ) → m < k → getD row m 0 ≡ getD rows (at + m) 0) →
-    (m : ℕ) → m < k + 1 → getD (set row k (getD rows (at + k) 0)) m 0 ≡ getD rows (at + m) 0
-copied-more rows row at k l h all =
-    below-more (λ (m : ℕ). getD (set row k (getD rows (at + k) 0)) m 0 ≡ getD rows (at + m) 0) k
-    (λ m b. getD-set-other row k m (getD rows (at + k) 0) 0 (λ (z : m ≡ k). omega arith) ∙ all m b)
-    (getD-set-same row k (getD rows (at + k) 0) 0 (omega (arith, l)))
+    (rows row : List ℕ) (at k : ℕ) {v : ℕ} → v ≡ getD rows (at + k) 0 → length row ≡ 17 → k < 17 → ((m : ℕ) → m < k → getD row m 0 ≡ getD rows (at + m) 0) →
+    (m : ℕ) → m < k + 1 → getD (set row k v) m 0 ≡ getD rows (at + m) 0
+copied-more rows row at k {v} e l h all =
+    below-more (λ (m : ℕ). getD (set row k v) m 0 ≡ getD rows (at + m) 0) k
+    (λ m b. getD-set-other row k m v 0 (λ (z : m ≡ k). omega arith) ∙ all m b)
+    (getD-set-same row k v 0 (omega (arith, l)) ∙ e)
 
 abbrev Inv-loop : tie.InvT-loop
 Inv-loop i rows row₀ at k₀ row k =
@@ -44,17 +44,17 @@ mul-at c = omega arith
 loop-holds : tie.Need-loop-holds Inv-loop μ-loop
 loop-holds c = (omega arith, omega arith, omega arith, omega arith, omega arith, λ m b. absurd (omega arith))
 
-add-row : tie.Need-add-row Inv-loop μ-loop
-add-row c = omega arith
+add-wide : tie.Need-add-wide Inv-loop μ-loop
+add-wide c = omega arith
+
+element-copy-out-wide : tie.Need-element-copy-out-wide Inv-loop μ-loop
+element-copy-out-wide c = omega arith
+
+wide-requires : tie.Need-wide-requires Inv-loop μ-loop
+wide-requires c κs = tt
 
 mul-row : tie.Need-mul-row Inv-loop μ-loop
 mul-row c = omega arith
-
-element-copy-out-row : tie.Need-element-copy-out-row Inv-loop μ-loop
-element-copy-out-row c = omega arith
-
-mul-row-2 : tie.Need-mul-row-2 Inv-loop μ-loop
-mul-row-2 c = omega arith
 
 element-write-row : tie.Need-element-write-row Inv-loop μ-loop
 element-write-row c = omega arith
@@ -67,9 +67,9 @@ loop-less c = omega arith
 
 loop-again : tie.Need-loop-again Inv-loop μ-loop
 loop-again c =
-    let s = c .before .before .before .args in
-    let o = c .before .before .loop in
-    (omega arith, omega arith, omega arith, length-set (o .row) (o .k) (getD (s .rows .now) (19 * s .i + o .k) 0) ∙ o .inv .3, omega arith, copied-more (s .rows .now) (o .row) (19 * s .i) (o .k) (o .inv .3) (c .before .loop-test .taken) (o .inv .5))
+    let s = c .before .before .before .before .args in
+    let o = c .before .before .before .loop in
+    (omega arith, omega arith, omega arith, length-set (o .row) (o .k) (c .wide .result) ∙ o .inv .3, omega arith, copied-more (s .rows .now) (o .row) (19 * s .i) (o .k) (c .wide .ensures) (o .inv .3) (c .before .before .loop-test .taken) (o .inv .5))
 
 returns : tie.Need-returns Inv-loop μ-loop
 returns c =
@@ -85,10 +85,10 @@ copy-row-spec =
     μ-loop
     mul-at
     loop-holds
-    add-row
+    add-wide
+    element-copy-out-wide
+    wide-requires
     mul-row
-    element-copy-out-row
-    mul-row-2
     element-write-row
     add-k
     loop-less

@@ -7,7 +7,7 @@ use lib.ListN.{getD}
 use lib.Ieee.{binary64, add}
 use Rattle.windows.specs.Moves.{pairStays}
 use Rattle.search.specs.Pass.{sceneOf}
-use Rattle.search.proofs.Costing.{row-fit}
+use Rattle.search.proofs.Costing.{row-fit, row-costs}
 use Rattle.search.proofs.Stepping.{pair-best-is, pair-stays-is, pair-moves-is, pair-long, pair-leaves}
 use Rattle.search.proofs.Resting.{grows-none, stands-anew, marks-grow, marks-set}
 use Rattle.search.proofs.pass.pair_step.Statement.{statement}
@@ -74,7 +74,17 @@ best-of-pair-requires c κs =
     let a = getD (s .table .now) (s .i) 0 in
     let b = getD (s .table .now) (s .j) 0 in
     let p = c .before .before .before .before .before .before .before .before .before .before .before .before .before .before .before .before .before .pre in
-    (record { early = p .0 .early; kept = p .5 .kept }, row-fit e (s .ids .now) a (c .before .before .before .before .before .before .before .before .before .before .before .row-now .ensures) (c .before .before .before .before .before .before .part-of .ensures), row-fit e (s .ids .now) b (c .before .before .before .before .before .before .before .row-now2 .ensures) (c .before .before .before .before .before .part-of2 .ensures), p .4)
+    let ra = c .before .before .before .before .before .before .before .before .before .before .before .row-now .ensures in
+    let rb = c .before .before .before .before .before .before .before .row-now2 .ensures in
+    let pa = c .before .before .before .before .before .before .part-of .ensures in
+    let pb = c .before .before .before .before .before .part-of2 .ensures in (
+      record { early = p .0 .early; kept = p .5 .kept },
+      row-fit e (s .ids .now) a ra pa,
+      row-fit e (s .ids .now) b rb pb,
+      p .4,
+      p .5 .costed .each (s .i) (omega (arith, p .1, p .2)) ∙ sym (row-costs e (s .ids .now) a ra pa),
+      p .5 .costed .each (s .j) (p .2) ∙ sym (row-costs e (s .ids .now) b rb pb),
+    )
 
 pair-stays-requires : tie.Need-pair-stays-requires
 pair-stays-requires c κs = search needs
@@ -90,7 +100,7 @@ returns c =
     (λ x. add binary64 (p .5 .costed .each (s .i) (omega (arith, p .1, p .2)) x) (p .5 .costed .each (s .j) (p .2) x)) (c .before .before .best-of-pair .ensures .0) in
     let stays = sym (c .before .pair-stays .ensures) ∙ c .if1 .taken in (
       pair-stays-is e (s .close .now) a b (s .ids .now) (s .t) best stays,
-      record { costed = p .5 .costed; rows-long = p .5 .rows-long; marks = p .5 .marks; same = p .5 .same; kept = c .before .before .best-of-pair .ensures .1 },
+      record { costed = p .5 .costed; rows-long = p .5 .rows-long; entered = p .5 .entered; marks = p .5 .marks; same = p .5 .same; kept = c .before .before .best-of-pair .ensures .1 },
       grows-none (s .n) (s .moved .now),
       λ z. ap pairStays (sym best) ∙ stays,
     )

@@ -1,5 +1,7 @@
 -- `search::pass::pair_turn` meets its contract. Assumes nothing.
 use borrow.Author.Needs.{needs}
+use mathlib.Core.Path.{refl}
+use native.Mathlib.Omega.{arith}
 use Rattle.search.proofs.Resting.{grows-none}
 use Rattle.search.proofs.Sweeps.{turn-rests, turn-apart, turn-steps}
 use Rattle.search.proofs.pass.pair_turn.Statement.{statement}
@@ -15,7 +17,10 @@ returns c =
     (turn-rests (s .t) (p .1) (p .2) (p .5) (p .4) (c .before .pair-rests .ensures (c .if1 .taken)), p .5, grows-none (s .n) (s .moved .now))
 
 close-rows-requires : tie.Need-close-rows-requires
-close-rows-requires c κs = search needs
+close-rows-requires c κs =
+    let s = c .before .before .before .before .args in
+    let p = c .before .before .before .before .pre in
+    (omega (arith, p .3 .within), omega (arith, p .3 .within), p .5 .rows-long, p .5 .entered (s .i) (omega arith), p .5 .entered (s .j) (p .2), refl)
 
 pair-step-requires : tie.Need-pair-step-requires
 pair-step-requires c κs = search needs

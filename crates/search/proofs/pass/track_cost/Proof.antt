@@ -1,8 +1,10 @@
 -- `search::pass::track_cost` meets its contract. Assumes nothing.
 use borrow.Author.Needs.{needs}
-use mathlib.Core.Path.{sym}
+use mathlib.Core.Path.{_∙_}
+use native.Mathlib.Omega.{arith}
+use Rattle.pricing.proofs.Heads.{ends-at}
 use Rattle.search.specs.Pass.{sceneOf}
-use Rattle.search.proofs.Costing.{row-fit, row-asks, row-costs}
+use Rattle.search.proofs.Costing.{row-fit, row-costs}
 use Rattle.search.proofs.pass.track_cost.Statement.{statement}
 use Rattle.search.proofs.pass.track_cost.Tie as tie
 
@@ -12,25 +14,27 @@ fill-row-requires c κs = search needs
 part-of-requires : tie.Need-part-of-requires
 part-of-requires c κs = search needs
 
-slice-aggregate-cost-of : tie.Need-slice-aggregate-cost-of
-slice-aggregate-cost-of c =
+end-of-requires : tie.Need-end-of-requires
+end-of-requires c κs =
     let s = c .before .before .before .before .args in
     let e = sceneOf (s .hall) (s .starts .now) (s .dots .now) (s .tracks .now) (s .filters .now) in
-    sym (row-fit e (s .ids .now) (s .x) (c .before .before .fill-row .ensures) (c .before .part-of .ensures) .long)
+    row-fit e (s .ids .now) (s .x) (c .before .before .fill-row .ensures) (c .before .part-of .ensures) .long
 
-cost-of-requires : tie.Need-cost-of-requires
-cost-of-requires c κs =
-    let s = c .before .before .before .before .before .args in
+rest-cost-requires : tie.Need-rest-cost-requires
+rest-cost-requires c κs =
+    let s = c .before .before .before .before .before .before .before .args in
+    let p = c .before .before .before .before .before .before .before .pre in
     let e = sceneOf (s .hall) (s .starts .now) (s .dots .now) (s .tracks .now) (s .filters .now) in
-    row-asks e (s .ids .now) (s .x) (c .before .before .before .fill-row .ensures) (c .before .before .part-of .ensures) (c .before .before .before .before .before .pre .0) (c .before .before .before .before .before .pre .2)
+    let f = row-fit e (s .ids .now) (s .x) (c .before .before .before .before .before .fill-row .ensures) (c .before .before .before .before .part-of .ensures) in
+    (record { early = p .0 .early; kept = p .2 }, ends-at (f .long) (c .before .before .end-of .ensures), omega (arith, f .idle))
 
 returns : tie.Need-returns
 returns c =
-    let s = c .before .before .before .before .before .before .args in
+    let s = c .before .before .before .before .before .before .before .before .args in
     let e = sceneOf (s .hall) (s .starts .now) (s .dots .now) (s .tracks .now) (s .filters .now) in
-    (row-costs e (s .ids .now) (s .x) (c .before .before .before .before .fill-row .ensures) (c .before .before .before .part-of .ensures) (c .cost-of .ensures .0), c .cost-of .ensures .1)
+    (c .rest-cost .ensures .0 ∙ row-costs e (s .ids .now) (s .x) (c .before .before .before .before .before .before .fill-row .ensures) (c .before .before .before .before .before .part-of .ensures), c .rest-cost .ensures .1)
 
 pub track-cost-spec : {M : Type 1} → statement M
 track-cost-spec =
     tie.close
-    (tie.spec fill-row-requires part-of-requires slice-aggregate-cost-of cost-of-requires returns)
+    (tie.spec fill-row-requires part-of-requires end-of-requires rest-cost-requires returns)

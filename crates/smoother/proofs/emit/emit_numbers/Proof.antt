@@ -4,7 +4,8 @@ use mathlib.Core.Path.{ap, _∙_}
 use mathlib.Core.List.{_++_}
 use native.Mathlib.Omega.{arith}
 use lib.ListN.{length, take, drop, length-append, length-drop}
-use lib.Seq.{paste, length-take-le}
+use lib.Seq.{length-take-le}
+use Rattle.buffers.specs.Buffers.{over as overAt}
 use Rattle.refined.specs.Frame.{trackCount}
 use Rattle.smoother.specs.Pass.{statesTo, emitted}
 use Rattle.smoother.specs.Window.{wordsIn, numbersIn, frameIn, framesIn}
@@ -53,7 +54,7 @@ returns c =
     let e = c .before .before .before .before .before .before .before .before .before .before .put-states .last .0 in
     let s = statesTo (g .s .density) (framesIn (g .s) (g .win .now) (g .nums .now)) (frameIn (g .s) (g .win .now) (g .nums .now) 0) T in
     let X = numbersIn (g .s) (g .win .now) (g .nums .now) 0 in
-    let r = c .before .before .put-numbers .ensures ∙ ap (λ m. paste e (42 * m) (take (length (x .result .now) - 42 * m) (drop (42 * m) (x .result .now))) (length (take (length (x .result .now) - 42 * m) (drop (42 * m) (x .result .now))))) t in (
+    let r = c .before .before .put-numbers .ensures ∙ ap (λ m. overAt (42 * m) (take (length (x .result .now) - 42 * m) (drop (42 * m) (x .result .now))) e) t in (
       omega (arith, length-append s (drop (42 * T) X), length-drop (42 * T) X, c .before .before .before .before .before .before .before .before .before .before .put-states .ensures .1, ap length (x .ensures .0), x .ensures .1, tracks-of (g .s) (g .win .now) 0),
       costs (g .numbers .now) (x .result .now) e (c .before .before .put-numbers .last .0) s (42 * T) (c .before .before .before .before .before .before .before .before .before .before .put-states .ensures .0) (c .before .before .before .before .before .before .before .before .before .before .put-states .ensures .1) r
           ∙ ap (λ x. over (s ++ drop (42 * T) x) (g .numbers .now)) (x .ensures .0),

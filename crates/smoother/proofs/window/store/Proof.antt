@@ -4,8 +4,8 @@ use mathlib.Core.Path.{_≡_, refl, ap, _∙_}
 use mathlib.Core.List.{List, [], _∷_, _++_}
 use native.Mathlib.Omega.{arith}
 use lib.ListN.{length}
-use lib.Seq.{paste}
 use lib.Ieee.{Float}
+use Rattle.buffers.specs.Buffers.{over}
 use Rattle.smoother.specs.declared.FixedLagSmoother.{FixedLagSmoother}
 use Rattle.refined.specs.Frame.{SmootherFrame, wordsLong, numbersLong}
 use Rattle.smoother.specs.Window.{slotOf, wide, deep, framesIn, more}
@@ -17,12 +17,12 @@ use Rattle.smoother.proofs.window.store.Tie as tie
 
 -- what the two stores leave
 ends : (s : FixedLagSmoother) (win w : List ℕ) (nums x : List Float) (f : SmootherFrame) (at : ℕ) → at ≡ slotOf s (s .held)
-    → w ≡ paste win (at * wide s) (f .words) (length (f .words)) → x ≡ paste nums (at * deep s) (f .numbers) (length (f .numbers)) → s .held ≤ s .lag
+    → w ≡ over (at * wide s) (f .words) win → x ≡ over (at * deep s) (f .numbers) nums → s .held ≤ s .lag
     → length win ≡ (s .lag + 1) * wide s → length nums ≡ (s .lag + 1) * deep s → length (f .words) ≡ wordsLong (f .words) → length (f .numbers) ≡ numbersLong (f .words)
     → wordsLong (f .words) ≤ wide s → numbersLong (f .words) ≤ deep s → framesIn (more s) w x ≡ framesIn s win nums ++ (f ∷ [])
 ends s win w nums x f at e p q b c d l m g h =
-    let u = p ∙ ap (λ n. paste win (n * wide s) (f .words) (length (f .words))) e in
-    let v = q ∙ ap (λ n. paste nums (n * deep s) (f .numbers) (length (f .numbers))) e in
+    let u = p ∙ ap (λ n. over (n * wide s) (f .words) win) e in
+    let v = q ∙ ap (λ n. over (n * deep s) (f .numbers) nums) e in
     (λ i. framesIn (more s) (u i) (v i)) ∙ stored s win nums f b c d l m g h
 
 mul-put-words-2 : tie.Need-mul-put-words-2

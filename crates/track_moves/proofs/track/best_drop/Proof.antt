@@ -1,87 +1,70 @@
 -- `track_moves::track::best_drop` meets its contract. Assumes nothing.
 use borrow.Author.Tests.{lt-ltb, le-ltb}
-use mathlib.Core.Path.{_≡_, refl, sym, ap, _∙_}
+use mathlib.Core.Path.{_≡_, refl, sym, _∙_}
 use mathlib.Core.Bool.{true, false}
 use mathlib.Core.List.{List}
 use mathlib.Core.Logic.{⊎-elim}
-use Prim.Native.Nat.{ℕ, suc, _+_, _-_, _≤_, _<_}
+use Prim.Native.Nat.{ℕ, _+_, _-_, _≤_, _<_}
 use native.Mathlib.Omega.{arith}
-use lib.ListN.{length, take, drop}
-use lib.Ieee.{Float, binary64, add, sub}
-use Rattle.engine.specs.declared.config.FgoConfig.{FgoConfig}
-use Rattle.engine.specs.Config.{clutter}
-use Rattle.costs.specs.declared.cost.Fold.{Fold}
-use Rattle.costs.specs.Cost.{View, Kept, dets, cost, closed}
-use Rattle.costs.proofs.Steps.{run-append}
+use lib.ListN.{getD}
+use lib.Ieee.{Float, nan}
 use Rattle.model.specs.declared.moves.TrackMove.{TrackMove}
 use Rattle.model.specs.declared.moves.TrackMove.the-variants.{Drop}
 use Rattle.model.specs.Searching.{betterTrack}
-use Rattle.track_moves.specs.declared.track.Head.{Head}
-use Rattle.track_moves.specs.Track.{marked, marks, tryDropRow, bestDropRow, triedDrop}
-use Rattle.pricing.specs.Price.{scanAt, viewIn}
-use Rattle.pricing.proofs.Left.{bestFrom, best-yes, best-no, best-end}
-use Rattle.pricing.proofs.Heads.{Along, begins, passes, on-to, taken-on, until}
+use Rattle.track_moves.specs.Track.{marked, marks, bestDropBy}
+use Rattle.pricing.specs.Price.{Ends}
+use Rattle.pricing.proofs.Left.{bestFrom, best-yes, best-no, best-over}
 use Rattle.track_moves.proofs.track.best_drop.Statement.{statement}
 use Rattle.track_moves.proofs.track.best_drop.Tie as tie
 
--- the head stands at the last detection, and what is left from k on gives the best of all
-record Drops (c : FgoConfig) (v : View) (p : Fold) (r : List ℕ) (base : Float) (best : TrackMove) (h : Head) (k : ℕ) : Type 0 where
-  within : k ≤ 17
-  along : Along c v p r k (h .done) (h .fold)
-  left : bestFrom betterTrack (tryDropRow c v p r base) (marked r) 17 k (h .best) ≡ bestDropRow c v p r base best
+abbrev by : ℕ → List Float → ℕ → TrackMove
+by first gains k = Drop (record { 0 = first + k }) (getD gains k nan)
 
-module _ {c : FgoConfig} {v : View} {p : Fold} {r : List ℕ} {base : Float} {best : TrackMove} {h : Head} {k : ℕ} (s : Drops c v p r base best h k) where
-  tries : k < 17 → length r ≡ 17 → marked r k ≡ true → Drops c v p r base best (triedDrop c v r base h k) (k + 1)
-  unfolding triedDrop tryDropRow
-  tries g l t =
-      let tail = dets v (suc k) (drop (suc k) r) in
-      let x = ap (λ (f : Fold). cost c f tail) (on-to (s .along) (omega arith)) ∙ sym (ap (closed c) (run-append c p (dets v 0 (take k r)) tail)) in
-      record {
-        within = omega arith;
-        along = taken-on (s .along) (omega arith);
-        left =
-            ap (λ (y : Float). bestFrom betterTrack (tryDropRow c v p r base) (marked r) 17 (k + 1) (betterTrack (h .best) (Drop (scanAt v k) (sub binary64 (add binary64 y (clutter c)) base)))) x
-            ∙ best-yes betterTrack (tryDropRow c v p r base) (marked r) 17 k (h .best) g t
-            ∙ s .left;
-      }
+-- what is left from k on gives the best of all
+record Drops (first : ℕ) (gains : List Float) (r : List ℕ) (end : ℕ) (start best : TrackMove) (k : ℕ) : Type 0 where
+  within : k ≤ end
+  left : bestFrom betterTrack (by first gains) (marked r) 17 k best ≡ bestDropBy first gains r start
 
-  skips : k < 17 → marked r k ≡ false → Drops c v p r base best h (k + 1)
-  skips g t =
-      record {
-        within = omega arith;
-        along = passes (s .along);
-        left = best-no betterTrack (tryDropRow c v p r base) (marked r) 17 k (h .best) g t ∙ s .left;
-      }
+module _ {first : ℕ} {gains : List Float} {r : List ℕ} {end : ℕ} {start best : TrackMove} {k : ℕ} (e : Ends end r) (s : Drops first gains r end start best k) where
+  tries : k < end → marked r k ≡ true → Drops first gains r end start (betterTrack best (by first gains k)) (k + 1)
+  tries g t = record { within = omega arith; left = best-yes betterTrack (by first gains) (marked r) 17 k best (omega (arith, e .within)) t ∙ s .left }
 
-  ends : 17 ≤ k → h .best ≡ bestDropRow c v p r base best
-  ends g = sym (best-end betterTrack (tryDropRow c v p r base) (marked r) 17 k (h .best) g) ∙ s .left
+  skips : k < end → marked r k ≡ false → Drops first gains r end start best (k + 1)
+  skips g t = record { within = omega arith; left = best-no betterTrack (by first gains) (marked r) 17 k best (omega (arith, e .within)) t ∙ s .left }
+
+  ends : end ≤ k → best ≡ bestDropBy first gains r start
+  ends g = sym (best-over betterTrack (by first gains) (marked r) 17 k best (λ j h. le-ltb 0 (getD r j 0) (omega (arith, e .empty j (omega arith))))) ∙ s .left
 
 abbrev Inv-loop : tie.InvT-loop
-Inv-loop hall row base dots logs₀ h₀ k₀ logs h k = Drops (hall .config) (viewIn hall dots) (h₀ .fold) row base (h₀ .best) h k × Kept logs
+Inv-loop hall row end gains best₀ k₀ best k = Drops (hall .first .0) gains row end best₀ best k
 
 abbrev μ-loop : tie.MeasureT-loop
-μ-loop hall row base dots logs₀ h₀ k₀ logs h k = 17 - k
+μ-loop hall row end gains best₀ k₀ best k = end - k
 
 loop-holds : tie.Need-loop-holds Inv-loop μ-loop
-unfolding bestDropRow marks
-loop-holds c =
-    let s = c .args in
-    (record { within = omega arith; along = begins (s .hall .config) (viewIn (s .hall) (s .dots .now)) (s .p) (s .row .now); left = refl }, c .pre .0 .kept)
+unfolding bestDropBy marks
+loop-holds c = record { within = omega arith; left = refl }
 
 mul-if1 : tie.Need-mul-if1 Inv-loop μ-loop
-mul-if1 c = omega arith
+mul-if1 c = omega (arith, c .before .before .pre .1 .within)
 
 element-copy-out-if1 : tie.Need-element-copy-out-if1 Inv-loop μ-loop
-element-copy-out-if1 c = omega (arith, c .before .before .pre .1 .long)
+element-copy-out-if1 c = let e = c .before .before .pre .1 in omega (arith, e .within, e .long)
 
-try-drop-requires : tie.Need-try-drop-requires Inv-loop μ-loop
-try-drop-requires c κs =
-    let p = c .before .before .before .before .before .pre in
-    let i = c .before .before .before .before .loop .inv in
-    (record { early = p .0 .early; kept = i .1 }, omega arith, until (i .0 .along) (p .0 .early) (p .1))
+add-t15 : tie.Need-add-t15 Inv-loop μ-loop
+add-t15 c = let p = c .before .before .before .before .before .pre in omega (arith, p .0, p .1 .within)
+
+mul-t16 : tie.Need-mul-t16 Inv-loop μ-loop
+mul-t16 c = omega (arith, c .before .before .before .before .before .pre .1 .within)
+
+element-copy-out-t19 : tie.Need-element-copy-out-t19 Inv-loop μ-loop
+element-copy-out-t19 c = let p = c .before .before .before .before .before .pre in omega (arith, p .1 .within, p .2)
+
+better-track-requires : tie.Need-better-track-requires Inv-loop μ-loop
+better-track-requires c κs = tt
 
 add-k : tie.Need-add-k Inv-loop μ-loop
-add-k c = omega arith
+add-k c = omega (arith, c .before .before .before .before .pre .1 .within)
 
 loop-less : tie.Need-loop-less Inv-loop μ-loop
 loop-less c = omega arith
@@ -89,13 +72,15 @@ loop-less c = omega arith
 loop-again : tie.Need-loop-again Inv-loop μ-loop
 loop-again c =
     let i = c .before .before .before .loop .inv in
+    let e = c .before .before .before .before .pre .1 in
+    let g = c .before .before .loop-test .taken in
     ⊎-elim
-    (λ w. rw (w .3, w .4, w .2 .ensures .0) (tries (i .0) (omega arith) (c .before .before .before .before .pre .1 .long) (lt-ltb _ _ (w .0 .taken)), w .2 .ensures .1))
-    (λ w. rw (w .1, w .2) (skips (i .0) (omega arith) (le-ltb _ _ (w .0 .left)), i .1))
+    (λ w. rw (w .4, w .3 .ensures) (tries e i g (lt-ltb _ _ (w .0 .taken))))
+    (λ w. rw (w .1) (skips e i g (le-ltb _ _ (w .0 .left))))
     (c .if1 .came)
 
 returns : tie.Need-returns Inv-loop μ-loop
-returns c = let i = c .before .loop .inv in (ends (i .0) (omega arith), i .1)
+returns c = ends (c .before .before .pre .1) (c .before .loop .inv) (c .loop-test .left)
 
 pub best-drop-spec : {M : Type 1} → statement M
 best-drop-spec =
@@ -106,7 +91,10 @@ best-drop-spec =
     loop-holds
     mul-if1
     element-copy-out-if1
-    try-drop-requires
+    add-t15
+    mul-t16
+    element-copy-out-t19
+    better-track-requires
     add-k
     loop-less
     loop-again

@@ -1,13 +1,15 @@
 -- `track_moves::track::best_split` meets its contract. Assumes nothing.
 use borrow.Author.Tests.{lt-ltb, le-ltb}
+use borrow.Author.Count.{below-more}
 use mathlib.Core.Path.{_≡_, refl, sym, ap, _∙_}
 use mathlib.Core.Bool.{Bool, true, false, cond}
 use mathlib.Core.List.{List, [], _∷_, map, foldl}
 use mathlib.Core.Logic.{⊎-elim}
-use Prim.Native.Nat.{ℕ, _+_, _-_, _≤_, _<_}
+use Prim.Native.Nat.{ℕ, suc, _+_, _-_, _≤_, _<_}
 use native.Mathlib.Omega.{arith}
-use lib.ListN.{length, drop}
-use lib.Ieee.{Float, binary64, add, sub}
+use lib.ListN.{length, getD, set, drop, length-set}
+use lib.Seq.{getD-set-same, getD-set-other}
+use lib.Ieee.{Float, nan, binary64, add, sub}
 use Rattle.engine.specs.declared.config.FgoConfig.{FgoConfig}
 use Rattle.costs.specs.declared.cost.Fold.{Fold}
 use Rattle.costs.specs.declared.cost.Fold.the-variants.{Fresh}
@@ -15,11 +17,10 @@ use Rattle.costs.specs.Cost.{View, Kept, dets, cost, closed}
 use Rattle.model.specs.declared.moves.TrackMove.{TrackMove}
 use Rattle.model.specs.declared.moves.TrackMove.the-variants.{Split}
 use Rattle.model.specs.Searching.{betterTrack}
-use Rattle.track_moves.specs.declared.track.Head.{Head}
-use Rattle.track_moves.specs.Track.{marked, marks, trySplitRow, bestSplitRow, triedSplit}
-use Rattle.pricing.specs.Price.{scanAt, viewIn}
-use Rattle.pricing.proofs.Left.{left, left-yes, left-no, left-none}
-use Rattle.pricing.proofs.Heads.{Along, begins, passes, on-to, taken-on, until}
+use Rattle.track_moves.specs.Track.{marked, marks, trySplitRow, bestSplitRow, betterSplit, dropGain, Dropped}
+use Rattle.pricing.specs.Price.{headOf, onTo, scanAt, viewIn, Ends}
+use Rattle.pricing.proofs.Left.{left, left-yes, left-no, left-over}
+use Rattle.pricing.proofs.Heads.{Along, begins, passes, on-to, taken-on, until, few-on}
 use Rattle.track_moves.proofs.track.best_split.Statement.{statement}
 use Rattle.track_moves.proofs.track.best_split.Tie as tie
 
@@ -30,83 +31,132 @@ after seen l = drop (cond seen 0 1) l
 abbrev bestAfter : FgoConfig → View → Fold → List ℕ → Float → Bool → ℕ → TrackMove → TrackMove
 bestAfter c v p r base seen k b = foldl betterTrack b (map (trySplitRow c v p r base) (after seen (left (marked r) 17 k)))
 
--- the head stands at the last split, and what is left from k on gives the best of all
-record Splits (c : FgoConfig) (v : View) (p : Fold) (r : List ℕ) (base : Float) (h : Head) (seen : Bool) (k : ℕ) : Type 0 where
-  within : k ≤ 17
-  along : Along c v p r k (h .done) (h .fold)
-  rest : bestAfter c v p r base seen k (h .best) ≡ bestSplitRow c v p r base
+-- the fold stands at the last detection, and what is left from k on gives the best of all; the drops before k are noted
+record Splits (c : FgoConfig) (v : View) (p : Fold) (r : List ℕ) (base : Float) (end : ℕ) (gains : List Float) (best : TrackMove) (fold : Fold) (done : ℕ) (seen : Bool) (k : ℕ) : Type 0 where
+  within : k ≤ end
+  along : Along c v p r k done fold
+  rest : bestAfter c v p r base seen k best ≡ bestSplitRow c v p r base
+  drops : Dropped c v p r base k gains
 
-module _ {c : FgoConfig} {v : View} {p : Fold} {r : List ℕ} {base : Float} {h : Head} {seen : Bool} {k : ℕ} (s : Splits c v p r base h seen k) where
-  at : (b : TrackMove) (l : List ℕ) → left (marked r) 17 k ≡ l → foldl betterTrack b (map (trySplitRow c v p r base) (after seen l)) ≡ bestAfter c v p r base seen k b
-  at b l e = ap (λ (m : List ℕ). foldl betterTrack b (map (trySplitRow c v p r base) (after seen m))) (sym e)
-
-  tries : k < 17 → length r ≡ 17 → marked r k ≡ true → seen ≡ true → Splits c v p r base (triedSplit c v r base h k) true (k + 1)
-  unfolding triedSplit trySplitRow
-  tries g l t e =
-      let x = ap (closed c) (on-to (s .along) (omega arith)) in
+-- the drop of the detection in scan k is noted
+module _ {c : FgoConfig} {v : View} {p : Fold} {r : List ℕ} {base : Float} {k : ℕ} {gains : List Float} (d : Dropped c v p r base k gains) where
+  notes : k < 17 → {g : Float} → g ≡ dropGain c v (headOf c v p r k) r k base → Dropped c v p r base (k + 1) (set gains k g)
+  notes h {g} e =
       record {
-        within = omega arith;
-        along = taken-on (s .along) (omega arith);
-        rest =
-            ap (λ (y : Float). bestAfter c v p r base true (k + 1) (betterTrack (h .best) (Split (scanAt v k) (sub binary64 (add binary64 y (cost c Fresh (dets v k (drop k r)))) base)))) x
-            ∙ ap (λ (b : Bool). foldl betterTrack (h .best) (map (trySplitRow c v p r base) (after b (k ∷ left (marked r) 17 (k + 1))))) (sym e)
-            ∙ at (h .best) (k ∷ left (marked r) 17 (k + 1)) (left-yes (marked r) 17 k g t)
-            ∙ s .rest;
+        long = length-set gains k g ∙ d .long;
+        each =
+            below-more (λ j. marked r j ≡ true → getD (set gains k g) j nan ≡ dropGain c v (headOf c v p r j) r j base) k
+            (λ j l t. getD-set-other gains k j g nan (λ (q : j ≡ k). omega arith) ∙ d .each j l t)
+            (λ t. getD-set-same gains k g nan (omega (arith, d .long)) ∙ e);
       }
 
-  -- the first detection
-  sees : k < 17 → marked r k ≡ true → seen ≡ false → Splits c v p r base h true (k + 1)
-  sees g t e =
+  -- there is none
+  passes-on : marked r k ≡ false → Dropped c v p r base (k + 1) gains
+  passes-on t =
       record {
-        within = omega arith;
-        along = passes (s .along);
-        rest =
-            ap (λ (b : Bool). foldl betterTrack (h .best) (map (trySplitRow c v p r base) (after b (k ∷ left (marked r) 17 (k + 1))))) (sym e)
-            ∙ at (h .best) (k ∷ left (marked r) 17 (k + 1)) (left-yes (marked r) 17 k g t)
-            ∙ s .rest;
+        long = d .long;
+        each = below-more (λ j. marked r j ≡ true → getD gains j nan ≡ dropGain c v (headOf c v p r j) r j base) k (d .each) (λ u. let n : _≡_ {A = ℕ} 0 1 = cc in absurd (omega arith));
       }
 
-  skips : k < 17 → marked r k ≡ false → Splits c v p r base h seen (k + 1)
+module _ {c : FgoConfig} {v : View} {p : Fold} {r : List ℕ} {base : Float} {end : ℕ} {gains : List Float} {best : TrackMove} {fold : Fold} {done : ℕ} {seen : Bool} {k : ℕ} (e : Ends end r) (s : Splits c v p r base end gains best fold done seen k) where
+  at : (l : List ℕ) → left (marked r) 17 k ≡ l → foldl betterTrack best (map (trySplitRow c v p r base) (after seen l)) ≡ bestAfter c v p r base seen k best
+  at l q = ap (λ (m : List ℕ). foldl betterTrack best (map (trySplitRow c v p r base) (after seen m))) (sym q)
+
+  -- a detection; there is no split before the first
+  tries : k < end → marked r k ≡ true → {f : Fold} {b : TrackMove} {g : Float} → f ≡ onTo c v done k r fold → b ≡ betterSplit c v best seen f r k base → g ≡ dropGain c v f r k base →
+      Splits c v p r base end (set gains k g) b f k true (k + 1)
+  tries g t {f} ef eb eg =
+      let h : k < 17 = omega (arith, e .within) in
+      let q = ef ∙ on-to (s .along) (omega (arith, e .long)) in
+      record {
+        within = omega arith;
+        along = rw ef (taken-on (s .along) (omega (arith, e .long)));
+        rest = ap (bestAfter c v p r base true (k + 1)) eb ∙ split seen q ∙ at (k ∷ left (marked r) 17 (k + 1)) (left-yes (marked r) 17 k h t) ∙ s .rest;
+        drops = notes (s .drops) h (eg ∙ ap (λ (x : Fold). dropGain c v x r k base) q);
+      }
+    where
+      split : (b : Bool) → f ≡ headOf c v p r k →
+          bestAfter c v p r base true (k + 1) (betterSplit c v best b f r k base) ≡ foldl betterTrack best (map (trySplitRow c v p r base) (after b (k ∷ left (marked r) 17 (k + 1))))
+      split true q =
+          unfold trySplitRow in
+          ap (λ (x : Fold). bestAfter c v p r base true (k + 1) (betterTrack best (Split (scanAt v k) (sub binary64 (add binary64 (closed c x) (cost c Fresh (dets v k (drop k r)))) base)))) q
+      split false q = refl
+
+  skips : k < end → marked r k ≡ false → Splits c v p r base end gains best fold done seen (k + 1)
   skips g t =
       record {
         within = omega arith;
         along = passes (s .along);
-        rest = at (h .best) (left (marked r) 17 (k + 1)) (left-no (marked r) 17 k g t) ∙ s .rest;
+        rest = at (left (marked r) 17 (k + 1)) (left-no (marked r) 17 k (omega (arith, e .within)) t) ∙ s .rest;
+        drops = passes-on (s .drops) t;
       }
 
-  ends : 17 ≤ k → h .best ≡ bestSplitRow c v p r base
-  ends g = none seen ∙ at (h .best) [] (left-none (marked r) 17 k g) ∙ s .rest
+  ends : end ≤ k → best ≡ bestSplitRow c v p r base
+  ends g = none seen ∙ at [] (left-over (marked r) 17 k (λ j h. le-ltb 0 (getD r j 0) (omega (arith, e .empty j (omega arith))))) ∙ s .rest
     where
-      none : (b : Bool) → h .best ≡ foldl betterTrack (h .best) (map (trySplitRow c v p r base) (after b []))
+      none : (b : Bool) → best ≡ foldl betterTrack best (map (trySplitRow c v p r base) (after b []))
       none true = refl
       none false = refl
 
+  noted : end ≤ k → Dropped c v p r base end gains
+  noted g = record { long = s .drops .long; each = λ j l. s .drops .each j (omega arith) }
+
 abbrev Inv-loop : tie.InvT-loop
-Inv-loop hall row base dots logs₀ h₀ seen₀ k₀ logs h seen k = Splits (hall .config) (viewIn hall dots) (h₀ .fold) row base h seen k × Kept logs
+Inv-loop hall row end base gains₀ dots logs₀ best₀ fold₀ done₀ seen₀ k₀ gains logs best fold done seen k =
+    Splits (hall .config) (viewIn hall dots) fold₀ row base end gains best fold done seen k × Kept logs
 
 abbrev μ-loop : tie.MeasureT-loop
-μ-loop hall row base dots logs₀ h₀ seen₀ k₀ logs h seen k = 17 - k
+μ-loop hall row end base gains₀ dots logs₀ best₀ fold₀ done₀ seen₀ k₀ gains logs best fold done seen k = end - k
 
 loop-holds : tie.Need-loop-holds Inv-loop μ-loop
 unfolding bestSplitRow marks
 loop-holds c =
-    let s = c .args in
-    (record { within = omega arith; along = begins (s .hall .config) (viewIn (s .hall) (s .dots .now)) (s .p) (s .row .now); rest = refl }, c .pre .0 .kept)
+    let s = c .args in (
+      record {
+        within = omega arith;
+        along = begins (s .hall .config) (viewIn (s .hall) (s .dots .now)) (s .p) (s .row .now);
+        rest = refl;
+        drops = record { long = c .pre .3; each = λ j h. absurd (omega arith) };
+      },
+      c .pre .0 .kept,
+    )
 
 mul-if1 : tie.Need-mul-if1 Inv-loop μ-loop
-mul-if1 c = omega arith
+mul-if1 c = omega (arith, c .before .before .pre .2 .within)
 
 element-copy-out-if1 : tie.Need-element-copy-out-if1 Inv-loop μ-loop
-element-copy-out-if1 c = omega (arith, c .before .before .pre .1 .long)
+element-copy-out-if1 c = let e = c .before .before .pre .2 in omega (arith, e .within, e .long)
 
-try-split-requires : tie.Need-try-split-requires Inv-loop μ-loop
-try-split-requires c κs =
-    let p = c .before .before .before .before .before .before .pre in
-    let i = c .before .before .before .before .before .loop .inv in
-    (record { early = p .0 .early; kept = i .1 }, omega arith, until (i .0 .along) (p .0 .early) (p .1))
+run-to-requires : tie.Need-run-to-requires Inv-loop μ-loop
+run-to-requires c κs =
+    let p = c .before .before .before .before .before .pre in
+    let i = c .before .before .before .before .loop .inv in
+    (record { early = p .0 .early; kept = i .1 }, omega (arith, p .2 .within), until (i .0 .along) (p .0 .early) (p .1))
+
+better-split-requires : tie.Need-better-split-requires Inv-loop μ-loop
+better-split-requires c κs =
+    let p = c .before .before .before .before .before .before .before .pre in
+    (record { early = p .0 .early; kept = c .before .run-to .ensures .1 }, p .2, omega (arith, p .2 .within))
+
+drop-gain-requires : tie.Need-drop-gain-requires Inv-loop μ-loop
+drop-gain-requires c κs =
+    let p = c .before .before .before .before .before .before .before .before .before .pre in
+    let i = c .before .before .before .before .before .before .before .before .loop .inv in
+    let h = c .before .before .before .before .before .before .before .loop-test .taken in (
+      record { early = p .0 .early; kept = c .before .better-split .ensures .1 },
+      p .2,
+      few-on (i .0 .along) (omega (arith, p .2 .within, p .2 .long)) (p .0 .early) (p .1) (c .before .before .before .run-to .ensures .0),
+      omega (arith, p .2 .within),
+    )
+
+mul-gains : tie.Need-mul-gains Inv-loop μ-loop
+mul-gains c = omega (arith, c .before .before .before .before .before .before .before .before .before .before .pre .2 .within)
+
+element-write-gains : tie.Need-element-write-gains Inv-loop μ-loop
+element-write-gains c = omega (arith, c .before .before .before .before .before .before .before .before .before .before .pre .2 .within, c .before .before .before .before .before .before .before .before .before .loop .inv .0 .drops .long)
 
 add-k : tie.Need-add-k Inv-loop μ-loop
-add-k c = omega arith
+add-k c = omega (arith, c .before .before .before .before .pre .2 .within)
 
 loop-less : tie.Need-loop-less Inv-loop μ-loop
 loop-less c = omega arith
@@ -114,15 +164,18 @@ loop-less c = omega arith
 loop-again : tie.Need-loop-again Inv-loop μ-loop
 loop-again c =
     let i = c .before .before .before .loop .inv in
+    let e = c .before .before .before .before .pre .2 in
+    let g = c .before .before .loop-test .taken in
     ⊎-elim
-    (λ w. rw (w .4, w .5, w .6, w .3 .ensures .0) (tries (i .0) (omega arith) (c .before .before .before .before .pre .1 .long) (lt-ltb _ _ (w .0 .taken)) (w .1 .taken), w .3 .ensures .1))
-    (⊎-elim
-    (λ w. rw (w .2, w .3, w .4) (sees (i .0) (omega arith) (lt-ltb _ _ (w .0 .taken)) (w .1 .left), i .1))
-    (λ w. rw (w .1, w .2, w .3) (skips (i .0) (omega arith) (le-ltb _ _ (w .0 .left)), i .1)))
+    (λ w. rw (w .7, w .8, w .9, w .10, w .11, w .12) (tries e (i .0) g (lt-ltb _ _ (w .0 .taken)) (w .2 .ensures .0) (w .4 .ensures .0) (w .6 .ensures .0), w .6 .ensures .1))
+    (λ w. rw (w .1, w .2, w .3, w .4, w .5, w .6) (skips e (i .0) g (le-ltb _ _ (w .0 .left)), i .1))
     (c .if1 .came)
 
 returns : tie.Need-returns Inv-loop μ-loop
-returns c = let i = c .before .loop .inv in (ends (i .0) (omega arith), i .1)
+returns c =
+    let i = c .before .loop .inv in
+    let e = c .before .before .pre .2 in
+    (ends e (i .0) (c .loop-test .left), noted e (i .0) (c .loop-test .left), i .1)
 
 pub best-split-spec : {M : Type 1} → statement M
 best-split-spec =
@@ -133,7 +186,11 @@ best-split-spec =
     loop-holds
     mul-if1
     element-copy-out-if1
-    try-split-requires
+    run-to-requires
+    better-split-requires
+    drop-gain-requires
+    mul-gains
+    element-write-gains
     add-k
     loop-less
     loop-again

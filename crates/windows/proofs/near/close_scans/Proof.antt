@@ -1,49 +1,124 @@
 -- `windows::near::close_scans` meets its contract. Assumes nothing.
 use mathlib.Core.Path.{_≡_, refl, sym, ap, _∙_}
-use mathlib.Core.Bool.{Bool, false, _||_, or-true, or-false}
+use mathlib.Core.Bool.{Bool, true, false, _||_, or-true}
 use mathlib.Core.List.{List, [], _∷_}
 use mathlib.Core.Logic.{⊎-elim}
-use Prim.Native.Nat.{ℕ, _+_, _-_, _<_}
+use Prim.Native.Nat.{ℕ, zero, suc, _+_, _-_, _≤_, _<_}
 use native.Mathlib.Nat.{zero-add}
-use native.Mathlib.Numerals.{add-one}
+use native.Mathlib.Decide.{decLt}
 use native.Mathlib.Omega.{arith}
-use lib.ListN.{length, getD, take}
-use lib.Seq.{take-suc, take-all}
+use lib.ListN.{length, getD, set, replicate, length-set}
+use lib.Seq.{ext-getD, getD-set-same, getD-set-other}
 use lib.Ieee.{Float}
+use borrow.Author.Count.{below-more}
 use Rattle.model.specs.Lists.{any}
-use Rattle.model.proofs.Counting.{any-append}
-use Rattle.windows.specs.Near.{closeAt, closeScans, anyClose}
-use Rattle.windows.proofs.Filled.{Filling, fills, filled, filled-length, map-up-length, map-up-at}
+use Rattle.windows.specs.Near.{closeSlots, closeAt, closeScans, anyClose, CloseWithin}
+use Rattle.windows.proofs.Filled.{map-up-length, map-up-at}
 use Rattle.windows.proofs.near.close_scans.Statement.{statement}
 use Rattle.windows.proofs.near.close_scans.Tie as tie
 
-at-scan : (q : Float) (dots : List Float) (a b : List ℕ) (k : ℕ) → k < 17 → getD (closeScans q dots a b) k false ≡ closeAt q dots a b k
-unfolding closeScans
-at-scan q dots a b k h = map-up-at (closeAt q dots a b) 0 17 k false h ∙ ap (closeAt q dots a b) (zero-add k)
+-- up to scan k the scans are noted, from there on none; x and y are the entries of the rows in scan k
+record Noting (q : Float) (dots : List Float) (a b : List ℕ) (close : List Bool) (found : Bool) (k x y : ℕ) : Type 0 where
+  long : length close ≡ 17
+  noted : (m : ℕ) → m < k → getD close m false ≡ closeAt q dots a b m
+  left : (m : ℕ) → k ≤ m → getD close m false ≡ false
+  any : found ≡ anyClose close
+  mine : x ≡ getD a k 0
+  theirs : y ≡ getD b k 0
 
-any-more : (t : List Bool) (k : ℕ) → k < length t → anyClose (take (k + 1) t) ≡ (anyClose (take k t) || getD t k false)
+none-noted : (n m : ℕ) → getD (replicate n false) m false ≡ false
+none-noted zero m = refl
+none-noted (suc n) zero = refl
+none-noted (suc n) (suc m) = none-noted n m
+
+any-set : (l : List Bool) (k : ℕ) → k < length l → anyClose (set l k true) ≡ true
 unfolding any
-any-more t k h =
-    ap (λ (n : ℕ). anyClose (take n t)) (add-one k)
-    ∙ ap anyClose (take-suc t k false h)
-    ∙ any-append (λ (b : Bool). b) (take k t) (getD t k false ∷ [])
-    ∙ ap (λ (x : Bool). anyClose (take k t) || x) (or-false (getD t k false))
+any-set [] k h = absurd (omega arith)
+any-set (b ∷ l) zero h = refl
+any-set (b ∷ l) (suc k) h = ap (λ (d : Bool). b || d) (any-set l k (omega arith)) ∙ or-true b
+
+module _ {q : Float} {dots : List Float} {a b : List ℕ} {from to : ℕ} (w : CloseWithin q dots a b from to) where
+  noting-start : {close : List Bool} {x y : ℕ} → close ≡ replicate 17 false → x ≡ getD a from 0 → y ≡ getD b from 0 → Noting q dots a b close false from x y
+  unfolding any
+  noting-start {close} e x y =
+      let none : (m : ℕ) → getD close m false ≡ false = λ m. ap (λ (l : List Bool). getD l m false) e ∙ none-noted 17 m in
+      record { long = ap length e; noted = λ m h. none m ∙ sym (w .before m h); left = λ m h. none m; any = sym (ap anyClose e); mine = x; theirs = y }
+
+  module _ {close : List Bool} {found : Bool} {k x y nx ny : ℕ} (o : Noting q dots a b close found k x y) (h : k < to) (n : nx ≡ getD a (k + 1) 0) (m : ny ≡ getD b (k + 1) 0) {r : Bool} (e : r ≡ closeSlots q dots x y nx ny) where
+    at-scan : r ≡ closeAt q dots a b k
+    unfolding closeAt
+    at-scan = e ∙ (λ i. closeSlots q dots (o .mine i) (o .theirs i) (n i) (m i))
+
+    -- the rows are close in scan k
+    noting-close : r ≡ true → Noting q dots a b (set close k true) true (k + 1) nx ny
+    noting-close c =
+        record {
+          long = length-set close k true ∙ o .long;
+          noted =
+              below-more (λ (j : ℕ). getD (set close k true) j false ≡ closeAt q dots a b j) k
+              (λ j g. getD-set-other close k j true false (λ (z : j ≡ k). omega arith) ∙ o .noted j g)
+              (getD-set-same close k true false (omega (arith, o .long, w .few)) ∙ sym c ∙ at-scan);
+          left = λ j g. getD-set-other close k j true false (λ (z : j ≡ k). omega arith) ∙ o .left j (omega arith);
+          any = sym (any-set close k (omega (arith, o .long, w .few)));
+          mine = n;
+          theirs = m;
+        }
+
+    noting-apart : r ≡ false → Noting q dots a b close found (k + 1) nx ny
+    noting-apart c =
+        record {
+          long = o .long;
+          noted = below-more (λ (j : ℕ). getD close j false ≡ closeAt q dots a b j) k (o .noted) (o .left k (omega arith) ∙ sym c ∙ at-scan);
+          left = λ j g. o .left j (omega arith);
+          any = o .any;
+          mine = n;
+          theirs = m;
+        }
+
+  noting-done : {close : List Bool} {found : Bool} {k x y : ℕ} → Noting q dots a b close found k x y → to ≤ k → close ≡ closeScans q dots a b
+  unfolding closeScans
+  noting-done {close} {found} {k} o h =
+      ext-getD false close (closeScans q dots a b) (o .long ∙ sym (map-up-length (closeAt q dots a b) 0 17))
+      (λ m g. each m (decLt m k) ∙ sym (map-up-at (closeAt q dots a b) 0 17 m false (omega (arith, o .long)) ∙ ap (closeAt q dots a b) (zero-add m)))
+    where
+      each : (m : ℕ) → Dec (m < k) → getD close m false ≡ closeAt q dots a b m
+      each m (yes l) = o .noted m l
+      each m (no l) = o .left m (omega arith) ∙ sym (w .after m (omega arith))
 
 abbrev Inv-loop : tie.InvT-loop
-Inv-loop q a b dots close₀ found₀ k₀ close found k = Filling 17 (closeScans q dots a b) close₀ close k × (found ≡ anyClose (take k (closeScans q dots a b)))
+Inv-loop q a b from to dots close₀ found₀ k₀ x₀ y₀ close found k x y = Noting q dots a b close found k x y
 
 abbrev μ-loop : tie.MeasureT-loop
-μ-loop q a b dots close₀ found₀ k₀ close found k = 17 - k
+μ-loop q a b from to dots close₀ found₀ k₀ x₀ y₀ close found k x y = to - k
+
+slot-requires : tie.Need-slot-requires Inv-loop μ-loop
+slot-requires c κs = tt
+
+slot-requires-2 : tie.Need-slot-requires-2 Inv-loop μ-loop
+slot-requires-2 c κs = tt
 
 loop-holds : tie.Need-loop-holds Inv-loop μ-loop
-unfolding closeScans any
-loop-holds c = (record { within = omega arith; new = map-up-length _ 0 17; old = c .before .before .pre; is = refl }, refl)
+loop-holds c =
+    let p = c .before .before .before .before .pre in
+    noting-start (p .0) (p .1) (c .before .slot .ensures) (c .slot2 .ensures)
 
-close-at-requires : tie.Need-close-at-requires Inv-loop μ-loop
-close-at-requires c κs = omega arith
+add-slot : tie.Need-add-slot Inv-loop μ-loop
+add-slot c = omega arith
+
+slot-requires-3 : tie.Need-slot-requires-3 Inv-loop μ-loop
+slot-requires-3 c κs = tt
+
+add-slot-2 : tie.Need-add-slot-2 Inv-loop μ-loop
+add-slot-2 c = omega arith
+
+slot-requires-4 : tie.Need-slot-requires-4 Inv-loop μ-loop
+slot-requires-4 c κs = tt
+
+close-slots-requires : tie.Need-close-slots-requires Inv-loop μ-loop
+close-slots-requires c κs = tt
 
 element-write-close : tie.Need-element-write-close Inv-loop μ-loop
-element-write-close c = omega (arith, filled-length (c .before .before .loop .inv .0))
+element-write-close c = omega arith
 
 add-k : tie.Need-add-k Inv-loop μ-loop
 add-k c = omega arith
@@ -53,22 +128,20 @@ loop-less c = omega arith
 
 loop-again : tie.Need-loop-again Inv-loop μ-loop
 loop-again c =
-    let s = c .before .before .before .before .before .before .args in
-    let l = c .before .before .before .loop in
-    let t = closeScans (s .q) (s .dots .now) (s .a .now) (s .b .now) in
-    let e = c .before .close-at .ensures ∙ sym (at-scan (s .q) (s .dots .now) (s .a .now) (s .b .now) (l .k) (omega arith)) in
-    let f = fills (l .inv .0) _ false (omega arith) e in
-    let m = any-more t (l .k) (omega (arith, l .inv .0 .new)) in
+    let p = c .before .before .before .before .before .before .before .before .before .before .pre in
+    let o = c .before .before .before .before .before .loop in
+    let r = c .before .close-slots .ensures in
+    let n = c .before .before .before .slot3 .ensures in
+    let m = c .before .before .slot4 .ensures in
     ⊎-elim
-    (λ w. (f, w .1 ∙ sym (m ∙ ap (λ (x : Bool). anyClose (take (l .k) t) || x) (sym e ∙ w .0 .taken) ∙ or-true (anyClose (take (l .k) t)))))
-    (λ w. (f, w .1 ∙ l .inv .1 ∙ sym (m ∙ ap (λ (x : Bool). anyClose (take (l .k) t) || x) (sym e ∙ w .0 .left) ∙ or-false (anyClose (take (l .k) t)))))
+    (λ w. rw (w .1, w .2) (noting-close (p .0) (o .inv) (c .before .before .before .before .loop-test .taken) n m r (w .0 .taken)))
+    (λ w. rw (w .1, w .2) (noting-apart (p .0) (o .inv) (c .before .before .before .before .loop-test .taken) n m r (w .0 .left)))
     (c .if1 .came)
 
 returns : tie.Need-returns Inv-loop μ-loop
 returns c =
-    let i = c .before .loop .inv in
-    let e = filled (i .0) (omega arith) in
-    (e, i .1 ∙ ap anyClose (take-all (c .before .loop .k) _ (omega (arith, i .0 .new)) ∙ sym e))
+    let o = c .before .loop .inv in
+    (noting-done (c .before .before .before .before .before .before .pre .0) o (c .loop-test .left), o .any)
 
 pub close-scans-spec : {M : Type 1} → statement M
 close-scans-spec =
@@ -76,8 +149,14 @@ close-scans-spec =
     (tie.spec
     Inv-loop
     μ-loop
+    slot-requires
+    slot-requires-2
     loop-holds
-    close-at-requires
+    add-slot
+    slot-requires-3
+    add-slot-2
+    slot-requires-4
+    close-slots-requires
     element-write-close
     add-k
     loop-less

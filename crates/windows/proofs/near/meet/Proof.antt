@@ -17,23 +17,17 @@ mul-if1 c = search needs
 add-if1 : tie.Need-add-if1
 add-if1 c = search needs
 
-mul-if1-2 : tie.Need-mul-if1-2
-mul-if1-2 c = search needs
-
 element-copy-out-if1 : tie.Need-element-copy-out-if1
 element-copy-out-if1 c = search needs
 
-mul-if1-3 : tie.Need-mul-if1-3
-mul-if1-3 c = search needs
+mul-if1-2 : tie.Need-mul-if1-2
+mul-if1-2 c = search needs
 
 add-if1-2 : tie.Need-add-if1-2
 add-if1-2 c = search needs
 
 add-if1-3 : tie.Need-add-if1-3
 add-if1-3 c = search needs
-
-mul-if1-4 : tie.Need-mul-if1-4
-mul-if1-4 c = search needs
 
 element-copy-out-if1-2 : tie.Need-element-copy-out-if1-2
 element-copy-out-if1-2 c = search needs
@@ -44,23 +38,17 @@ mul-result c = search needs
 add-result : tie.Need-add-result
 add-result c = search needs
 
-mul-result-2 : tie.Need-mul-result-2
-mul-result-2 c = search needs
-
 element-copy-out-result : tie.Need-element-copy-out-result
 element-copy-out-result c = search needs
 
-mul-result-3 : tie.Need-mul-result-3
-mul-result-3 c = search needs
+mul-result-2 : tie.Need-mul-result-2
+mul-result-2 c = search needs
 
 add-result-2 : tie.Need-add-result-2
 add-result-2 c = search needs
 
 add-result-3 : tie.Need-add-result-3
 add-result-3 c = search needs
-
-mul-result-4 : tie.Need-mul-result-4
-mul-result-4 c = search needs
 
 element-copy-out-result-2 : tie.Need-element-copy-out-result-2
 element-copy-out-result-2 c = search needs
@@ -77,21 +65,17 @@ meet-spec =
     (tie.spec
     mul-if1
     add-if1
-    mul-if1-2
     element-copy-out-if1
-    mul-if1-3
+    mul-if1-2
     add-if1-2
     add-if1-3
-    mul-if1-4
     element-copy-out-if1-2
     mul-result
     add-result
-    mul-result-2
     element-copy-out-result
-    mul-result-3
+    mul-result-2
     add-result-2
     add-result-3
-    mul-result-4
     element-copy-out-result-2
     returns
     returns-2)

@@ -1,36 +1,38 @@
 -- `windows::rows::end_of` meets its contract. Assumes nothing.
-use mathlib.Core.Path.{_≡_, refl, sym, ap, _∙_}
+use mathlib.Core.Path.{_≡_}
 use mathlib.Core.List.{List}
-use mathlib.Core.Bool.{Bool, cond}
-use mathlib.Core.Logic.{⊎-elim}
-use Prim.Native.Nat.{ℕ, _+_, _-_, _≤_, _<_}
-use native.Mathlib.Numerals.{add-one}
+use Prim.Native.Nat.{ℕ, _-_, _≤_, _<_}
+use native.Mathlib.Nat.{le-refl}
+use native.Mathlib.Decide.{decLt}
 use native.Mathlib.Omega.{arith}
-use lib.ListN.{length, getD, drop, drop-of-length-le}
-use lib.Seq.{drop-cons}
-use lib.Dec.{ltb}
-use borrow.Author.Tests.{lt-ltb, le-ltb}
-use Rattle.windows.specs.Rows.{endFrom}
+use lib.ListN.{length, getD, List·getD-eq-default}
+use Rattle.windows.proofs.RowEnds.{end-at}
 use Rattle.windows.proofs.rows.end_of.Statement.{statement}
 use Rattle.windows.proofs.rows.end_of.Tie as tie
 
--- what the entry at k says of the row from k on
-turns : (r : List ℕ) (k e : ℕ) → k < length r → endFrom k e (drop k r) ≡ endFrom (k + 1) (cond (ltb 0 (getD r k 0)) (k + 1) e) (drop (k + 1) r)
-unfolding endFrom
-turns r k e h = rw (drop-cons r k 0 h, add-one k)
+-- no detection from e on
+record Empty (r : List ℕ) (e : ℕ) : Type 0 where
+  within : e ≤ 17
+  above : (j : ℕ) → e ≤ j → getD r j 0 ≤ 0
 
-ends : (r : List ℕ) (k e : ℕ) → length r ≤ k → endFrom k e (drop k r) ≡ e
-unfolding endFrom
-ends r k e h = rw (drop-of-length-le r {i = k} h)
+starts : (r : List ℕ) → length r ≤ 17 → Empty r 17
+starts r l = record { within = le-refl 17; above = λ j h. rw (List·getD-eq-default r 0 {n = j} (omega arith)) (le-refl 0) }
+
+one-less : (r : List ℕ) (e : ℕ) → 0 < e → getD r (e - 1) 0 ≤ 0 → Empty r e → Empty r (e - 1)
+one-less r e p z m =
+    record { within = omega (arith, m .within); above = λ j h. elim (decLt j e) [ yes l ↦ (let i : e - 1 ≡ j = omega arith in rw i at z) | no l ↦ m .above j (omega arith) ] }
 
 abbrev Inv-loop : tie.InvT-loop
-Inv-loop row e₀ k₀ e k = (k ≤ 17) × (length row ≡ 17) × (endFrom 0 0 row ≡ endFrom k e (drop k row))
+Inv-loop row e₀ e = Empty row e
 
 abbrev μ-loop : tie.MeasureT-loop
-μ-loop row e₀ k₀ e k = 17 - k
+μ-loop row e₀ e = e
 
 loop-holds : tie.Need-loop-holds Inv-loop μ-loop
-loop-holds c = (omega arith, omega arith, refl)
+loop-holds c = starts _ (omega arith)
+
+sub-if1 : tie.Need-sub-if1 Inv-loop μ-loop
+sub-if1 c = omega arith
 
 mul-if1 : tie.Need-mul-if1 Inv-loop μ-loop
 mul-if1 c = omega arith
@@ -38,32 +40,20 @@ mul-if1 c = omega arith
 element-copy-out-if1 : tie.Need-element-copy-out-if1 Inv-loop μ-loop
 element-copy-out-if1 c = omega arith
 
-add-e : tie.Need-add-e Inv-loop μ-loop
-add-e c = omega arith
+returns : tie.Need-returns Inv-loop μ-loop
+returns c = let o = c .before .before .before .loop in end-at _ (o .e) (λ h. c .if1 .taken) (o .inv .above)
 
-add-k : tie.Need-add-k Inv-loop μ-loop
-add-k c = omega arith
+sub-e : tie.Need-sub-e Inv-loop μ-loop
+sub-e c = omega arith
 
 loop-less : tie.Need-loop-less Inv-loop μ-loop
 loop-less c = omega arith
 
 loop-again : tie.Need-loop-again Inv-loop μ-loop
-loop-again c = let r = c .before .before .before .before .args .row .now in
-    let o = c .before .before .before .loop in
-    let next : Bool → ℕ = λ t. cond t (o .k + 1) (o .e) in
-    let x = getD r (o .k) 0 in (
-      omega arith,
-      omega arith,
-      o .inv .2
-          ∙ turns r (o .k) (o .e) (omega arith)
-          ∙ ap (λ (v : ℕ). endFrom (o .k + 1) v (drop (o .k + 1) r))
-          (⊎-elim (λ w. ap next (lt-ltb 0 x (w .0 .taken)) ∙ sym (w .1)) (λ w. ap next (le-ltb 0 x (w .0 .left)) ∙ sym (w .1)) (c .if1 .came)),
-    )
+loop-again c = let o = c .before .before .before .loop in one-less _ (o .e) (c .before .before .loop-test .taken) (c .if1 .left) (o .inv)
 
-returns : tie.Need-returns Inv-loop μ-loop
-returns c = let r = c .before .before .args .row .now in
-    let o = c .before .loop in
-    sym (o .inv .2 ∙ ends r (o .k) (o .e) (omega arith))
+returns-2 : tie.Need-returns-2 Inv-loop μ-loop
+returns-2 c = let o = c .before .loop in end-at _ (o .e) (λ h. absurd (omega (arith, c .loop-test .left))) (o .inv .above)
 
 pub end-of-spec : {M : Type 1} → statement M
 end-of-spec =
@@ -72,10 +62,11 @@ end-of-spec =
     Inv-loop
     μ-loop
     loop-holds
+    sub-if1
     mul-if1
     element-copy-out-if1
-    add-e
-    add-k
+    returns
+    sub-e
     loop-less
     loop-again
-    returns)
+    returns-2)

@@ -1,10 +1,11 @@
 -- `windows::rows::fill_rows` meets its contract. Assumes nothing.
 use mathlib.Core.Path.{_≡_, refl, ap, _∙_, subst}
+use mathlib.Core.List.{List}
 use Prim.Native.Nat.{ℕ, _-_, _≤_}
 use native.Mathlib.Omega.{arith}
 use lib.ListN.{length, getD}
 use Rattle.windows.specs.Rows.{Tabled}
-use Rattle.windows.proofs.RowSlots.{row-length, tabled-start, tabled-more}
+use Rattle.windows.proofs.RowSlots.{row-length, row-within, tabled-start, tabled-more}
 use Rattle.windows.proofs.rows.fill_rows.Statement.{statement}
 use Rattle.windows.proofs.rows.fill_rows.Tie as tie
 
@@ -30,7 +31,13 @@ put-entry-requires : tie.Need-put-entry-requires Inv-loop μ-loop
 put-entry-requires c κs =
     let s = c .before .before .before .before .before .before .before .args in
     let o = c .before .before .before .before .before .before .loop in
-    (omega arith, ap length (c .before .before .fill-row .ensures) ∙ row-length (s .starts .now) (s .ids .now) (getD (s .table .now) (o .i) 0), o .inv .2 .long)
+    let x = getD (s .table .now) (o .i) 0 in
+    let e = c .before .before .fill-row .ensures in (
+      omega arith,
+      ap length e ∙ row-length (s .starts .now) (s .ids .now) x,
+      λ k h. omega (arith, ap (λ (r : List ℕ). getD r k 0) e, row-within (s .starts .now) (s .ids .now) x (c .before .before .before .before .before .before .before .pre .1) k h),
+      o .inv .2 .long,
+    )
 
 add-i : tie.Need-add-i Inv-loop μ-loop
 add-i c = omega arith

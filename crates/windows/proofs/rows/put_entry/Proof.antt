@@ -7,6 +7,7 @@ use native.Mathlib.Omega.{arith}
 use lib.ListN.{length, getD, take, drop, set}
 use lib.Seq.{paste, paste-zero, paste-suc, take-all}
 use Rattle.windows.specs.Rows.{entryOf}
+use Rattle.windows.proofs.RowEnds.{first-within, end-by}
 use Rattle.windows.proofs.RowSlots.{entry-length, entry-at, entry-first, entry-end}
 use Rattle.windows.proofs.rows.put_entry.Statement.{statement}
 use Rattle.windows.proofs.rows.put_entry.Tie as tie
@@ -35,11 +36,11 @@ mul-rows c = omega arith
 element-copy-out-rows : tie.Need-element-copy-out-rows Inv-loop μ-loop
 element-copy-out-rows c = omega arith
 
+cast-rows : tie.Need-cast-rows Inv-loop μ-loop
+cast-rows c = omega (arith, c .before .before .before .pre .2 (c .before .before .loop .k) (c .before .loop-test .taken))
+
 add-rows : tie.Need-add-rows Inv-loop μ-loop
 add-rows c = omega arith
-
-mul-rows-2 : tie.Need-mul-rows-2 Inv-loop μ-loop
-mul-rows-2 c = omega arith
 
 element-write-rows : tie.Need-element-write-rows Inv-loop μ-loop
 element-write-rows c = omega arith
@@ -66,11 +67,11 @@ loop-again c = let s = c .before .before .before .args in
 first-in-requires : tie.Need-first-in-requires Inv-loop μ-loop
 first-in-requires c κs = omega arith
 
+cast-rows-2 : tie.Need-cast-rows-2 Inv-loop μ-loop
+cast-rows-2 c = omega (arith, c .first-in .ensures, first-within (c .before .before .before .args .row .now))
+
 add-rows-2 : tie.Need-add-rows-2 Inv-loop μ-loop
 add-rows-2 c = omega arith
-
-mul-rows-3 : tie.Need-mul-rows-3 Inv-loop μ-loop
-mul-rows-3 c = omega arith
 
 element-write-rows-2 : tie.Need-element-write-rows-2 Inv-loop μ-loop
 element-write-rows-2 c = omega arith
@@ -78,14 +79,14 @@ element-write-rows-2 c = omega arith
 end-of-requires : tie.Need-end-of-requires Inv-loop μ-loop
 end-of-requires c κs = omega arith
 
+cast-rows-3 : tie.Need-cast-rows-3 Inv-loop μ-loop
+cast-rows-3 c = omega (arith, c .end-of .ensures, end-by (c .before .before .before .before .args .row .now))
+
 add-rows-3 : tie.Need-add-rows-3 Inv-loop μ-loop
 add-rows-3 c = omega arith
 
 add-rows-4 : tie.Need-add-rows-4 Inv-loop μ-loop
 add-rows-4 c = omega arith
-
-mul-rows-4 : tie.Need-mul-rows-4 Inv-loop μ-loop
-mul-rows-4 c = omega arith
 
 element-write-rows-3 : tie.Need-element-write-rows-3 Inv-loop μ-loop
 element-write-rows-3 c = omega arith
@@ -116,19 +117,19 @@ put-entry-spec =
     loop-holds
     mul-rows
     element-copy-out-rows
+    cast-rows
     add-rows
-    mul-rows-2
     element-write-rows
     add-k
     loop-less
     loop-again
     first-in-requires
+    cast-rows-2
     add-rows-2
-    mul-rows-3
     element-write-rows-2
     end-of-requires
+    cast-rows-3
     add-rows-3
     add-rows-4
-    mul-rows-4
     element-write-rows-3
     returns)
