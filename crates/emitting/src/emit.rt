@@ -27,7 +27,7 @@ ghost use Rattle.engine.specs.Encode.{costPresent};
 ghost use Rattle.model.specs.Freezing as freezing;
 ghost use Rattle.model.specs.Emitting as model;
 ghost use Rattle.buffers.specs.Buffers.{over};
-ghost use Rattle.memory.specs.Memory.{cells, idAt, partOf, tableIn, lastIn, associationIn};
+ghost use Rattle.memory.specs.Memory.{cells, partOf, tableIn, lastIn};
 ghost use Rattle.freezing.specs.Frozen.{PartsOk};
 ghost use Rattle.emitting.specs.Writing.{Lists, rowOf, reportIn, PutsTrack, PutTrack, Roomy, PutTracks, associationsIn, costsIn, frameIn, PutsFrame, PutFrame, headIn};
 

@@ -12,7 +12,7 @@ ghost use Rattle.engine.specs.Body.{narrow, associationCount, refusal, frameOf}
 ghost use Rattle.model.specs.Lists.{has};
 ghost use Rattle.model.specs.Placing as model;
 ghost use Rattle.memory.specs.Memory.{ownersIn};
-ghost use Rattle.ledger.specs.Placing.{assignedIn, freeBelow, placedOne, placedTrack, placedAll, Placed, begins};
+ghost use Rattle.ledger.specs.Placing.{assignedIn, freeBelow, placedOne, placedAll, Placed, begins};
 
 // Associations of a frame at most.
 pub const ASSOCIATIONS: usize = 32;

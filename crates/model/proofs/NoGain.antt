@@ -18,7 +18,6 @@ use Rattle.model.specs.Lists.{keep, consIf, find}
 use Rattle.model.specs.Windows.{Scan, Prefix, window, price}
 use Rattle.model.specs.Searching.{Pair, pairGain, wins, betterPair, swapped, costOf, trySwap, pairCandidates, bestOfPair}
 use Rattle.model.specs.Faithful.{before, from}
-use Rattle.model.proofs.All.{mem-All, foldl-keeps}
 use Rattle.model.proofs.Cutting.{parts, swap-says}
 
 -- a float that is below 0, or −0.0
@@ -161,10 +160,6 @@ module _ (c : FgoConfig) (n : ℕ) (ps : List (ℕ × Prefix)) (ss : List Scan) 
     pub never-wins : (f : ℕ) → window a n (swapped c n ps a b f ss) ≡ window a n ss → (best : Float) → le best nought ≡ true → wins (pairGain (trySwap c n ps a b ss (base a b) f)) best ≡ false
     never-wins f e best h = rw (same-gain f e) (nothing-wins (base a b) best h)
 
-    -- and that is so of one from whose cut on neither has a detection
-    pub leaves-equal : (f : ℕ) → from f (window a n ss) ≡ [] → from f (window b n ss) ≡ [] → window a n (swapped c n ps a b f ss) ≡ window a n ss
-    leaves-equal f p q = swap-says c n ps a b f nought ss apart .first ∙ ap (λ w. before f (window a n ss) ++ w) (q ∙ sym p) ∙ parts f a n ss
-
     -- such cuts may be left out
     module _ (g : ℕ → Bool) (idle : (f : ℕ) → g f ≡ false → window a n (swapped c n ps a b f ss) ≡ window a n ss) where
       fewer : (fs : List ℕ) (rest : List PairMove) (best : PairMove) → le (pairGain best) nought ≡ true → foldl betterPair best (map (trySwap c n ps a b ss (base a b)) (keep g fs) ++ rest) ≡ foldl betterPair best (map (trySwap c n ps a b ss (base a b)) fs ++ rest)
@@ -179,18 +174,7 @@ module _ (c : FgoConfig) (n : ℕ) (ps : List (ℕ × Prefix)) (ss : List Scan) 
           go true q r = r (betterPair best (try f)) (best-below best (try f) h)
           go false q r = rw (never-wins f (idle f q) (pairGain best) h) (r best h)
 
-  -- a pair's best move is of gain 0.0 or below
-  pub best-gain : (p : Pair) → le (pairGain (bestOfPair c n ps ss p)) nought ≡ true
-  unfolding bestOfPair
-  best-gain p =
-      let ms = pairCandidates c n ps ss p in
-      foldl-keeps (λ m. le (pairGain m) nought ≡ true) (λ m. Unit {0}) betterPair (λ best m h u. best-below best m h) Stay ms start (mem-All (λ m. Unit {0}) ms (λ m k. tt))
-
   -- a pair's best move is the same where cuts are left out at which a swap would leave a's window equal
   pub same-best : (p : Pair) → (p .a ≡ p .b → ⊥) → (g : ℕ → Bool) → ((f : ℕ) → g f ≡ false → window (p .a) n (swapped c n ps (p .a) (p .b) f ss) ≡ window (p .a) n ss) → bestOfPair c n ps ss (record { a = p .a; b = p .b; cuts = keep g (p .cuts) }) ≡ bestOfPair c n ps ss p
   unfolding bestOfPair pairCandidates
   same-best p apart g idle = fewer (p .a) (p .b) apart g idle (p .cuts) _ Stay start
-
-  -- so where cuts are left out from which on neither has a detection
-  pub same-best-idle : (p : Pair) → (p .a ≡ p .b → ⊥) → (g : ℕ → Bool) → ((f : ℕ) → g f ≡ false → (from f (window (p .a) n ss) ≡ []) × (from f (window (p .b) n ss) ≡ [])) → bestOfPair c n ps ss (record { a = p .a; b = p .b; cuts = keep g (p .cuts) }) ≡ bestOfPair c n ps ss p
-  same-best-idle p apart g idle = same-best p apart g (λ f q. leaves-equal (p .a) (p .b) apart f (idle f q .0) (idle f q .1))

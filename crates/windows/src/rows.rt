@@ -109,8 +109,8 @@ pub fn fill_row<'a>(
     }
 }
 
-// The first scan in which the row has a detection, 17 where there is none. It asks for a row of 17 scans.
-pub fn first_in(row: &[usize; SCANS]) -> usize
+// The first scan in which the row has a detection, 17 where there is none.
+fn first_in(row: &[usize; SCANS]) -> usize
     requires { ⌜ length (now row) ≡ 17 ⌝ }
     ensures { λ r. ⌜ r ≡ firstIn (now (row .entry)) ⌝ }
 {

@@ -1,5 +1,5 @@
 -- `freezing::freeze::make_room` meets its contract. Assumes nothing.
-use Prim.Native.Nat.{_-_, _≤_}
+use Prim.Native.Nat.{_≤_}
 use native.Mathlib.Omega.{arith}
 use Rattle.freezing.proofs.Raising.{Raising, raising-none, raising-more, raising-done}
 use Rattle.freezing.proofs.freeze.make_room.Statement.{statement}

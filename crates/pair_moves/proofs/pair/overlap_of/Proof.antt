@@ -1,9 +1,8 @@
 -- `pair_moves::pair::overlap_of` meets its contract. Assumes nothing.
-use mathlib.Core.Path.{refl}
 use Prim.Native.Nat.{ℕ, _-_, _≤_}
 use mathlib.Core.List.{List}
 use native.Mathlib.Omega.{arith}
-use lib.ListN.{length, getD}
+use lib.ListN.{getD}
 use Rattle.pair_moves.specs.Pair.{bothHave, onlyHas}
 use Rattle.pair_moves.proofs.Merged.{both-le, only-le, Counting, counts, counted}
 use Rattle.pair_moves.proofs.pair.overlap_of.Statement.{statement}
