@@ -1,7 +1,5 @@
 pub mod Fill
-mod Grown
-mod Factored
-mod Substitution
+pub mod Grown
 mod Sums
 mod Products
 mod Entries

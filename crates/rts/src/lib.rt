@@ -1,6 +1,6 @@
 // One step of the backward pass.
-use linalg::cholesky::cholesky6;
-use linalg::cholesky::inverse6;
+use cholesky::cholesky6;
+use cholesky::inverse6;
 use linalg::matrix::add_vec6;
 use linalg::matrix::add6;
 use linalg::matrix::half_sum6;

@@ -1,6 +1,6 @@
--- `linalg::cholesky::above6` meets its contract. Assumes nothing.
-use Rattle.linalg.proofs.cholesky.above6.Statement.{statement}
-use Rattle.linalg.proofs.cholesky.above6.Tie as tie
+-- `cholesky::above6` meets its contract. Assumes nothing.
+use Rattle.cholesky.proofs.above6.Statement.{statement}
+use Rattle.cholesky.proofs.above6.Tie as tie
 
 returns : tie.Need-returns
 returns c = simp (c .before .before .before .before .if1 .taken, c .before .before .before .if2 .taken, c .before .before .if3 .taken, c .before .if4 .taken, c .if5 .taken)

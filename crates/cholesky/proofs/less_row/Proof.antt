@@ -1,10 +1,10 @@
--- `linalg::cholesky::less_row` meets its contract. Assumes nothing.
+-- `cholesky::less_row` meets its contract. Assumes nothing.
 use mathlib.Core.Path.{ap}
 use borrow.Author.Needs.{needs}
 use Rattle.scalar.specs.F64.{f64}
 use Rattle.linalg.specs.Matrix.{at, vector}
-use Rattle.linalg.proofs.cholesky.less_row.Statement.{statement}
-use Rattle.linalg.proofs.cholesky.less_row.Tie as tie
+use Rattle.cholesky.proofs.less_row.Statement.{statement}
+use Rattle.cholesky.proofs.less_row.Tie as tie
 
 returns : tie.Need-returns
 returns c =

@@ -1,14 +1,14 @@
--- `linalg::cholesky::solve_row` meets its contract. Assumes nothing.
+-- `cholesky::solve_row` meets its contract. Assumes nothing.
 use mathlib.Core.List.{List}
 use mathlib.Core.Path.{_≡_, ap, _∙_}
 use Prim.Native.Nat.{ℕ}
 use lib.Ieee.{Float}
 use borrow.Author.Needs.{needs}
 use Rattle.scalar.specs.F64.{f64}
 use Rattle.linalg.specs.Matrix.{entry}
 use Rattle.linalg.specs.Rows.{putRow, over, lessRows, solvedRow}
-use Rattle.linalg.proofs.cholesky.solve_row.Statement.{statement}
-use Rattle.linalg.proofs.cholesky.solve_row.Tie as tie
+use Rattle.cholesky.proofs.solve_row.Statement.{statement}
+use Rattle.cholesky.proofs.solve_row.Tie as tie
 
 solved : (l w : List Float) (i p s q n : ℕ) (r v w′ : List Float)
     → r ≡ lessRows f64 l w i p s q n → v ≡ over f64 r (entry f64 l i i) → w′ ≡ putRow f64 w i v → w′ ≡ putRow f64 w i (solvedRow f64 l w i p s q n)

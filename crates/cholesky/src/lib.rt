@@ -1,11 +1,11 @@
 // Cholesky's factor of a matrix, and the inverse by it.
-use crate::rows::put_row;
-use crate::rows::row;
+use linalg::rows::put_row;
+use linalg::rows::row;
 ghost use mathlib.Core.Path.{_≡_};
 ghost use Prim.Native.Nat.{_+_, _*_, _≤_, _<_};
 ghost use Rattle.scalar.specs.F64.{f64};
 ghost use Rattle.linalg.specs.Cholesky as Cholesky;
 ghost use Rattle.linalg.specs.Rows as Rows;
 
 // All six are above 0.
 fn above6(d0: f64, d1: f64, d2: f64, d3: f64, d4: f64, d5: f64) -> bool

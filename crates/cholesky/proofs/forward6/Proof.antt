@@ -1,16 +1,16 @@
--- `linalg::cholesky::forward6` meets its contract. Assumes nothing.
+-- `cholesky::forward6` meets its contract. Assumes nothing.
 use mathlib.Core.Path.{refl, ap, _∙_}
 use Prim.Native.Nat.{_*_, _-_}
 use native.Mathlib.Omega.{arith}
 use Rattle.scalar.specs.F64.{f64}
 use Rattle.linalg.proofs.Fill.{ByRows, next-row, all-rows}
-use Rattle.linalg.proofs.Substitution.{half-way, forward-row}
+use Rattle.cholesky.proofs.Substitution.{half-way, forward-row}
 use Rattle.linalg.specs.Cholesky.{halfWay}
 use Rattle.linalg.specs.Grown.{tabulate}
 use Rattle.linalg.specs.Matrix.{unit}
 use Rattle.linalg.specs.Rows.{solvedRow}
-use Rattle.linalg.proofs.cholesky.forward6.Statement.{statement}
-use Rattle.linalg.proofs.cholesky.forward6.Tie as tie
+use Rattle.cholesky.proofs.forward6.Statement.{statement}
+use Rattle.cholesky.proofs.forward6.Tie as tie
 
 abbrev Inv-loop : tie.InvT-loop
 Inv-loop l w₀ i₀ w i = ByRows f64 (half-way f64 l) (unit f64) w i

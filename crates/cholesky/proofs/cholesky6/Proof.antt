@@ -1,11 +1,11 @@
--- `linalg::cholesky::cholesky6` meets its contract. Assumes nothing.
+-- `cholesky::cholesky6` meets its contract. Assumes nothing.
 use borrow.Author.Needs.{needs}
 use Rattle.scalar.specs.F64.{f64}
 use Rattle.linalg.specs.Grown.{tabulate}
 use Rattle.linalg.specs.Cholesky.{less}
-use Rattle.linalg.proofs.Factored.{factored, judged}
-use Rattle.linalg.proofs.cholesky.cholesky6.Statement.{statement}
-use Rattle.linalg.proofs.cholesky.cholesky6.Tie as tie
+use Rattle.cholesky.proofs.Factored.{factored, judged}
+use Rattle.cholesky.proofs.cholesky6.Statement.{statement}
+use Rattle.cholesky.proofs.cholesky6.Tie as tie
 
 returns : tie.Need-returns
 unfolding tabulate less

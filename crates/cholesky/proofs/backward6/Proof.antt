@@ -1,14 +1,14 @@
--- `linalg::cholesky::backward6` meets its contract. Assumes nothing.
+-- `cholesky::backward6` meets its contract. Assumes nothing.
 use mathlib.Core.Path.{_≡_, ap, _∙_}
 use Prim.Native.Nat.{_+_, _*_, _-_}
 use native.Mathlib.Omega.{arith}
 use Rattle.scalar.specs.F64.{f64}
 use Rattle.linalg.proofs.Fill.{ByRows, turn, next-row-up, no-rows, at-row}
-use Rattle.linalg.proofs.Substitution.{half-way, solved, backward-row}
+use Rattle.cholesky.proofs.Substitution.{half-way, solved, backward-row}
 use Rattle.linalg.specs.Cholesky.{halfWay, inverse}
 use Rattle.linalg.specs.Rows.{solvedRow}
-use Rattle.linalg.proofs.cholesky.backward6.Statement.{statement}
-use Rattle.linalg.proofs.cholesky.backward6.Tie as tie
+use Rattle.cholesky.proofs.backward6.Statement.{statement}
+use Rattle.cholesky.proofs.backward6.Tie as tie
 
 abbrev Inv-loop : tie.InvT-loop
 Inv-loop l w₀ i₀ w i = ByRows f64 (half-way f64 l) (solved f64 l) w i

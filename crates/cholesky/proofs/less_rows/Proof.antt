@@ -1,4 +1,4 @@
--- `linalg::cholesky::less_rows` meets its contract. Assumes nothing.
+-- `cholesky::less_rows` meets its contract. Assumes nothing.
 use mathlib.Core.List.{List}
 use mathlib.Core.Path.{_≡_, ap, _∙_}
 use Prim.Native.Nat.{ℕ, _+_, _*_, _-_, _≤_, _<_}
@@ -7,11 +7,11 @@ use native.Mathlib.Numerals.{add-one}
 use native.Mathlib.Omega.{arith}
 use lib.Ieee.{Float}
 use Rattle.scalar.specs.F64.{f64}
 use Rattle.linalg.specs.Cholesky.{less}
 use Rattle.linalg.specs.Matrix.{at}
 use Rattle.linalg.specs.Rows.{row, lessRow, lessRows}
-use Rattle.linalg.proofs.cholesky.less_rows.Statement.{statement}
-use Rattle.linalg.proofs.cholesky.less_rows.Tie as tie
+use Rattle.cholesky.proofs.less_rows.Statement.{statement}
+use Rattle.cholesky.proofs.less_rows.Tie as tie
 
 module _ (l w : List Float) (i p s q : ℕ) where
   none : (r : List Float) → r ≡ row f64 w i → r ≡ lessRows f64 l w i p s q 0

@@ -1,0 +1,2 @@
+mod Factored
+mod Substitution
