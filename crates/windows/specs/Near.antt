@@ -5,9 +5,10 @@ use mathlib.Core.Bool.{Bool, true, false, cond, _&&_}
 use mathlib.Core.List.{List, map}
 use lib.ListN.{getD}
 use lib.Dec.{eqb, leb}
-use lib.Ieee.{Float, binary64, add, sub, mul, lt}
+use lib.Ieee.{Float, nan, binary64, add, sub, mul, lt}
 use Rattle.costs.specs.Cost.{dotAt}
 use Rattle.model.specs.Lists.{any, upFrom}
+use Rattle.windows.specs.declared.near.Point.{Point}
 use Rattle.windows.specs.Rows.{segment, firstIn, endFrom}
 
 abbrev pub square : Float → Float
@@ -36,6 +37,18 @@ closeScans q dots a b = map (closeAt q dots a b) (upFrom 0 17)
 -- some scan is noted
 abbrev pub anyClose : List Bool → Bool
 anyClose close = any (λ (b : Bool). b) close
+
+-- where the detection of an entry of a row lies; at NaN, which is near nothing, where there is none
+unfoldable pub pointAt : List Float → ℕ → Point
+pointAt dots i = cond (eqb i 0) (record { x = nan; y = nan }) (record { x = dotAt dots (i - 1) .x; y = dotAt dots (i - 1) .y })
+
+-- nearSlots, by where the detections of the two entries lie
+unfoldable pub nearPoints : Float → Point → Point → Bool
+nearPoints q d e = lt (add binary64 (square (sub binary64 (d .x) (e .x))) (square (sub binary64 (d .y) (e .y)))) q
+
+-- closeSlots, by where the detections of the four entries lie
+abbrev pub closePoints : Float → Point → Point → Point → Point → Bool
+closePoints q x y nx ny = cond (nearPoints q x y) true (cond (nearPoints q x ny) true (nearPoints q nx y))
 
 -- rows are close in no scan outside of those from `from` up to `to`
 pub record CloseWithin (q : Float) (dots : List Float) (a b : List ℕ) (from to : ℕ) : Type 0 where

@@ -8,20 +8,30 @@ ghost use mathlib.Core.Path.{_≡_};
 ghost use mathlib.Core.Bool.{false};
 ghost use Prim.Native.Nat.{_<_};
 ghost use lib.ListN.{length, getD, replicate};
-ghost use Rattle.windows.specs.Near.{nearSlots, closeSlots, closeScans, anyClose, meets, CloseWithin};
+ghost use Rattle.windows.specs.Near.{pointAt, nearPoints, closePoints, closeScans, anyClose, meets, CloseWithin};
 
-// Two entries of rows have a detection each, at a squared distance below q.
-fn near_slots(q: f64, i: usize, j: usize, dots: &[f64; DOTS]) -> bool
-    ensures { λ r. ⌜ r ≡ nearSlots q (now (dots .entry)) i j ⌝ }
+// Where a detection lies. One that is not there lies at NaN, which is near nothing.
+struct Point {
+    x: f64,
+    y: f64,
+}
+
+// Where the detection of an entry of a row lies.
+fn point_at(i: usize, dots: &[f64; DOTS]) -> Point
+    ensures { λ r. ⌜ r ≡ pointAt (now (dots .entry)) i ⌝ }
 {
     if i == 0 {
-        return false;
-    }
-    if j == 0 {
-        return false;
+        let nan = 0.0 / 0.0;
+        return Point { x: nan, y: nan };
     }
     let d = cost::dot_at(dots, i - 1);
-    let e = cost::dot_at(dots, j - 1);
+    Point { x: d.x, y: d.y }
+}
+
+// Two detections lie at a squared distance below q.
+fn near_points(q: f64, d: Point, e: Point) -> bool
+    ensures { λ r. ⌜ r ≡ nearPoints q d e ⌝ }
+{
     let dx = d.x - e.x;
     let dy = d.y - e.y;
     dx * dx + dy * dy < q
@@ -37,17 +47,17 @@ fn slot(row: &[u8], k: usize) -> usize
     0
 }
 
-// Two rows have a detection each that are near, in one scan or in it and the next: x and y in the scan, nx and ny in the next.
-fn close_slots(q: f64, x: usize, y: usize, nx: usize, ny: usize, dots: &[f64; DOTS]) -> bool
-    ensures { λ r. ⌜ r ≡ closeSlots q (now (dots .entry)) x y nx ny ⌝ }
+// Two rows have a detection each that are near, in one scan or in it and the next: at x and y in the scan, at nx and ny in the next.
+fn close_points(q: f64, x: Point, y: Point, nx: Point, ny: Point) -> bool
+    ensures { λ r. ⌜ r ≡ closePoints q x y nx ny ⌝ }
 {
-    if near_slots(q, x, y, dots) {
+    if near_points(q, x, y) {
         return true;
     }
-    if near_slots(q, x, ny, dots) {
+    if near_points(q, x, ny) {
         return true;
     }
-    near_slots(q, nx, y, dots)
+    near_points(q, nx, y)
 }
 
 // For each scan whether the rows are close in it; and whether they are close in any. It asks for scans outside of which they are not, and that no scan is noted yet.
@@ -65,12 +75,12 @@ pub fn close_scans<'a>(
 {
     let mut found = false;
     let mut k = from;
-    let mut x = slot(a, k);
-    let mut y = slot(b, k);
+    let mut x = point_at(slot(a, k), dots);
+    let mut y = point_at(slot(b, k), dots);
     while k < to {
-        let nx = slot(a, k + 1);
-        let ny = slot(b, k + 1);
-        if close_slots(q, x, y, nx, ny, dots) {
+        let nx = point_at(slot(a, k + 1), dots);
+        let ny = point_at(slot(b, k + 1), dots);
+        if close_points(q, x, y, nx, ny) {
             close[k] = true;
             found = true;
         }
