@@ -21,7 +21,7 @@ use Rattle.windows.specs.declared.moves.Tally.{Tally}
 use Rattle.memory.specs.declared.state.FixedLagRefiner.{FixedLagRefiner}
 use Rattle.memory.specs.Memory.{Memory, memory, scansIn, entryIn, ownersIn, stateOf}
 use Rattle.ledger.specs.Sound.{liveIn}
-use Rattle.ledger.specs.Sound.{keptOwners}
+use Rattle.placing.specs.Owning.{keptOwners}
 use Rattle.arrival.specs.Arriving.{Ready}
 use Rattle.arrival.specs.Arriving.{Lent, Arrives, HeldBy, foundIn, Searched, Arrived}
 use Rattle.ledger.proofs.SoundLaw.{live-rule}

@@ -31,7 +31,7 @@ use Rattle.model.proofs.Placement.{Has, has-entry}
 use Rattle.model.proofs.Arrival.{Column, Before, arrived}
 use Rattle.model.proofs.Accepting.{Room}
 use Rattle.ledger.specs.Sound.{orNone}
-use Rattle.ledger.specs.Placing.{assignedIn, freeBelow, placedTrack, placedOne, placedAll}
+use Rattle.placing.specs.Placing.{assignedIn, freeBelow, placedTrack, placedOne, placedAll}
 
 -- ---- an owner that is free, by number or as an option
 

@@ -19,7 +19,7 @@ use Rattle.memory.specs.declared.state.FixedLagRefiner.{FixedLagRefiner}
 use Rattle.memory.specs.Memory.{Memory, bodyAt, scansIn, tableIn, entryIn, ownersIn, stateOf}
 use Rattle.freezing.specs.Frozen.{Ordered, PartOk}
 use Rattle.memory.specs.Gathering.{Held}
-use Rattle.ledger.specs.Placing.{placedAll, begins}
+use Rattle.placing.specs.Placing.{placedAll, begins}
 use Rattle.ledger.specs.Sound.{soundOk}
 use Rattle.refusing.specs.Refusing.{pushRefusal}
 

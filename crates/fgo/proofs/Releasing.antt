@@ -40,7 +40,7 @@ use Rattle.emitting.specs.Writing.{Roomy, frameIn, PutsFrame, PutFrame}
 use Rattle.ledger.specs.Sound.{bodiesOk, liveIn}
 use Rattle.arrival.specs.Arriving.{Ready}
 use Rattle.fgo.specs.Promise.{Ends, releaseOf}
-use Rattle.ledger.specs.Sound.{keptOwners}
+use Rattle.placing.specs.Owning.{keptOwners}
 use Rattle.memory.proofs.Rows.{rows-all, row-of, rows-first}
 use Rattle.engine.proofs.ReadBack.{time-fits}
 use Rattle.freezing.proofs.Order.{frozen-fits}

@@ -6,5 +6,3 @@ pub mod HeldGathered
 pub mod SoundLaw
 pub mod Owners
 pub mod OwnedGathered
-pub mod PlacingSteps
-pub mod Compacting

@@ -8,7 +8,7 @@ use lib.ListN.{getD}
 use lib.Dec.{leb, ltb, eqb}
 use Rattle.engine.specs.Config.{legal, lag}
 use Rattle.engine.specs.Body.{narrow, all, timeOk, associationCount, refusal, rows}
-use Rattle.model.specs.Lists.{has, find, keep}
+use Rattle.model.specs.Lists.{has, find}
 use Rattle.model.specs.Windows.{detections}
 use Rattle.model.specs.Rule as rules
 use Rattle.model.specs.Rule.{allOf, looseOk, ruleOk}
@@ -99,10 +99,6 @@ distinctAt owners owned k = not (has (engineIn owners k) (rows (engineIn owners)
 unfoldable pub liveIn : List ℕ → List ℕ → ℕ → ℕ → List ℕ → ℕ → ℕ → Bool
 liveIn bodies columns first held tracks frozen x =
     has x (keysIn tracks frozen) || (ltb 0 x && inWindow x (scansIn bodies columns first held))
-
--- the entries of the owner table that have a live owner
-unfoldable pub keptOwners : List ℕ → List ℕ → ℕ → ℕ → List ℕ → ℕ → List (ℕ × ℕ) → List (ℕ × ℕ)
-keptOwners bodies columns first held tracks frozen os = keep (λ o. liveIn bodies columns first held tracks frozen (o .1)) os
 
 unfoldable pub entryOk : FixedLagRefiner → List ℕ → List ℕ → List ℕ → List ℕ → ℕ → Bool
 entryOk r bodies columns owners tracks k =

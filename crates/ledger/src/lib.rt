@@ -1,4 +1,2 @@
-// The state rule, and owning: which track an engine id belongs to.
-pub mod own;
-pub mod place;
+// The state rule on the lent memory.
 pub mod rule;

@@ -6,11 +6,11 @@ use mathlib.Core.List.{List}
 use lib.ListN.{length}
 use borrow.Author.Needs.{needs}
 use Rattle.engine.specs.Body.{narrow, associationCount}
-use Rattle.ledger.specs.declared.place.Placing.{Placing}
+use Rattle.placing.specs.declared.place.Placing.{Placing}
 use Rattle.memory.specs.declared.state.FixedLagRefiner.{FixedLagRefiner}
 use Rattle.buffers.specs.Buffers.{over}
 use Rattle.memory.specs.Memory.{slotAt}
-use Rattle.ledger.specs.Placing.{Placed}
+use Rattle.placing.specs.Placing.{Placed}
 use Rattle.arrival.specs.Arriving.{columnWords, placedBy, Holds, HeldBy}
 use Rattle.memory.proofs.Counts.{associations-few}
 use Rattle.arrival.proofs.HeldScans.{body-fits, bodies-kept, columns-kept, body-other, body-here, scans-more}

@@ -1,11 +1,11 @@
--- `ledger::place::place_one` meets its contract. Assumes nothing.
+-- `placing::place::place_one` meets its contract. Assumes nothing.
 use native.Mathlib.Omega.{arith}
 use mathlib.Core.Path.{_∙_}
 use lib.ListN.{length-set}
-use Rattle.ledger.proofs.PlacingSteps.{placed-nobody}
+use Rattle.placing.proofs.PlacingSteps.{placed-nobody}
 use borrow.Author.Needs.{needs}
-use Rattle.ledger.proofs.place.place_one.Statement.{statement}
-use Rattle.ledger.proofs.place.place_one.Tie as tie
+use Rattle.placing.proofs.place.place_one.Statement.{statement}
+use Rattle.placing.proofs.place.place_one.Tie as tie
 
 enum-told : tie.Need-enum-told
 enum-told c = search needs

@@ -1,4 +1,4 @@
--- `ledger::own::keep_owners` meets its contract. Assumes nothing.
+-- `placing::own::keep_owners` meets its contract. Assumes nothing.
 use Prim.Native.Nat.{ℕ, _-_}
 use native.Mathlib.Omega.{arith}
 use mathlib.Core.Path.{sym, _∙_}
@@ -6,11 +6,11 @@ use mathlib.Core.Bool.{Bool}
 use mathlib.Core.List.{List}
 use mathlib.Core.Logic.{⊎-elim}
 use lib.ListN.{length-set}
 use Rattle.ledger.specs.Sound.{liveIn}
-use Rattle.ledger.specs.Sound.{keptOwners}
-use Rattle.ledger.proofs.Compacting.{Compacts, compacts-none, compacts-more, compacts-same, compacts-all}
-use Rattle.ledger.proofs.own.keep_owners.Statement.{statement}
-use Rattle.ledger.proofs.own.keep_owners.Tie as tie
+use Rattle.placing.specs.Owning.{keptOwners}
+use Rattle.placing.proofs.Compacting.{Compacts, compacts-none, compacts-more, compacts-same, compacts-all}
+use Rattle.placing.proofs.own.keep_owners.Statement.{statement}
+use Rattle.placing.proofs.own.keep_owners.Tie as tie
 
 -- whether an entry has a live owner
 abbrev lives : List ℕ → List ℕ → ℕ → ℕ → List ℕ → ℕ → ℕ × ℕ → Bool

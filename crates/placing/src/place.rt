@@ -1,9 +1,9 @@
 // Placing: each association of a new frame goes to the track that owns its engine id, or starts a track.
-use crate::rule;
 use engine::body;
 use engine::types::Associated;
 use engine::types::EngineId;
 use engine::types::RefinedId;
+use ledger::rule;
 use memory::state::OWNERS;
 ghost use mathlib.Core.Path.{_≡_};
 ghost use Prim.Native.Nat.{_+_, _*_, _<_, _≤_};
@@ -12,7 +12,7 @@ ghost use Rattle.engine.specs.Body.{narrow, associationCount, refusal, frameOf}
 ghost use Rattle.model.specs.Lists.{has};
 ghost use Rattle.model.specs.Placing as model;
 ghost use Rattle.memory.specs.Memory.{ownersIn};
-ghost use Rattle.ledger.specs.Placing.{assignedIn, freeBelow, placedOne, placedAll, Placed, begins};
+ghost use Rattle.placing.specs.Placing.{assignedIn, freeBelow, placedOne, placedAll, Placed, begins};
 
 // Associations of a frame at most.
 pub const ASSOCIATIONS: usize = 32;

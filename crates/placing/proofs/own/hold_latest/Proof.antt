@@ -1,4 +1,4 @@
--- `ledger::own::hold_latest` meets its contract: the entries before k are told anew, the others are as they were. Assumes nothing.
+-- `placing::own::hold_latest` meets its contract: the entries before k are told anew, the others are as they were. Assumes nothing.
 use Prim.Native.Nat.{ℕ, _+_, _-_, _*_, _≤_, _<_}
 use native.Mathlib.Decide.{ℕ-discrete}
 use native.Mathlib.Omega.{arith}
@@ -12,10 +12,11 @@ use Rattle.memory.specs.Memory.{ownersIn}
 use Rattle.memory.specs.Gathering.{latestOf, heldLatest}
 use Rattle.model.proofs.Latest.{or-some, or-none}
 use Rattle.memory.proofs.Rows.{rows-same}
 use Rattle.ledger.proofs.SoundLaw.{map-rows}
-use Rattle.ledger.proofs.Owners.{ownerAt, other-owner}
-use Rattle.ledger.proofs.own.hold_latest.Statement.{statement}
-use Rattle.ledger.proofs.own.hold_latest.Tie as tie
+use Rattle.ledger.proofs.Owners.{ownerAt}
+use Rattle.placing.proofs.Owners.{other-owner}
+use Rattle.placing.proofs.own.hold_latest.Statement.{statement}
+use Rattle.placing.proofs.own.hold_latest.Tie as tie
 
 module _ (ids engines starts : List ℕ) (held : ℕ) where
   abbrev latest : ℕ → ℕ

@@ -1,4 +1,4 @@
--- `ledger::place::free_owner` meets its contract. Assumes nothing.
+-- `placing::place::free_owner` meets its contract. Assumes nothing.
 use native.Mathlib.Omega.{arith}
 use mathlib.Core.Path.{_≡_, sym, _∙_}
 use denote.Ref.{now}
@@ -7,8 +7,8 @@ use lib.ListN.{take}
 use Rattle.model.specs.Lists.{has}
 use borrow.Author.Tests.{le-ltb, lt-ltb}
 use borrow.Author.Needs.{needs}
-use Rattle.ledger.proofs.place.free_owner.Statement.{statement}
-use Rattle.ledger.proofs.place.free_owner.Tie as tie
+use Rattle.placing.proofs.place.free_owner.Statement.{statement}
+use Rattle.placing.proofs.place.free_owner.Tie as tie
 
 returns : tie.Need-returns
 returns c = rw (le-ltb (c .before .args .x) (c .before .args .old) (c .if1 .taken))

@@ -1,12 +1,12 @@
--- `ledger::place::place_track` meets its contract. Assumes nothing.
+-- `placing::place::place_track` meets its contract. Assumes nothing.
 use native.Mathlib.Omega.{arith}
 use mathlib.Core.Path.{refl, ap, _∙_}
 use lib.ListN.{length-set, take}
-use Rattle.ledger.specs.Placing.{freeBelow}
-use Rattle.ledger.proofs.PlacingSteps.{placed-owner, placed-fresh}
+use Rattle.placing.specs.Placing.{freeBelow}
+use Rattle.placing.proofs.PlacingSteps.{placed-owner, placed-fresh}
 use borrow.Author.Needs.{needs}
-use Rattle.ledger.proofs.place.place_track.Statement.{statement}
-use Rattle.ledger.proofs.place.place_track.Tie as tie
+use Rattle.placing.proofs.place.place_track.Statement.{statement}
+use Rattle.placing.proofs.place.place_track.Tie as tie
 
 owner-of-requires : tie.Need-owner-of-requires
 owner-of-requires c κs = search needs

@@ -1,4 +1,4 @@
--- `ledger::place::place_all` meets its contract. The first j associations are placed. Assumes nothing.
+-- `placing::place::place_all` meets its contract. The first j associations are placed. Assumes nothing.
 use Prim.Native.Nat.{ℕ, _+_, _-_, _≤_}
 use native.Mathlib.Numerals.{add-one}
 use native.Mathlib.Omega.{arith}
@@ -6,11 +6,11 @@ use mathlib.Core.Path.{_≡_, refl, ap, _∙_, subst}
 use lib.ListN.{take}
 use lib.Seq.{take-all}
 use Rattle.engine.specs.Body.{narrow, associationCount, frameOf}
-use Rattle.ledger.specs.Placing.{placedAll, Placed, begins}
+use Rattle.placing.specs.Placing.{placedAll, Placed, begins}
 use Rattle.memory.proofs.Counts.{associations-long, associations-few}
-use Rattle.ledger.proofs.PlacingSteps.{placed-more}
-use Rattle.ledger.proofs.place.place_all.Statement.{statement}
-use Rattle.ledger.proofs.place.place_all.Tie as tie
+use Rattle.placing.proofs.PlacingSteps.{placed-more}
+use Rattle.placing.proofs.place.place_all.Statement.{statement}
+use Rattle.placing.proofs.place.place_all.Tie as tie
 
 abbrev Inv-loop : tie.InvT-loop
 Inv-loop s owned owners₀ ids₀ old p₀ j₀ owners ids p j =

@@ -13,9 +13,9 @@ use Rattle.engine.specs.declared.types.Associated.the-variants.{Nobody, Track}
 use Rattle.engine.specs.declared.types.Association.{Association}
 use Rattle.model.specs.Lists.{has, find, assign}
 use Rattle.model.specs.Placing as model
-use Rattle.ledger.specs.declared.place.Placing.{Placing}
+use Rattle.placing.specs.declared.place.Placing.{Placing}
 use Rattle.memory.specs.Memory.{ownersIn}
 use Rattle.ledger.specs.Sound.{orNone}
 
 -- the table has room for 256 entries
 abbrev pub assignedIn : ℕ → ℕ → List (ℕ × ℕ) → List (ℕ × ℕ)

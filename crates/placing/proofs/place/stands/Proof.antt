@@ -1,4 +1,4 @@
--- `ledger::place::stands` meets its contract. Assumes nothing.
+-- `placing::place::stands` meets its contract. Assumes nothing.
 use Prim.Native.Nat.{ℕ, zero, suc, _+_, _-_, _≤_, _<_}
 use native.Mathlib.Numerals.{add-one}
 use native.Mathlib.Omega.{arith}
@@ -11,8 +11,8 @@ use lib.Dec.{eqb}
 use borrow.Author.Tests.{eq-eqb, ne-eqb}
 use Rattle.model.specs.Lists.{any, has}
 use Rattle.model.proofs.Counting.{any-append}
-use Rattle.ledger.proofs.place.stands.Statement.{statement}
-use Rattle.ledger.proofs.place.stands.Tie as tie
+use Rattle.placing.proofs.place.stands.Statement.{statement}
+use Rattle.placing.proofs.place.stands.Tie as tie
 
 at-place : (x : ℕ) (l : List ℕ) (n i : ℕ) → i < n → n ≤ length l → x ≡ getD l i 0 → true ≡ has x (take n l)
 unfolding any

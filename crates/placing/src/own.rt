@@ -1,7 +1,7 @@
 // Owning: after a search each engine id goes to the track that holds its latest detection, and an owner stays while it is live.
-use crate::rule;
 use costs::cost::DETECTIONS;
 use engine::types::ScanIndex;
+use ledger::rule;
 use memory::gather::STARTS;
 use memory::state::BODIES;
 use memory::state::COLUMNS;
@@ -11,8 +11,9 @@ ghost use mathlib.Core.Path.{_≡_};
 ghost use Prim.Native.Nat.{_+_, _≤_};
 ghost use lib.ListN.{length};
 ghost use Rattle.memory.specs.Memory.{ownersIn};
-ghost use Rattle.ledger.specs.Sound.{Starts, keptOwners};
 ghost use Rattle.memory.specs.Gathering.{heldLatest};
+ghost use Rattle.ledger.specs.Sound.{Starts};
+ghost use Rattle.placing.specs.Owning.{keptOwners};
 
 // The owners, each changed to the holder of the latest detection of its engine id, if a window has one. It asks for 256 owners, 17 scans and 128 detections
 // at most.

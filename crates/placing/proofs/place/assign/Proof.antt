@@ -1,12 +1,12 @@
--- `ledger::place::assign` meets its contract. Assumes nothing.
+-- `placing::place::assign` meets its contract. Assumes nothing.
 use Prim.Native.Nat.{_+_, _-_, _*_, _≤_}
 use native.Mathlib.Omega.{arith}
 use mathlib.Core.Path.{_≡_, refl, sym, ap, _∙_, subst}
 use lib.ListN.{length, length-set, getD, set}
 use Rattle.memory.specs.Memory.{ownersIn}
-use Rattle.ledger.proofs.Owners.{Passed, passed-none, passed-more, assigned-here, assigned-end, assigned-full}
-use Rattle.ledger.proofs.place.assign.Statement.{statement}
-use Rattle.ledger.proofs.place.assign.Tie as tie
+use Rattle.placing.proofs.Owners.{Passed, passed-none, passed-more, assigned-here, assigned-end, assigned-full}
+use Rattle.placing.proofs.place.assign.Statement.{statement}
+use Rattle.placing.proofs.place.assign.Tie as tie
 
 abbrev Inv-loop : tie.InvT-loop
 Inv-loop owners₀ owned e x k₀ owners k = (k ≤ owned) × (length owners₀ ≡ 512) × (owners ≡ owners₀) × Passed owners₀ e owned x k

@@ -12,10 +12,10 @@ use Rattle.engine.specs.declared.types.Association.{Association}
 use Rattle.engine.specs.Frame.{noAssociation}
 use Rattle.model.specs.Lists.{find}
 use Rattle.model.specs.Placing as model
-use Rattle.ledger.specs.declared.place.Placing.{Placing}
+use Rattle.placing.specs.declared.place.Placing.{Placing}
 use Rattle.memory.specs.Memory.{ownersIn}
 use Rattle.ledger.specs.Sound.{orNone, ownerIn}
-use Rattle.ledger.specs.Placing.{assignedIn, freeBelow, placedTrack, placedOne, placedAll, Placed}
+use Rattle.placing.specs.Placing.{assignedIn, freeBelow, placedTrack, placedOne, placedAll, Placed}
 
 -- one id more
 ids-more : (ids : List ℕ) (j x : ℕ) → j < length ids → take (j + 1) (set ids j x) ≡ take j ids ++ (x ∷ [])

@@ -1,0 +1,3 @@
+// Placing, and owning: which track an engine id belongs to.
+pub mod own;
+pub mod place;
