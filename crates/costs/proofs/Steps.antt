@@ -15,7 +15,7 @@ use Rattle.kf.specs.declared.filter.Kf.{Kf}
 use Rattle.costs.specs.declared.cost.Run.{Run}
 use Rattle.costs.specs.declared.cost.Fold.{Fold}
 use Rattle.costs.specs.declared.cost.Fold.the-variants.{Fresh, Frozen, Going}
-use Rattle.costs.specs.Cost.{Det, View, added, born, resumed, step, run, detAt, dets, missesOf, Leading}
+use Rattle.costs.specs.Cost.{Det, View, gap, added, born, resumed, step, run, detAt, dets, missesOf, Leading}
 
 -- a fold over head and tail is the fold over the tail from where the head ended
 pub run-append : (c : FgoConfig) (s : Fold) (ds es : List Det) → run c s (ds ++ es) ≡ run c (run c s ds) es
@@ -104,6 +104,11 @@ module _ {q : Float} {v : View} {whole : Run} {most : ℕ} {r : List ℕ} {k : �
 
   pub ends : length r ≤ i → s ≡ whole
   ends h = sym (ap (foldl (added q) s) (rest-none v k i r h)) ∙ inv .rest
+
+-- no scan is skipped between a detection and the scan after it
+pub none-skipped : (q : Float) (s : Run) (d : Det) (n : ℕ) → n ≡ d .scan + 1 → 0 ≡ gap n (added q s d .last .0)
+unfolding added
+none-skipped q s d n e = omega (arith, e)
 
 -- a loop over leading slots: none so far has a detection
 pub record Passed (r : List ℕ) (i : ℕ) : Type 0 where

@@ -15,6 +15,9 @@ use Rattle.costs.specs.declared.cost.Run.{Run}
 use Rattle.costs.specs.declared.cost.Dot.{Dot}
 use Rattle.costs.specs.declared.cost.Fold.{Fold}
 use Rattle.costs.specs.declared.cost.Fold.the-variants.{Fresh, Frozen, Going}
+use Rattle.costs.specs.declared.cost.Course.{Course}
+use Rattle.costs.specs.declared.cost.Stage.{Stage}
+use Rattle.costs.specs.declared.cost.Stage.the-variants as stage
 use Rattle.scalar.specs.F64.{f64}
 use Rattle.kf.specs.Plain.{logTerm}
 use Rattle.kf.specs.Filter.{started, predicted, updated}
@@ -95,6 +98,29 @@ unfoldable pub dets : View → ℕ → List ℕ → List Det
 dets v k [] = []
 dets v k (zero ∷ r) = dets v (suc k) r
 dets v k (suc j ∷ r) = detAt v k j ∷ dets v (suc k) r
+
+-- ---- a fold that is lent: the numbers of its filter, the NLLs so far, and beside them its stage
+
+abbrev pub filterIn : List Float → Kf
+filterIn ns =
+    record {
+      x = getD ns 0 nan;
+      y = getD ns 1 nan;
+      vx = getD ns 2 nan;
+      vy = getD ns 3 nan;
+      p00 = getD ns 4 nan;
+      p01 = getD ns 5 nan;
+      p11 = getD ns 6 nan;
+      t = getD ns 7 nan;
+    }
+
+abbrev pub runIn : Course → List Float → Run
+runIn c ns = record { kf = filterIn ns; total = getD ns 8 nan; last = c .last; misses = c .misses }
+
+abbrev pub foldIn : Stage → List Float → Fold
+foldIn stage.Fresh ns = Fresh
+foldIn (stage.Frozen last) ns = Frozen (filterIn ns) last
+foldIn (stage.Going c) ns = Going (runIn c ns)
 
 -- ---- what the inner functions ask, beside the meaning
 

@@ -7,11 +7,11 @@ use engine::types::ScanIndex;
 use kf::filter::Kf;
 use scalar::log;
 ghost use mathlib.Core.Path.{_≡_};
-ghost use Prim.Native.Nat.{_+_, _<_};
+ghost use Prim.Native.Nat.{_+_, _≤_, _<_};
 ghost use mathlib.Core.List.{foldl};
 ghost use lib.ListN.{drop};
 ghost use Rattle.costs.specs.declared.cost.Fold.the-variants.{Going};
-ghost use Rattle.costs.specs.Cost.{dotAt, gap, added, born, run, closed, cost, dets, detOf, viewOf, Kept, Recalled, Asks, Leading};
+ghost use Rattle.costs.specs.Cost.{dotAt, gap, added, born, resumed, run, closed, cost, dets, detOf, viewOf, filterIn, runIn, foldIn, Kept, Recalled, Asks, Leading};
 
 // Scans held at most: those of the lag, and the one that is pushed.
 pub const SCANS: usize = 17;
@@ -23,6 +23,9 @@ pub const DOTS: usize = 512;
 
 // Logarithms worked out before, at most 256: a variance, and the logarithm that it adds.
 pub const LOGS: usize = 512;
+
+// The numbers of a run that is lent: those of its filter, and the NLLs so far.
+pub const RUN: usize = 9;
 
 // Where the fold over a window stands.
 pub enum Fold {
@@ -40,6 +43,19 @@ pub struct Run {
     pub total: f64,
     pub last: ScanIndex,
     pub misses: u64,
+}
+
+// How far a run has come: the last detection's scan, and the scans without a detection.
+pub struct Course {
+    pub last: ScanIndex,
+    pub misses: u64,
+}
+
+// Where a fold stands whose numbers are lent: nothing yet; after a frozen part, with its last scan; after a detection.
+pub enum Stage {
+    Fresh,
+    Frozen(ScanIndex),
+    Going(Course),
 }
 
 pub struct Dot {
@@ -93,12 +109,11 @@ fn log_of(s: f64, logs: &mut [f64; LOGS]) -> f64
 
 impl Run {
     // Predict to the detection's time, update with its position, and add its NLL; the scans skipped are misses. q is the acceleration spectral density.
-    fn add(self, q: f64, scan: ScanIndex, d: Dot, logs: &mut [f64; LOGS]) -> Run
-        requires { ⌜ (self .misses + scan .0 < 18446744073709551616) × Kept (now logs) ⌝ }
+    fn add(self, q: f64, scan: ScanIndex, skipped: u64, d: Dot, logs: &mut [f64; LOGS]) -> Run
+        requires { ⌜ (self .misses + scan .0 < 18446744073709551616) × (skipped ≡ gap (scan .0) (self .last .0)) × Kept (now logs) ⌝ }
         ensures { λ u. ⌜ (u ≡ added q self (detOf scan d)) × Kept (now (logs .exit)) ⌝ }
     {
-        let last = self.last;
-        let misses = self.misses + skipped(scan.0, last.0);
+        let misses = self.misses + skipped;
         let kf = self.kf;
         let total = self.total;
         let p = kf.predict(d.t, q);
@@ -127,15 +142,98 @@ fn born_at(c: FgoConfig, scan: ScanIndex, d: Dot) -> Run
     }
 }
 
+// The filter of a run that is lent.
+fn filter_in(numbers: &[f64; RUN]) -> Kf
+    ensures { λ k. ⌜ k ≡ filterIn (now (numbers .entry)) ⌝ }
+{
+    Kf {
+        x: numbers[0],
+        y: numbers[1],
+        vx: numbers[2],
+        vy: numbers[3],
+        p00: numbers[4],
+        p01: numbers[5],
+        p11: numbers[6],
+        t: numbers[7],
+    }
+}
+
+// A run from its course and its numbers.
+fn run_in(course: Course, numbers: &[f64; RUN]) -> Run
+    ensures { λ r. ⌜ r ≡ runIn course (now (numbers .entry)) ⌝ }
+{
+    let kf = filter_in(numbers);
+    let last = course.last;
+    Run {
+        kf,
+        total: numbers[8],
+        last,
+        misses: course.misses,
+    }
+}
+
+impl Run {
+    // The run in numbers, and its course.
+    fn lend(self, numbers: &mut [f64; RUN]) -> Course
+        ensures { λ c. ⌜ runIn c (now (numbers .exit)) ≡ self ⌝ }
+    {
+        let kf = self.kf;
+        let last = self.last;
+        *numbers = [
+            kf.x,
+            kf.y,
+            kf.vx,
+            kf.vy,
+            kf.p00,
+            kf.p01,
+            kf.p11,
+            kf.t,
+            self.total,
+        ];
+        Course {
+            last,
+            misses: self.misses,
+        }
+    }
+}
+
+// The run that goes on from a frozen part.
+fn resume(kf: Kf, last: ScanIndex) -> Run
+    ensures { λ r. ⌜ r ≡ resumed kf last ⌝ }
+{
+    Run {
+        kf,
+        total: 0.0,
+        last,
+        misses: 0,
+    }
+}
+
 impl Fold {
-    // The cost of the window that was folded.
-    pub fn close(self, c: FgoConfig) -> f64
-        ensures { λ r. ⌜ r ≡ closed c self ⌝ }
+    // The fold in numbers, and its stage.
+    pub fn lend(self, numbers: &mut [f64; RUN]) -> Stage
+        ensures { λ s. ⌜ foldIn s (now (numbers .exit)) ≡ self ⌝ }
     {
         match self {
-            Fold::Fresh => 0.0,
-            Fold::Frozen { kf: _, last: _ } => 0.0,
-            Fold::Going(r) => r.total + std::num::nearest_u64_to_f64(r.misses) * c.miss_cost,
+            Fold::Fresh => Stage::Fresh,
+            Fold::Frozen { kf, last } => {
+                resume(kf, last).lend(numbers);
+                Stage::Frozen(last)
+            }
+            Fold::Going(r) => Stage::Going(r.lend(numbers)),
+        }
+    }
+}
+
+impl Stage {
+    // The cost of the window that was folded.
+    pub fn close(self, numbers: &[f64; RUN], c: FgoConfig) -> f64
+        ensures { λ r. ⌜ r ≡ closed c (foldIn self (now (numbers .entry))) ⌝ }
+    {
+        match self {
+            Stage::Fresh => 0.0,
+            Stage::Frozen(_) => 0.0,
+            Stage::Going(r) => numbers[8] + std::num::nearest_u64_to_f64(r.misses) * c.miss_cost,
         }
     }
 }
@@ -154,101 +252,97 @@ fn leading(slots: &[usize]) -> usize
     i
 }
 
-// The fold over the slots of a row from one on, after a detection or a frozen part: the row begins at the held scan k.
+// The fold over the slots of a row from one on, after a detection or a frozen part: the row begins at the held scan k. The run's numbers are lent.
 fn run_on<'a>(
     q: f64,
-    from: Run,
+    from: Course,
+    numbers: &mut [f64; RUN],
     slots: &'a [usize],
     begin: usize,
     k: usize,
     first: ScanIndex,
     dots: &'a [f64; DOTS],
     logs: &mut [f64; LOGS],
-) -> Run
-    requires { ⌜ Asks (now slots) k first (Going from) (now logs) ⌝ }
-    ensures { λ r. ⌜ (r ≡ foldl (added q) from (dets (viewOf first (now (dots .entry))) (k + begin) (drop begin (now (slots .entry))))) × Kept (now (logs .exit)) ⌝ }
+) -> Course
+    requires { ⌜ Asks (now slots) k first (Going (runIn from (now numbers))) (now logs) × (begin ≤ 17) ⌝ }
+    ensures { λ r. ⌜ (runIn r (now (numbers .exit)) ≡ foldl (added q) (runIn from (now (numbers .entry))) (dets (viewOf first (now (dots .entry))) (k + begin) (drop begin (now (slots .entry))))) × Kept (now (logs .exit)) ⌝ }
 {
-    let mut r = from;
+    let mut r = run_in(from, numbers);
     let mut i = begin;
+    let last = from.last;
+    let mut skips = skipped(first.0 + (k + i) as u64, last.0);
     while i < slots.len() {
         let code = slots[i];
+        let scan = ScanIndex(first.0 + (k + i) as u64);
         if 0 < code {
-            let scan = ScanIndex(first.0 + (k + i) as u64);
-            r = r.add(q, scan, dot_at(dots, code - 1), logs);
+            r = r.add(q, scan, skips, dot_at(dots, code - 1), logs);
+            skips = 0;
+        } else {
+            let last = r.last;
+            skips = skipped(scan.0 + 1, last.0);
         }
         i += 1;
     }
-    r
+    r.lend(numbers)
 }
 
-// The fold over a part of a row that begins at the held scan k. It asks that the part ends by scan 17, for few misses so far, scan numbers below 2^33, and
-// logarithms that are right.
+// The fold over a part of a row that begins at the held scan k, going on from where it stands; its numbers are lent. It asks that the part ends by scan 17, for few
+// misses so far, scan numbers below 2^33, and logarithms that are right.
 pub fn run_window<'a>(
     c: FgoConfig,
-    from: Fold,
+    from: Stage,
+    numbers: &mut [f64; RUN],
     slots: &'a [usize],
     k: usize,
     first: ScanIndex,
     dots: &'a [f64; DOTS],
     logs: &mut [f64; LOGS],
-) -> Fold
-    requires { ⌜ Asks (now slots) k first from (now logs) ⌝ }
-    ensures { λ f. ⌜ (f ≡ run c from (dets (viewOf first (now (dots .entry))) k (now (slots .entry)))) × Kept (now (logs .exit)) ⌝ }
+) -> Stage
+    requires { ⌜ Asks (now slots) k first (foldIn from (now numbers)) (now logs) ⌝ }
+    ensures { λ s. ⌜ (foldIn s (now (numbers .exit)) ≡ run c (foldIn from (now (numbers .entry))) (dets (viewOf first (now (dots .entry))) k (now (slots .entry)))) × Kept (now (logs .exit)) ⌝ }
 {
-    let i = leading(slots);
-    if slots.len() <= i {
-        return from;
-    }
+    let q = c.accel_spectral_density;
     match from {
-        Fold::Fresh => {
+        Stage::Fresh => {
+            let i = leading(slots);
+            if slots.len() <= i {
+                return from;
+            }
             let scan = ScanIndex(first.0 + (k + i) as u64);
             let r = born_at(c, scan, dot_at(dots, slots[i] - 1));
-            Fold::Going(run_on(
-                c.accel_spectral_density,
-                r,
-                slots,
-                i + 1,
-                k,
-                first,
-                dots,
-                logs,
-            ))
+            let course = r.lend(numbers);
+            Stage::Going(run_on(q, course, numbers, slots, i + 1, k, first, dots, logs))
         }
-        Fold::Frozen { kf, last } => {
-            let r = Run {
-                kf,
-                total: 0.0,
-                last,
-                misses: 0,
-            };
-            Fold::Going(run_on(c.accel_spectral_density, r, slots, i, k, first, dots, logs))
+        Stage::Frozen(last) => {
+            let i = leading(slots);
+            if slots.len() <= i {
+                return from;
+            }
+            let r = resume(filter_in(numbers), last);
+            let course = r.lend(numbers);
+            Stage::Going(run_on(q, course, numbers, slots, i, k, first, dots, logs))
         }
-        Fold::Going(r) => Fold::Going(run_on(
-            c.accel_spectral_density,
-            r,
-            slots,
-            i,
-            k,
-            first,
-            dots,
-            logs,
-        )),
+        Stage::Going(course) => {
+            Stage::Going(run_on(q, course, numbers, slots, 0, k, first, dots, logs))
+        }
     }
 }
 
 // The cost of a window, of which `from` is the fold so far and the slots from the held scan k on are the rest. It asks what `run_window` asks.
 pub fn cost_of<'a>(
     c: FgoConfig,
-    from: Fold,
+    from: Stage,
+    numbers: &'a [f64; RUN],
     slots: &'a [usize],
     k: usize,
     first: ScanIndex,
     dots: &'a [f64; DOTS],
     logs: &mut [f64; LOGS],
 ) -> f64
-    requires { ⌜ Asks (now slots) k first from (now logs) ⌝ }
-    ensures { λ r. ⌜ (r ≡ cost c from (dets (viewOf first (now (dots .entry))) k (now (slots .entry)))) × Kept (now (logs .exit)) ⌝ }
+    requires { ⌜ Asks (now slots) k first (foldIn from (now numbers)) (now logs) ⌝ }
+    ensures { λ r. ⌜ (r ≡ cost c (foldIn from (now (numbers .entry))) (dets (viewOf first (now (dots .entry))) k (now (slots .entry)))) × Kept (now (logs .exit)) ⌝ }
 {
-    let f = run_window(c, from, slots, k, first, dots, logs);
-    f.close(c)
+    let mut own = *numbers;
+    let s = run_window(c, from, &mut own, slots, k, first, dots, logs);
+    s.close(&own, c)
 }

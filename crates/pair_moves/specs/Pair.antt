@@ -3,12 +3,13 @@ use Prim.Native.Nat.{ℕ, _+_, _-_}
 use mathlib.Core.Path.{_≡_}
 use mathlib.Core.Bool.{Bool, true, false, cond}
 use mathlib.Core.List.{List, [], _∷_, map, foldl}
-use lib.ListN.{getD}
+use lib.ListN.{length, getD}
 use lib.Dec.{eqb}
 use lib.IntN.{pos}
 use lib.Ieee.{Float, binary64, ofInt}
 use Rattle.engine.specs.declared.config.FgoConfig.{FgoConfig}
 use Rattle.engine.specs.declared.types.RefinedId.{RefinedId}
+use Rattle.engine.specs.declared.types.ScanIndex.{ScanIndex}
 use Rattle.engine.specs.Config.{clutter}
 use Rattle.costs.specs.declared.cost.Fold.{Fold}
 use Rattle.costs.specs.Cost.{View, missesOf}
@@ -18,7 +19,7 @@ use Rattle.model.specs.Lists.{keep, upFrom}
 use Rattle.model.specs.Searching.{betterPair}
 use Rattle.pair_moves.specs.declared.pair.Overlap.{Overlap}
 use Rattle.pricing.specs.declared.price.Hall.{Hall}
-use Rattle.pricing.specs.Price.{_⊕_, _⊖_, _⊗_, rowCost, crossed, scanAt, viewIn, Priced, Ends}
+use Rattle.pricing.specs.Price.{_⊕_, _⊖_, _⊗_, rowCost, crossed, scanAt, viewIn, Priced, Fit, Ends}
 
 -- ---- rows
 
@@ -68,6 +69,10 @@ cutsOf close = keep (cutAt close) (upFrom 0 18)
 unfoldable pub trySwapRow : FgoConfig → View → Fold → Fold → List ℕ → List ℕ → Float → ℕ → PairMove
 trySwapRow c v pa pb a b base g = Swap (scanAt v g) (rowCost c v pa (crossed g a b) ⊕ rowCost c v pb (crossed g b a) ⊖ base)
 
+-- the swap before all scans, by what the rows cost when they are exchanged
+abbrev pub firstSwap : Bool → ScanIndex → Float → Float → Float → PairMove
+firstSwap cut first xa xb base = cond cut (betterPair Stay (Swap first (xa ⊕ xb ⊖ base))) Stay
+
 -- "d = (cost + losers·clutter_cost) − base"
 abbrev pub mergeOf : FgoConfig → RefinedId → Bool → Float → ℕ → Float → PairMove
 mergeOf c k own cost lost base = Merge k own (cost ⊕ ofInt binary64 (pos lost) ⊗ clutter c ⊖ base)
@@ -92,11 +97,24 @@ bestPairRow c v x y pa pb close a b base =
 
 -- ---- what the inner functions ask
 
--- a keeper that costs `cost` with the row a and what it goes on from, another row b, and how the two lie to each other
-pub record Merges (h : Hall) (p : Fold) (cost : Float) (o : Overlap) (a b : List ℕ) (end : ℕ) (dots logs : List Float) : Type 0 where
+-- two rows that end at ea and eb, both by `end`, what they cost now, and what they cost exchanged if there is a cut before all scans
+pub record Swaps (h : Hall) (pa pb : Fold) (xa xb : Float) (close : List Bool) (a b : List ℕ) (ea eb end : ℕ) (base : Float) (dots logs : List Float) : Type 0 where
+  pub priced : Priced h logs
+  pub fit-a : Fit pa a
+  pub fit-b : Fit pb b
+  pub end-a : Ends ea a
+  pub end-b : Ends eb b
+  pub over-a : Ends end a
+  pub over-b : Ends end b
+  pub noted : length close ≡ 17
+  pub paid : base ≡ rowCost (h .config) (viewIn h dots) pa a ⊕ rowCost (h .config) (viewIn h dots) pb b
+  pub exchanged-a : cutAt close 0 ≡ true → xa ≡ rowCost (h .config) (viewIn h dots) pa b
+  pub exchanged-b : cutAt close 0 ≡ true → xb ≡ rowCost (h .config) (viewIn h dots) pb a
+
+-- a keeper with the row a and what it goes on from, another row b, and how the two lie to each other
+pub record Merges (h : Hall) (p : Fold) (o : Overlap) (a b : List ℕ) (end : ℕ) (logs : List Float) : Type 0 where
   pub priced : Priced h logs
   pub idle : missesOf p ≡ 0
   pub mine : Ends end a
   pub theirs : Ends end b
-  pub paid : cost ≡ rowCost (h .config) (viewIn h dots) p a
   pub lie : o ≡ overlapOf a b

@@ -2,7 +2,9 @@
 use costs::cost::DOTS;
 use costs::cost::Fold;
 use costs::cost::LOGS;
+use costs::cost::RUN;
 use costs::cost::SCANS;
+use costs::cost::Stage;
 use engine::types::RefinedId;
 use engine::types::ScanIndex;
 use model::moves::PairMove;
@@ -13,10 +15,10 @@ ghost use mathlib.Core.Path.{_≡_};
 ghost use mathlib.Core.Bool.{true, false};
 ghost use Prim.Native.Nat.{_≤_, _<_};
 ghost use lib.ListN.{length, drop};
-ghost use Rattle.costs.specs.Cost.{dets, cost, missesOf, Kept};
+ghost use Rattle.costs.specs.Cost.{dets, cost, foldIn, missesOf, Kept};
 ghost use Rattle.model.specs.Searching.{pairGain, betterPair};
 ghost use Rattle.pricing.specs.Price.{_⊕_, _⊖_, rowCost, Priced, Fit, Ends, viewIn};
-ghost use Rattle.pair_moves.specs.Pair.{cutAt, keptSlot, mergedRow, bothHave, onlyHas, overlapOf, mergeOf, bestSwapRow, betterMerge, bestPairRow, Merges};
+ghost use Rattle.pair_moves.specs.Pair.{cutAt, keptSlot, mergedRow, bothHave, onlyHas, overlapOf, firstSwap, mergeOf, bestSwapRow, betterMerge, bestPairRow, Swaps, Merges};
 
 fn pair_gain(m: PairMove) -> f64
     ensures { λ r. ⌜ r ≡ pairGain m ⌝ }
@@ -43,11 +45,13 @@ fn better_pair(best: PairMove, m: PairMove) -> PairMove
     }
 }
 
-// The gain of the swap at a cut, by the folds over both rows before it. The rows end at ea and eb.
+// The gain of the swap at a cut, by the folds over both rows before it, whose numbers are lent. The rows end at ea and eb.
 fn swap_gain<'a>(
     hall: Hall,
-    fa: Fold,
-    fb: Fold,
+    sa: Stage,
+    sb: Stage,
+    fa: &'a [f64; RUN],
+    fb: &'a [f64; RUN],
     a: &'a [usize; SCANS],
     b: &'a [usize; SCANS],
     ea: usize,
@@ -57,11 +61,11 @@ fn swap_gain<'a>(
     dots: &'a [f64; DOTS],
     logs: &mut [f64; LOGS],
 ) -> f64
-    requires { ⌜ Priced hall (now logs) × Ends ea (now a) × Ends eb (now b) × (missesOf fa < 288230376151711744) × (missesOf fb < 288230376151711744) ⌝ }
-    ensures { λ r. ⌜ (r ≡ cost (hall .config) fa (dets (viewIn hall (now (dots .entry))) cut (drop cut (now (b .entry)))) ⊕ cost (hall .config) fb (dets (viewIn hall (now (dots .entry))) cut (drop cut (now (a .entry)))) ⊖ base) × Kept (now (logs .exit)) ⌝ }
+    requires { ⌜ Priced hall (now logs) × Ends ea (now a) × Ends eb (now b) × (missesOf (foldIn sa (now fa)) < 288230376151711744) × (missesOf (foldIn sb (now fb)) < 288230376151711744) ⌝ }
+    ensures { λ r. ⌜ (r ≡ cost (hall .config) (foldIn sa (now (fa .entry))) (dets (viewIn hall (now (dots .entry))) cut (drop cut (now (b .entry)))) ⊕ cost (hall .config) (foldIn sb (now (fb .entry))) (dets (viewIn hall (now (dots .entry))) cut (drop cut (now (a .entry)))) ⊖ base) × Kept (now (logs .exit)) ⌝ }
 {
-    let x = price::rest_cost(hall, fa, b, cut, eb, dots, logs);
-    let y = price::rest_cost(hall, fb, a, cut, ea, dots, logs);
+    let x = price::rest_cost(hall, sa, fa, b, cut, eb, dots, logs);
+    let y = price::rest_cost(hall, sb, fb, a, cut, ea, dots, logs);
     x + y - base
 }
 
@@ -81,11 +85,25 @@ fn is_cut(close: &[bool; SCANS], k: usize) -> bool
     close[k - 1]
 }
 
-// The best swap, at each cut: the folds over both rows go on from cut to cut. A cut at or past the end of both, `end`, would leave them as they are.
+// The swap at the cut before all scans, if there is one: the rows are exchanged, and cost xa and xb then.
+fn first_swap(cut: bool, first: ScanIndex, xa: f64, xb: f64, base: f64) -> PairMove
+    ensures { λ r. ⌜ r ≡ firstSwap cut first xa xb base ⌝ }
+{
+    if cut {
+        let gain = xa + xb - base;
+        return better_pair(PairMove::Stay, PairMove::Swap { cut: first, gain });
+    }
+    PairMove::Stay
+}
+
+// The best swap, at each cut: the folds over both rows go on from cut to cut. Before all scans the rows are exchanged, and cost xa and xb; a cut at or past the end of
+// both, `end`, would leave them as they are.
 fn best_swap<'a>(
     hall: Hall,
     pa: Fold,
     pb: Fold,
+    xa: f64,
+    xb: f64,
     close: &'a [bool; SCANS],
     a: &'a [usize; SCANS],
     b: &'a [usize; SCANS],
@@ -96,20 +114,22 @@ fn best_swap<'a>(
     dots: &'a [f64; DOTS],
     logs: &mut [f64; LOGS],
 ) -> PairMove
-    requires { ⌜ Priced hall (now logs) × Fit pa (now a) × Fit pb (now b) × Ends ea (now a) × Ends eb (now b) × Ends end (now a) × Ends end (now b) × (length (now close) ≡ 17) × (base ≡ rowCost (hall .config) (viewIn hall (now dots)) pa (now a) ⊕ rowCost (hall .config) (viewIn hall (now dots)) pb (now b)) ⌝ }
+    requires { ⌜ Swaps hall pa pb xa xb (now close) (now a) (now b) ea eb end base (now dots) (now logs) ⌝ }
     ensures { λ r. ⌜ (r ≡ bestSwapRow (hall .config) (viewIn hall (now (dots .entry))) pa pb (now (close .entry)) (now (a .entry)) (now (b .entry)) base) × Kept (now (logs .exit)) ⌝ }
 {
-    let mut best = PairMove::Stay;
-    let mut fa = pa;
-    let mut fb = pb;
+    let mut best = first_swap(is_cut(close, 0), hall.first, xa, xb, base);
+    let mut fa = [0.0; RUN];
+    let mut fb = [0.0; RUN];
+    let mut sa = pa.lend(&mut fa);
+    let mut sb = pb.lend(&mut fb);
     let mut done: usize = 0;
-    let mut k: usize = 0;
+    let mut k: usize = 1;
     while k < end {
         if is_cut(close, k) {
-            fa = price::run_to(hall, fa, a, done, k, dots, logs);
-            fb = price::run_to(hall, fb, b, done, k, dots, logs);
+            sa = price::run_to(hall, sa, &mut fa, a, done, k, dots, logs);
+            sb = price::run_to(hall, sb, &mut fb, b, done, k, dots, logs);
             done = k;
-            let gain = swap_gain(hall, fa, fb, a, b, ea, eb, k, base, dots, logs);
+            let gain = swap_gain(hall, sa, sb, &fa, &fb, a, b, ea, eb, k, base, dots, logs);
             let cut = ScanIndex(hall.first.0 + k as u64);
             best = better_pair(best, PairMove::Swap { cut, gain });
         }
@@ -229,7 +249,7 @@ fn merged_cost<'a>(
 {
     let mut row = [0usize; SCANS];
     merge_rows(own, a, b, &mut row);
-    price::rest_cost(hall, p, &row, 0, end, dots, logs)
+    price::row_cost(hall, p, &row, end, dots, logs)
 }
 
 // The cost of a merged row that keeps the keeper's own detections: what the keeper costs now, where the other row has no scan that it has not.
@@ -244,7 +264,7 @@ fn own_cost<'a>(
     dots: &'a [f64; DOTS],
     logs: &mut [f64; LOGS],
 ) -> f64
-    requires { ⌜ Merges hall p cost o (now a) (now b) end (now dots) (now logs) ⌝ }
+    requires { ⌜ Merges hall p o (now a) (now b) end (now logs) × (cost ≡ rowCost (hall .config) (viewIn hall (now dots)) p (now a)) ⌝ }
     ensures { λ r. ⌜ (r ≡ rowCost (hall .config) (viewIn hall (now (dots .entry))) p (mergedRow true (now (a .entry)) (now (b .entry)))) × Kept (now (logs .exit)) ⌝ }
 {
     if o.theirs == 0 {
@@ -253,11 +273,11 @@ fn own_cost<'a>(
     merged_cost(hall, true, p, a, b, end, dots, logs)
 }
 
-// The cost of a merged row that keeps the other's detections: that of the other row, where the keeper has no scan that it has not.
+// The cost of a merged row that keeps the other's detections: that of the rows exchanged, where the keeper has no scan that the other has not.
 fn other_cost<'a>(
     hall: Hall,
     p: Fold,
-    cost: f64,
+    exchanged: f64,
     o: Overlap,
     a: &'a [usize; SCANS],
     b: &'a [usize; SCANS],
@@ -265,11 +285,11 @@ fn other_cost<'a>(
     dots: &'a [f64; DOTS],
     logs: &mut [f64; LOGS],
 ) -> f64
-    requires { ⌜ Merges hall p cost o (now a) (now b) end (now dots) (now logs) ⌝ }
+    requires { ⌜ Merges hall p o (now a) (now b) end (now logs) × (o .mine ≡ 0 → exchanged ≡ rowCost (hall .config) (viewIn hall (now dots)) p (now b)) ⌝ }
     ensures { λ r. ⌜ (r ≡ rowCost (hall .config) (viewIn hall (now (dots .entry))) p (mergedRow false (now (a .entry)) (now (b .entry)))) × Kept (now (logs .exit)) ⌝ }
 {
     if o.mine == 0 {
-        return price::rest_cost(hall, p, b, 0, end, dots, logs);
+        return exchanged;
     }
     merged_cost(hall, false, p, a, b, end, dots, logs)
 }
@@ -282,13 +302,14 @@ fn merge_of(hall: Hall, keeper: RefinedId, own: bool, cost: f64, lost: u64, base
     PairMove::Merge { keeper, own, gain }
 }
 
-// The best so far or one of the two merges into a keeper, whose window costs `cost` now. Where no scan is shared both are the same row, whose cost is worked out once.
+// The best so far or one of the two merges into a keeper, whose window costs `cost` now, and `exchanged` with the other's row. Where no scan is shared both are the same row, whose cost is worked out once.
 fn better_merge<'a>(
     hall: Hall,
     best: PairMove,
     keeper: RefinedId,
     p: Fold,
     cost: f64,
+    exchanged: f64,
     o: Overlap,
     a: &'a [usize; SCANS],
     b: &'a [usize; SCANS],
@@ -297,7 +318,7 @@ fn better_merge<'a>(
     dots: &'a [f64; DOTS],
     logs: &mut [f64; LOGS],
 ) -> PairMove
-    requires { ⌜ Merges hall p cost o (now a) (now b) end (now dots) (now logs) ⌝ }
+    requires { ⌜ Merges hall p o (now a) (now b) end (now logs) × (cost ≡ rowCost (hall .config) (viewIn hall (now dots)) p (now a)) × (o .mine ≡ 0 → exchanged ≡ rowCost (hall .config) (viewIn hall (now dots)) p (now b)) ⌝ }
     ensures { λ r. ⌜ (r ≡ betterMerge (hall .config) (viewIn hall (now (dots .entry))) keeper p (now (a .entry)) (now (b .entry)) base best) × Kept (now (logs .exit)) ⌝ }
 {
     let lost = o.shared;
@@ -306,8 +327,37 @@ fn better_merge<'a>(
     if lost == 0 {
         return better_pair(first, merge_of(hall, keeper, false, own, lost, base));
     }
-    let other = other_cost(hall, p, cost, o, a, b, end, dots, logs);
+    let other = other_cost(hall, p, exchanged, o, a, b, end, dots, logs);
     better_pair(first, merge_of(hall, keeper, false, other, lost, base))
+}
+
+// The cost with the rows exchanged is asked for: by the cut before all scans, or by a merge into a track that has no scan alone.
+fn is_asked(cut: bool, alone: u64) -> bool
+    ensures { λ r. ⌜ (cut ≡ true → r ≡ true) × (alone ≡ 0 → r ≡ true) ⌝ }
+{
+    if cut {
+        return true;
+    }
+    alone == 0
+}
+
+// What the window that goes on from p would cost with another row, if that is asked for.
+fn exchanged_cost<'a>(
+    asked: bool,
+    hall: Hall,
+    p: Fold,
+    row: &'a [usize; SCANS],
+    end: usize,
+    dots: &'a [f64; DOTS],
+    logs: &mut [f64; LOGS],
+) -> f64
+    requires { ⌜ Priced hall (now logs) × Ends end (now row) × (missesOf p ≡ 0) ⌝ }
+    ensures { λ r. ⌜ (asked ≡ true → r ≡ rowCost (hall .config) (viewIn hall (now (dots .entry))) p (now (row .entry))) × Kept (now (logs .exit)) ⌝ }
+{
+    if asked {
+        return price::row_cost(hall, p, row, end, dots, logs);
+    }
+    0.0
 }
 
 // The later of two ends.
@@ -340,21 +390,27 @@ pub fn best_of_pair<'a>(
     let ea = rows::end_of(a);
     let eb = rows::end_of(b);
     let end = later(ea, eb);
-    let swap = best_swap(hall, pa, pb, close, a, b, ea, eb, end, base, dots, logs);
     let o = overlap_of(a, b);
-    let first = better_merge(hall, swap, x, pa, ca, o, a, b, end, base, dots, logs);
-    better_merge(
+    let cut = is_cut(close, 0);
+    let xa = exchanged_cost(is_asked(cut, o.mine), hall, pa, b, eb, dots, logs);
+    let xb = exchanged_cost(is_asked(cut, o.theirs), hall, pb, a, ea, dots, logs);
+    let swap = best_swap(
         hall,
-        first,
-        y,
+        pa,
         pb,
-        cb,
-        o.turned(),
-        b,
+        xa,
+        xb,
+        close,
         a,
+        b,
+        ea,
+        eb,
         end,
         base,
         dots,
         logs,
-    )
+    );
+    let best = better_merge(hall, swap, x, pa, ca, xa, o, a, b, end, base, dots, logs);
+    let back = o.turned();
+    better_merge(hall, best, y, pb, cb, xb, back, b, a, end, base, dots, logs)
 }

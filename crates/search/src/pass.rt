@@ -65,7 +65,7 @@ fn track_cost<'a>(
     rows::fill_row(x, starts, ids, &mut row);
     let p = price::part_of(x, hall.frozen, tracks, filters);
     let end = rows::end_of(&row);
-    price::rest_cost(hall, p, &row, 0, end, dots, logs)
+    price::row_cost(hall, p, &row, end, dots, logs)
 }
 
 // The first place, from one on, whose id is not below x; n where there is none.

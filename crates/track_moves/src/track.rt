@@ -2,7 +2,9 @@
 use costs::cost::DOTS;
 use costs::cost::Fold;
 use costs::cost::LOGS;
+use costs::cost::RUN;
 use costs::cost::SCANS;
+use costs::cost::Stage;
 use engine::types::ScanIndex;
 use model::moves::TrackMove;
 use pricing::price;
@@ -11,7 +13,7 @@ use windows::rows;
 ghost use mathlib.Core.Path.{_≡_};
 ghost use Prim.Native.Nat.{_≤_, _<_};
 ghost use lib.ListN.{length};
-ghost use Rattle.costs.specs.Cost.{missesOf, Kept};
+ghost use Rattle.costs.specs.Cost.{foldIn, missesOf, Kept};
 ghost use Rattle.model.specs.Searching.{trackGain, betterTrack};
 ghost use Rattle.pricing.specs.Price.{Priced, Fit, Ends, viewIn};
 ghost use Rattle.track_moves.specs.Track.{marks, frozenOne, betterSplit, dropGain, bestSplitRow, Dropped, bestDropBy, bestTrackRow};
@@ -36,12 +38,13 @@ fn better_track(best: TrackMove, m: TrackMove) -> TrackMove
     }
 }
 
-// The best so far or the split before scan k, by the fold over the row before it; there is none before the first detection.
+// The best so far or the split before scan k, by the fold over the row before it, whose numbers are lent; there is none before the first detection.
 fn better_split<'a>(
     hall: Hall,
     best: TrackMove,
     seen: bool,
-    f: Fold,
+    f: Stage,
+    numbers: &'a [f64; RUN],
     row: &'a [usize; SCANS],
     k: usize,
     end: usize,
@@ -50,13 +53,13 @@ fn better_split<'a>(
     logs: &mut [f64; LOGS],
 ) -> TrackMove
     requires { ⌜ Priced hall (now logs) × Ends end (now row) × (k ≤ 17) ⌝ }
-    ensures { λ r. ⌜ (r ≡ betterSplit (hall .config) (viewIn hall (now (dots .entry))) best seen f (now (row .entry)) k base) × Kept (now (logs .exit)) ⌝ }
+    ensures { λ r. ⌜ (r ≡ betterSplit (hall .config) (viewIn hall (now (dots .entry))) best seen (foldIn f (now (numbers .entry))) (now (row .entry)) k base) × Kept (now (logs .exit)) ⌝ }
 {
     if !seen {
         return best;
     }
-    let tail = price::rest_cost(hall, Fold::Fresh, row, k, end, dots, logs);
-    let gain = f.close(hall.config) + tail - base;
+    let tail = price::rest_cost(hall, Stage::Fresh, numbers, row, k, end, dots, logs);
+    let gain = f.close(numbers, hall.config) + tail - base;
     let cut = ScanIndex(hall.first.0 + k as u64);
     better_track(best, TrackMove::Split { cut, gain })
 }
@@ -64,7 +67,8 @@ fn better_split<'a>(
 // What the drop of the detection in scan k gains, by the fold over the row before it.
 fn drop_gain<'a>(
     hall: Hall,
-    f: Fold,
+    f: Stage,
+    numbers: &'a [f64; RUN],
     row: &'a [usize; SCANS],
     k: usize,
     end: usize,
@@ -72,10 +76,11 @@ fn drop_gain<'a>(
     dots: &'a [f64; DOTS],
     logs: &mut [f64; LOGS],
 ) -> f64
-    requires { ⌜ Priced hall (now logs) × Ends end (now row) × (missesOf f < 288230376151711744) × (k < 17) ⌝ }
-    ensures { λ r. ⌜ (r ≡ dropGain (hall .config) (viewIn hall (now (dots .entry))) f (now (row .entry)) k base) × Kept (now (logs .exit)) ⌝ }
+    requires { ⌜ Priced hall (now logs) × Ends end (now row) × (missesOf (foldIn f (now numbers)) < 288230376151711744) × (k < 17) ⌝ }
+    ensures { λ r. ⌜ (r ≡ dropGain (hall .config) (viewIn hall (now (dots .entry))) (foldIn f (now (numbers .entry))) (now (row .entry)) k base) × Kept (now (logs .exit)) ⌝ }
 {
-    price::rest_cost(hall, f, row, k + 1, end, dots, logs) + hall.config.clutter_cost - base
+    price::rest_cost(hall, f, numbers, row, k + 1, end, dots, logs) + hall.config.clutter_cost
+        - base
 }
 
 // The best split, after the first detection, the second and so on; and for each detection what its drop gains. The fold over the row goes on from one to the next.
@@ -93,16 +98,29 @@ fn best_split<'a, 'b>(
     ensures { λ r. ⌜ (r ≡ bestSplitRow (hall .config) (viewIn hall (now (dots .entry))) p (now (row .entry)) base) × Dropped (hall .config) (viewIn hall (now (dots .entry))) p (now (row .entry)) base end (now (gains .exit)) × Kept (now (logs .exit)) ⌝ }
 {
     let mut best = TrackMove::Stay;
-    let mut fold = p;
+    let mut numbers = [0.0; RUN];
+    let mut fold = p.lend(&mut numbers);
     let mut done: usize = 0;
     let mut seen = false;
     let mut k: usize = 0;
     while k < end {
         if 0 < row[k] {
-            fold = price::run_to(hall, fold, row, done, k, dots, logs);
+            fold = price::run_to(hall, fold, &mut numbers, row, done, k, dots, logs);
             done = k;
-            best = better_split(hall, best, seen, fold, row, k, end, base, dots, logs);
-            gains[k] = drop_gain(hall, fold, row, k, end, base, dots, logs);
+            best = better_split(
+                hall,
+                best,
+                seen,
+                fold,
+                &numbers,
+                row,
+                k,
+                end,
+                base,
+                dots,
+                logs,
+            );
+            gains[k] = drop_gain(hall, fold, &numbers, row, k, end, base, dots, logs);
             seen = true;
         }
         k += 1;

@@ -12,7 +12,7 @@ close-requires : tie.Need-close-requires
 close-requires c κs = search needs
 
 returns : tie.Need-returns
-returns c = (c .close .ensures ∙ ap (closed _) (c .before .run-window .ensures .0), c .before .run-window .ensures .1)
+returns c = (c .close .ensures ∙ ap (closed _) (c .before .before .run-window .ensures .0), c .before .before .run-window .ensures .1)
 
 pub cost-of-spec : {M : Type 1} → statement M
 cost-of-spec = tie.close (tie.spec run-window-requires close-requires returns)

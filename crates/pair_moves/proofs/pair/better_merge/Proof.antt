@@ -45,7 +45,7 @@ returns : tie.Need-returns
 returns c =
     let s = c .before .before .before .before .before .before .before .args in
     let v = viewIn (s .hall) (s .dots .now) in
-    let l = ap (λ (o : Overlap). o .shared) (c .before .before .before .before .before .before .before .pre .lie) in
+    let l = ap (λ (o : Overlap). o .shared) (c .before .before .before .before .before .before .before .pre .0 .lie) in
     let x = c .before .before .before .before .before .own-cost .ensures in
     let y = x .0 ∙ ap (rowCost (s .hall .config) v (s .p)) (merged-same (s .a .now) (s .b .now) (sym l ∙ c .before .before .if1 .taken)) in
     (tried (s .hall .config) v (s .keeper) (s .p) (s .a .now) (s .b .now) (s .base) (s .best) (x .0) y l (c .before .before .before .before .merge-of .ensures) (c .before .merge-of2 .ensures) (c .before .before .before .better-pair .ensures) (c .better-pair2 .ensures), x .1)
@@ -62,7 +62,7 @@ better-pair-requires-3 c κs = search needs
 returns-2 : tie.Need-returns-2
 returns-2 c =
     let s = c .before .before .before .before .before .before .before .before .before .args in
-    let l = ap (λ (o : Overlap). o .shared) (c .before .before .before .before .before .before .before .before .before .pre .lie) in
+    let l = ap (λ (o : Overlap). o .shared) (c .before .before .before .before .before .before .before .before .before .pre .0 .lie) in
     let y = c .before .before .other-cost .ensures in
     (tried (s .hall .config) (viewIn (s .hall) (s .dots .now)) (s .keeper) (s .p) (s .a .now) (s .b .now) (s .base) (s .best) (c .before .before .before .before .before .before .before .own-cost .ensures .0) (y .0) l (c .before .before .before .before .before .before .merge-of .ensures) (c .before .merge-of3 .ensures) (c .before .before .before .before .before .better-pair .ensures) (c .better-pair3 .ensures), y .1)
 

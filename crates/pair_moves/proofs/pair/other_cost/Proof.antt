@@ -7,16 +7,13 @@ use Rattle.pair_moves.proofs.Merged.{merged-other}
 use Rattle.pair_moves.proofs.pair.other_cost.Statement.{statement}
 use Rattle.pair_moves.proofs.pair.other_cost.Tie as tie
 
-rest-cost-requires : tie.Need-rest-cost-requires
-rest-cost-requires c κs = search needs
-
 returns : tie.Need-returns
 returns c =
-    let s = c .before .before .before .before .args in
-    let p = c .before .before .before .before .pre in
-    let none = sym (ap (λ (o : Overlap). o .mine) (p .lie)) ∙ c .before .before .if1 .taken in
-    let row = merged-other (s .a .now) (s .b .now) (p .mine .long ∙ sym (p .theirs .long)) none in
-    (c .rest-cost .ensures .0 ∙ sym (ap (rowCost (s .hall .config) (viewIn (s .hall) (s .dots .now)) (s .p)) row), c .rest-cost .ensures .1)
+    let s = c .before .before .args in
+    let p = c .before .before .pre in
+    let none = sym (ap (λ (o : Overlap). o .mine) (p .0 .lie)) ∙ c .if1 .taken in
+    let row = merged-other (s .a .now) (s .b .now) (p .0 .mine .long ∙ sym (p .0 .theirs .long)) none in
+    (p .1 (c .if1 .taken) ∙ sym (ap (rowCost (s .hall .config) (viewIn (s .hall) (s .dots .now)) (s .p)) row), p .0 .priced .kept)
 
 merged-cost-requires : tie.Need-merged-cost-requires
 merged-cost-requires c κs = search needs
@@ -25,4 +22,4 @@ returns-2 : tie.Need-returns-2
 returns-2 c = search needs
 
 pub other-cost-spec : {M : Type 1} → statement M
-other-cost-spec = tie.close (tie.spec rest-cost-requires returns merged-cost-requires returns-2)
+other-cost-spec = tie.close (tie.spec returns merged-cost-requires returns-2)

@@ -11,8 +11,8 @@ returns : tie.Need-returns
 returns c =
     let s = c .before .before .args in
     let p = c .before .before .pre in
-    let none = sym (ap (λ (o : Overlap). o .theirs) (p .lie)) ∙ c .if1 .taken in
-    (p .paid ∙ sym (ap (rowCost (s .hall .config) (viewIn (s .hall) (s .dots .now)) (s .p)) (merged-own (s .a .now) (s .b .now) none)), p .priced .kept)
+    let none = sym (ap (λ (o : Overlap). o .theirs) (p .0 .lie)) ∙ c .if1 .taken in
+    (p .1 ∙ sym (ap (rowCost (s .hall .config) (viewIn (s .hall) (s .dots .now)) (s .p)) (merged-own (s .a .now) (s .b .now) none)), p .0 .priced .kept)
 
 merged-cost-requires : tie.Need-merged-cost-requires
 merged-cost-requires c κs = search needs

@@ -2,6 +2,7 @@
 use borrow.Author.Needs.{needs}
 use mathlib.Core.Path.{_∙_}
 use native.Mathlib.Omega.{arith}
+use Rattle.costs.specs.Cost.{foldIn}
 use Rattle.pricing.specs.Price.{viewIn}
 use Rattle.pricing.proofs.Heads.{rest-gone, rest-held}
 use Rattle.pricing.proofs.price.rest_cost.Statement.{statement}
@@ -14,7 +15,7 @@ returns : tie.Need-returns
 returns c =
     let s = c .before .before .args in
     let p = c .before .before .pre in
-    (c .close .ensures ∙ rest-gone (p .1) (s .hall .config) (viewIn (s .hall) (s .dots .now)) (s .f) (s .k) (c .before .if1 .taken), p .0 .kept)
+    (c .close .ensures ∙ rest-gone (p .1) (s .hall .config) (viewIn (s .hall) (s .dots .now)) (foldIn (s .f) (s .numbers .now)) (s .k) (c .before .if1 .taken), p .0 .kept)
 
 mul-cost-of : tie.Need-mul-cost-of
 mul-cost-of c = search needs
@@ -36,7 +37,7 @@ returns-2 c =
     let s = c .before .before .before .before .before .args in
     let p = c .before .before .before .before .before .pre in
     let h = c .before .before .before .before .if1 .left in
-    (c .cost-of .ensures .0 ∙ rest-held (p .1) (s .hall .config) (viewIn (s .hall) (s .dots .now)) (s .f) (s .k) (omega arith), c .cost-of .ensures .1)
+    (c .cost-of .ensures .0 ∙ rest-held (p .1) (s .hall .config) (viewIn (s .hall) (s .dots .now)) (foldIn (s .f) (s .numbers .now)) (s .k) (omega arith), c .cost-of .ensures .1)
 
 pub rest-cost-spec : {M : Type 1} → statement M
 rest-cost-spec =

@@ -1,7 +1,6 @@
 -- `search::pass::track_cost` meets its contract. Assumes nothing.
 use borrow.Author.Needs.{needs}
 use mathlib.Core.Path.{_∙_}
-use native.Mathlib.Omega.{arith}
 use Rattle.pricing.proofs.Heads.{ends-at}
 use Rattle.search.specs.Pass.{sceneOf}
 use Rattle.search.proofs.Costing.{row-fit, row-costs}
@@ -20,21 +19,21 @@ end-of-requires c κs =
     let e = sceneOf (s .hall) (s .starts .now) (s .dots .now) (s .tracks .now) (s .filters .now) in
     row-fit e (s .ids .now) (s .x) (c .before .before .fill-row .ensures) (c .before .part-of .ensures) .long
 
-rest-cost-requires : tie.Need-rest-cost-requires
-rest-cost-requires c κs =
+row-cost-requires : tie.Need-row-cost-requires
+row-cost-requires c κs =
     let s = c .before .before .before .before .before .before .before .args in
     let p = c .before .before .before .before .before .before .before .pre in
     let e = sceneOf (s .hall) (s .starts .now) (s .dots .now) (s .tracks .now) (s .filters .now) in
     let f = row-fit e (s .ids .now) (s .x) (c .before .before .before .before .before .fill-row .ensures) (c .before .before .before .before .part-of .ensures) in
-    (record { early = p .0 .early; kept = p .2 }, ends-at (f .long) (c .before .before .end-of .ensures), omega (arith, f .idle))
+    (record { early = p .0 .early; kept = p .2 }, ends-at (f .long) (c .before .before .end-of .ensures), f .idle)
 
 returns : tie.Need-returns
 returns c =
     let s = c .before .before .before .before .before .before .before .before .args in
     let e = sceneOf (s .hall) (s .starts .now) (s .dots .now) (s .tracks .now) (s .filters .now) in
-    (c .rest-cost .ensures .0 ∙ row-costs e (s .ids .now) (s .x) (c .before .before .before .before .before .before .fill-row .ensures) (c .before .before .before .before .before .part-of .ensures), c .rest-cost .ensures .1)
+    (c .row-cost .ensures .0 ∙ row-costs e (s .ids .now) (s .x) (c .before .before .before .before .before .before .fill-row .ensures) (c .before .before .before .before .before .part-of .ensures), c .row-cost .ensures .1)
 
 pub track-cost-spec : {M : Type 1} → statement M
 track-cost-spec =
     tie.close
-    (tie.spec fill-row-requires part-of-requires end-of-requires rest-cost-requires returns)
+    (tie.spec fill-row-requires part-of-requires end-of-requires row-cost-requires returns)

@@ -1,7 +1,8 @@
 -- `track_moves::track::best_split` meets its contract. Assumes nothing.
+use borrow.Author.Needs.{needs}
 use borrow.Author.Tests.{lt-ltb, le-ltb}
 use borrow.Author.Count.{below-more}
-use mathlib.Core.Path.{_≡_, refl, sym, ap, _∙_}
+use mathlib.Core.Path.{_≡_, refl, sym, ap, subst, _∙_}
 use mathlib.Core.Bool.{Bool, true, false, cond}
 use mathlib.Core.List.{List, [], _∷_, map, foldl}
 use mathlib.Core.Logic.{⊎-elim}
@@ -13,12 +14,12 @@ use lib.Ieee.{Float, nan, binary64, add, sub}
 use Rattle.engine.specs.declared.config.FgoConfig.{FgoConfig}
 use Rattle.costs.specs.declared.cost.Fold.{Fold}
 use Rattle.costs.specs.declared.cost.Fold.the-variants.{Fresh}
-use Rattle.costs.specs.Cost.{View, Kept, dets, cost, closed}
+use Rattle.costs.specs.Cost.{View, Kept, dets, cost, closed, foldIn}
 use Rattle.model.specs.declared.moves.TrackMove.{TrackMove}
 use Rattle.model.specs.declared.moves.TrackMove.the-variants.{Split}
 use Rattle.model.specs.Searching.{betterTrack}
 use Rattle.track_moves.specs.Track.{marked, marks, trySplitRow, bestSplitRow, betterSplit, dropGain, Dropped}
-use Rattle.pricing.specs.Price.{headOf, onTo, scanAt, viewIn, Ends}
+use Rattle.pricing.specs.Price.{headOf, onTo, scanAt, viewIn, Fit, Ends}
 use Rattle.pricing.proofs.Left.{left, left-yes, left-no, left-over}
 use Rattle.pricing.proofs.Heads.{Along, begins, passes, on-to, taken-on, until, few-on}
 use Rattle.track_moves.proofs.track.best_split.Statement.{statement}
@@ -102,61 +103,64 @@ module _ {c : FgoConfig} {v : View} {p : Fold} {r : List ℕ} {base : Float} {en
   noted g = record { long = s .drops .long; each = λ j l. s .drops .each j (omega arith) }
 
 abbrev Inv-loop : tie.InvT-loop
-Inv-loop hall row end base gains₀ dots logs₀ best₀ fold₀ done₀ seen₀ k₀ gains logs best fold done seen k =
-    Splits (hall .config) (viewIn hall dots) fold₀ row base end gains best fold done seen k × Kept logs
+Inv-loop hall row end base gains₀ dots logs₀ best₀ numbers₀ fold₀ done₀ seen₀ k₀ gains logs best numbers fold done seen k =
+    Splits (hall .config) (viewIn hall dots) (foldIn fold₀ numbers₀) row base end gains best (foldIn fold numbers) done seen k × Fit (foldIn fold₀ numbers₀) row × Kept logs
 
 abbrev μ-loop : tie.MeasureT-loop
-μ-loop hall row end base gains₀ dots logs₀ best₀ fold₀ done₀ seen₀ k₀ gains logs best fold done seen k = end - k
+μ-loop hall row end base gains₀ dots logs₀ best₀ numbers₀ fold₀ done₀ seen₀ k₀ gains logs best numbers fold done seen k = end - k
+
+lend-requires : tie.Need-lend-requires Inv-loop μ-loop
+lend-requires c κs = search needs
 
 loop-holds : tie.Need-loop-holds Inv-loop μ-loop
 unfolding bestSplitRow marks
 loop-holds c =
-    let s = c .args in (
+    let s = c .before .before .args in
+    let p = c .before .before .pre in (
       record {
         within = omega arith;
-        along = begins (s .hall .config) (viewIn (s .hall) (s .dots .now)) (s .p) (s .row .now);
+        along = begins (s .hall .config) (viewIn (s .hall) (s .dots .now)) _ (s .row .now);
         rest = refl;
-        drops = record { long = c .pre .3; each = λ j h. absurd (omega arith) };
+        drops = record { long = p .3; each = λ j h. absurd (omega arith) };
       },
-      c .pre .0 .kept,
+      rw (c .lend .ensures) (p .1),
+      p .0 .kept,
     )
 
 mul-if1 : tie.Need-mul-if1 Inv-loop μ-loop
-mul-if1 c = omega (arith, c .before .before .pre .2 .within)
+mul-if1 c = omega (arith, c .before .before .before .before .pre .2 .within)
 
 element-copy-out-if1 : tie.Need-element-copy-out-if1 Inv-loop μ-loop
-element-copy-out-if1 c = let e = c .before .before .pre .2 in omega (arith, e .within, e .long)
+element-copy-out-if1 c = let e = c .before .before .before .before .pre .2 in omega (arith, e .within, e .long)
 
 run-to-requires : tie.Need-run-to-requires Inv-loop μ-loop
 run-to-requires c κs =
-    let p = c .before .before .before .before .before .pre in
-    let i = c .before .before .before .before .loop .inv in
-    (record { early = p .0 .early; kept = i .1 }, omega (arith, p .2 .within), until (i .0 .along) (p .0 .early) (p .1))
+    let p = c .before .before .before .before .before .before .before .before .pre in
+    let i = c .before .before .before .before .before .loop .inv in
+    (record { early = p .0 .early; kept = i .2 }, omega (arith, p .2 .within), until (i .0 .along) (p .0 .early) (i .1))
 
 better-split-requires : tie.Need-better-split-requires Inv-loop μ-loop
-better-split-requires c κs =
-    let p = c .before .before .before .before .before .before .before .pre in
-    (record { early = p .0 .early; kept = c .before .run-to .ensures .1 }, p .2, omega (arith, p .2 .within))
+better-split-requires c κs = let p = c .before .before .before .before .before .before .before .before .before .before .before .pre in (record { early = p .0 .early; kept = c .before .before .run-to .ensures .1 }, p .2, omega (arith, p .2 .within))
 
 drop-gain-requires : tie.Need-drop-gain-requires Inv-loop μ-loop
 drop-gain-requires c κs =
-    let p = c .before .before .before .before .before .before .before .before .before .pre in
-    let i = c .before .before .before .before .before .before .before .before .loop .inv in
-    let h = c .before .before .before .before .before .before .before .loop-test .taken in (
-      record { early = p .0 .early; kept = c .before .better-split .ensures .1 },
+    let p = c .before .before .before .before .before .before .before .before .before .before .before .before .before .before .pre in
+    let i = c .before .before .before .before .before .before .before .before .before .before .before .loop .inv in
+    let h = c .before .before .before .before .before .before .before .before .before .before .loop-test .taken in (
+      record { early = p .0 .early; kept = c .before .before .better-split .ensures .1 },
       p .2,
-      few-on (i .0 .along) (omega (arith, p .2 .within, p .2 .long)) (p .0 .early) (p .1) (c .before .before .before .run-to .ensures .0),
+      few-on (i .0 .along) (omega (arith, p .2 .within, p .2 .long)) (p .0 .early) (i .1) (c .before .before .before .before .before .run-to .ensures .0),
       omega (arith, p .2 .within),
     )
 
 mul-gains : tie.Need-mul-gains Inv-loop μ-loop
-mul-gains c = omega (arith, c .before .before .before .before .before .before .before .before .before .before .pre .2 .within)
+mul-gains c = omega (arith, c .before .before .before .before .before .before .before .before .before .before .before .before .before .before .before .pre .2 .within)
 
 element-write-gains : tie.Need-element-write-gains Inv-loop μ-loop
-element-write-gains c = omega (arith, c .before .before .before .before .before .before .before .before .before .before .pre .2 .within, c .before .before .before .before .before .before .before .before .before .loop .inv .0 .drops .long)
+element-write-gains c = omega (arith, c .before .before .before .before .before .before .before .before .before .before .before .before .before .before .before .pre .2 .within, c .before .before .before .before .before .before .before .before .before .before .before .before .loop .inv .0 .drops .long)
 
 add-k : tie.Need-add-k Inv-loop μ-loop
-add-k c = omega (arith, c .before .before .before .before .pre .2 .within)
+add-k c = omega (arith, c .before .before .before .before .before .before .pre .2 .within)
 
 loop-less : tie.Need-loop-less Inv-loop μ-loop
 loop-less c = omega arith
@@ -164,18 +168,23 @@ loop-less c = omega arith
 loop-again : tie.Need-loop-again Inv-loop μ-loop
 loop-again c =
     let i = c .before .before .before .loop .inv in
-    let e = c .before .before .before .before .pre .2 in
+    let e = c .before .before .before .before .before .before .pre .2 in
     let g = c .before .before .loop-test .taken in
     ⊎-elim
-    (λ w. rw (w .7, w .8, w .9, w .10, w .11, w .12) (tries e (i .0) g (lt-ltb _ _ (w .0 .taken)) (w .2 .ensures .0) (w .4 .ensures .0) (w .6 .ensures .0), w .6 .ensures .1))
-    (λ w. rw (w .1, w .2, w .3, w .4, w .5, w .6) (skips e (i .0) g (le-ltb _ _ (w .0 .left)), i .1))
+    (λ w. rw (w .10, w .11, w .12, w .13, w .14, w .15, w .16) (tries e (i .0) g (lt-ltb _ _ (w .0 .taken)) (w .3 .ensures .0) (w .6 .ensures .0) (w .9 .ensures .0), i .1, w .9 .ensures .1))
+    (λ w. rw (w .1, w .2, w .3, w .4, w .5, w .6, w .7) (skips e (i .0) g (le-ltb _ _ (w .0 .left)), i .1, i .2))
     (c .if1 .came)
 
 returns : tie.Need-returns Inv-loop μ-loop
 returns c =
     let i = c .before .loop .inv in
-    let e = c .before .before .pre .2 in
-    (ends e (i .0) (c .loop-test .left), noted e (i .0) (c .loop-test .left), i .1)
+    let s = c .before .before .before .before .args in
+    let e = c .before .before .before .before .pre .2 in
+    let v = viewIn (s .hall) (s .dots .now) in (
+      ends e (i .0) (c .loop-test .left) ∙ ap (λ (p : Fold). bestSplitRow (s .hall .config) v p (s .row .now) (s .base)) (c .before .before .lend .ensures),
+      subst (λ (p : Fold). Dropped (s .hall .config) v p (s .row .now) (s .base) (s .end) (c .before .loop .gains)) (c .before .before .lend .ensures) (noted e (i .0) (c .loop-test .left)),
+      i .2,
+    )
 
 pub best-split-spec : {M : Type 1} → statement M
 best-split-spec =
@@ -183,6 +192,7 @@ best-split-spec =
     (tie.spec
     Inv-loop
     μ-loop
+    lend-requires
     loop-holds
     mul-if1
     element-copy-out-if1

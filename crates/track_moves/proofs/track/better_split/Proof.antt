@@ -14,8 +14,8 @@ rest-cost-requires c κs = search needs
 close-requires : tie.Need-close-requires
 close-requires c κs = search needs
 
-add-t20 : tie.Need-add-t20
-add-t20 c = search needs
+add-t21 : tie.Need-add-t21
+add-t21 c = search needs
 
 better-track-requires : tie.Need-better-track-requires
 better-track-requires c κs = search needs
@@ -28,4 +28,4 @@ returns-2 c =
 pub better-split-spec : {M : Type 1} → statement M
 better-split-spec =
     tie.close
-    (tie.spec returns rest-cost-requires close-requires add-t20 better-track-requires returns-2)
+    (tie.spec returns rest-cost-requires close-requires add-t21 better-track-requires returns-2)

@@ -5,9 +5,6 @@ use Rattle.costs.specs.Cost.{added}
 use Rattle.costs.proofs.cost.Run.add.Statement.{statement}
 use Rattle.costs.proofs.cost.Run.add.Tie as tie
 
-skipped-requires : tie.Need-skipped-requires
-skipped-requires c κs = search needs
-
 add-misses : tie.Need-add-misses
 add-misses c = search needs
 
@@ -22,13 +19,12 @@ update-by-requires c κs = search needs
 
 returns : tie.Need-returns
 unfolding added
-returns c = (rw (c .before .before .update-by .ensures, c .before .before .before .before .before .before .before .predict .ensures, c .before .before .before .before .before .before .before .before .before .before .skipped .ensures) refl, c .before .before .before .log-of .ensures .kept)
+returns c = (rw (c .before .before .update-by .ensures, c .before .before .before .before .before .before .before .predict .ensures, c .before .before .before .before .before .before .before .before .before .before .pre .1) refl, c .before .before .before .log-of .ensures .kept)
 
 pub add-spec : {M : Type 1} → statement M
 add-spec =
     tie.close
     (tie.spec
-    skipped-requires
     add-misses
     predict-requires
     log-of-requires

@@ -1,9 +1,9 @@
--- `costs::cost::Fold::close` meets its contract. Assumes nothing.
+-- `costs::cost::Stage::close` meets its contract. Assumes nothing.
 use borrow.Author.Needs.{needs}
 use mathlib.Core.Path.{refl}
 use Rattle.costs.specs.Cost.{closed}
-use Rattle.costs.proofs.cost.Fold.close.Statement.{statement}
-use Rattle.costs.proofs.cost.Fold.close.Tie as tie
+use Rattle.costs.proofs.cost.Stage.close.Statement.{statement}
+use Rattle.costs.proofs.cost.Stage.close.Tie as tie
 
 enum-told : tie.Need-enum-told
 enum-told c = search needs
@@ -13,6 +13,9 @@ enum-told-2 c = search needs
 
 enum-known-self : tie.Need-enum-known-self
 enum-known-self c = search needs
+
+element-copy-out-result : tie.Need-element-copy-out-result
+element-copy-out-result c = search needs
 
 nearest-u64-to-f64-requires : tie.Need-nearest-u64-to-f64-requires
 nearest-u64-to-f64-requires c κs = search needs
@@ -27,7 +30,7 @@ returns-2 c = rw (c .enum-told2 .given .1)
 
 returns-3 : tie.Need-returns-3
 unfolding closed
-returns-3 c = rw (c .before .before .before .before .self .given .1, c .before .before .nearest-u64-to-f64 .ensures) refl
+returns-3 c = rw (c .before .before .before .before .self .given .1, c .before .nearest-u64-to-f64 .ensures) refl
 
 pub close-spec : {M : Type 1} → statement M
 close-spec =
@@ -36,6 +39,7 @@ close-spec =
     enum-told
     enum-told-2
     enum-known-self
+    element-copy-out-result
     nearest-u64-to-f64-requires
     returns
     returns-2
