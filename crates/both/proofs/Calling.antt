@@ -10,7 +10,7 @@ use lib.Dec.{ltb}
 use lib.Ieee.{Float}
 use borrow.Author.Tests.{ltb-true, ltb-false}
 use Rattle.refined.specs.Frame.{SmootherFrame, wellFormed}
-use Rattle.smoother.specs.Pass.{emitted}
+use Rattle.backward.specs.Pass.{emitted}
 use Rattle.smoother.specs.Smoother.{State, new, holding, held, Lent, Answer, refused, waits, gives, laterRefusal, settle, settleBy, release, pushFormed, pushBy, push, takesBy, takes}
 use Rattle.model.proofs.All.{mem-All, foldl-keeps}
 use Rattle.both.specs.Smoothed.{Call, pushed, taken, Smoothing, acceptedBy, givenBy, answer, step, begin, smoothing}

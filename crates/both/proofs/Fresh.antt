@@ -22,7 +22,7 @@ use Rattle.model.specs.Emitting.{Listed, Emitted, wordsOf, numbersOf}
 use Rattle.model.specs.History.{timeOf, seen, afresh, Told}
 use Rattle.model.proofs.Counting.{any-append}
 use Rattle.refined.specs.Frame.{SmootherFrame, time, idWord}
-use Rattle.smoother.specs.Pass.{chainOn, chain, runBack, replaced, flat, smoothedAt, smoothedFlag, statesTo, emitted, stateIf, stateOf, lastAt}
+use Rattle.backward.specs.Pass.{chainOn, chain, runBack, replaced, flat, smoothedAt, smoothedFlag, statesTo, emitted, stateIf, stateOf, lastAt}
 use Rattle.both.specs.Smoothed.{handed, estimateIf, freshIn, freshChain, smoothedState, smoothedForm}
 use Rattle.both.proofs.Reading.{At, element, track-word, numbers-past, state-is}
 

@@ -11,7 +11,7 @@ use Rattle.engine.specs.declared.types.Association.{Association}
 use Rattle.engine.proofs.Laid.{length-flat}
 use Rattle.model.specs.Emitting.{Listed, Emitted, trackWords, associationWords, associationsWords, headWords, wordsOf, trackNumbers, costNumber, numbersOf}
 use Rattle.refined.specs.Frame.{wordsLong, numbersLong}
-use Rattle.smoother.specs.Pass.{stateAt}
+use Rattle.backward.specs.Pass.{stateAt}
 use Rattle.both.specs.Smoothed.{estimateOf}
 
 -- ---- lists

@@ -14,8 +14,9 @@ use Rattle.model.specs.Rule.{All}
 use Rattle.model.specs.History.{Op, Sent, run}
 use Rattle.model.proofs.HistoryLaw.{history}
 use Rattle.refined.specs.Frame.{SmootherFrame, wellFormed}
-use Rattle.smoother.specs.Pass.{emitted}
-use Rattle.smoother.specs.Smoother.{Lent, bounded, allFormed, ruleOk, laterRefusal}
+use Rattle.backward.specs.Pass.{emitted}
+use Rattle.smoother.specs.Smoother.{Lent, bounded, ruleOk, laterRefusal}
+use Rattle.backward.specs.Window.{allFormed}
 use Rattle.smoother.proofs.Calls.{push-formed, take-passed}
 use Rattle.both.specs.Smoothed.{handed, Call, Smoothing, step, smoothing, Fitting, Smoothed, Both, Passes}
 use Rattle.both.proofs.Calling.{keeping, Block, ran, every-left, one-more, last-left, step-stays}

@@ -16,7 +16,7 @@ use Rattle.model.specs.Lists.{has}
 use Rattle.model.specs.Emitting.{Listed, Emitted, wordsOf, numbersOf, trackNumbers, costNumber}
 use Rattle.model.specs.History.{Op, run, timeOf, seen, afresh}
 use Rattle.refined.specs.Frame.{SmootherFrame, frame, wellFormed}
-use Rattle.smoother.specs.Pass.{Timed, chainOn, runBack, replaced, flat, smoothedFlag}
+use Rattle.backward.specs.Pass.{Timed, chainOn, runBack, replaced, flat, smoothedFlag}
 use Rattle.smoother.specs.Smoother.{State, new, Lent, Answer, refused, waits, gives, windowFits, outFits, held, settle, release, push, takes}
 
 -- an emitted frame as a smoother takes it: "these two lists at their exact length"

@@ -1,9 +1,9 @@
 -- Document 01, "Cost", and the windows that the code lends. Definitions only.
-use Prim.Native.Nat.{ℕ, zero, suc, _+_, _-_, _*_, _%_, _<_, _≤_}
+use Prim.Native.Nat.{ℕ, zero, suc, _+_, _-_, _*_, _%_, _<_}
 use mathlib.Core.Path.{_≡_}
 use mathlib.Core.Bool.{true, not}
 use mathlib.Core.List.{List, [], _∷_, foldl}
-use lib.ListN.{length, getD, drop}
+use lib.ListN.{length, getD}
 use lib.Dec.{T}
 use lib.IntN.{pos}
 use lib.Ieee.{Float, nan, binary64, fits, isNan, ofBits, ofInt, add, mul, lt}
@@ -140,15 +140,3 @@ pub record Kept (logs : List Float) : Type 0 where
 pub record Recalled (s l : Float) (logs : List Float) : Type 0 where
   pub is : l ≡ logTerm f64 s
   pub kept : Kept logs
-
--- a row's part of few slots, scan numbers far below 2^64, and few misses so far
-pub record Asks (slots : List ℕ) (k : ℕ) (first : ScanIndex) (from : Fold) (logs : List Float) : Type 0 where
-  pub short : k + length slots ≤ 17
-  pub early : first .0 < 8589934592
-  pub few : missesOf from < 1152921504606846976
-  pub kept : Kept logs
-
--- the slots before the first detection of a row: they are left out, and if any slot follows, it has a detection
-pub record Leading (slots : List ℕ) (n : ℕ) : Type 0 where
-  pub rest : (v : View) (k : ℕ) → dets v k slots ≡ dets v (k + n) (drop n slots)
-  pub found : n < length slots → 0 < getD slots n 0

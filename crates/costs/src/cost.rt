@@ -1,17 +1,13 @@
 // The cost of a window of detections: a left fold over them, and a close.
 //
-// A window is given as a row: for each scan held one more than the place of its detection among the dots, 0 where it has none. Four numbers stand
-// for each dot: x, y, the variance of its position, and its scan's time in seconds.
+// Four numbers stand for each dot: x, y, the variance of its position, and its scan's time in seconds.
 use engine::config::FgoConfig;
 use engine::types::ScanIndex;
 use kf::filter::Kf;
 use scalar::log;
 ghost use mathlib.Core.Path.{_≡_};
-ghost use Prim.Native.Nat.{_+_, _≤_, _<_};
-ghost use mathlib.Core.List.{foldl};
-ghost use lib.ListN.{drop};
-ghost use Rattle.costs.specs.declared.cost.Fold.the-variants.{Going};
-ghost use Rattle.costs.specs.Cost.{dotAt, gap, added, born, resumed, run, closed, cost, dets, detOf, viewOf, filterIn, runIn, foldIn, Kept, Recalled, Asks, Leading};
+ghost use Prim.Native.Nat.{_+_, _<_};
+ghost use Rattle.costs.specs.Cost.{dotAt, gap, added, born, resumed, closed, detOf, filterIn, runIn, foldIn, Kept, Recalled};
 
 // Scans held at most: those of the lag, and the one that is pushed.
 pub const SCANS: usize = 17;
@@ -79,7 +75,7 @@ pub fn dot_at(dots: &[f64; DOTS], i: usize) -> Dot
 }
 
 // The scans skipped between two.
-fn skipped(scan: u64, last: u64) -> u64
+pub fn skipped(scan: u64, last: u64) -> u64
     ensures { λ r. ⌜ r ≡ gap scan last ⌝ }
 {
     if last < scan {
@@ -108,8 +104,9 @@ fn log_of(s: f64, logs: &mut [f64; LOGS]) -> f64
 }
 
 impl Run {
-    // Predict to the detection's time, update with its position, and add its NLL; the scans skipped are misses. q is the acceleration spectral density.
-    fn add(self, q: f64, scan: ScanIndex, skipped: u64, d: Dot, logs: &mut [f64; LOGS]) -> Run
+    // Predict to the detection's time, update with its position, and add its NLL; the scans skipped since the last are misses. q is the acceleration spectral density. It
+    // asks for a count of misses that stays below 2^64, the scans that were skipped, and logarithms that are right.
+    pub fn add(self, q: f64, scan: ScanIndex, skipped: u64, d: Dot, logs: &mut [f64; LOGS]) -> Run
         requires { ⌜ (self .misses + scan .0 < 18446744073709551616) × (skipped ≡ gap (scan .0) (self .last .0)) × Kept (now logs) ⌝ }
         ensures { λ u. ⌜ (u ≡ added q self (detOf scan d)) × Kept (now (logs .exit)) ⌝ }
     {
@@ -130,7 +127,7 @@ impl Run {
 }
 
 // A window that starts with a detection.
-fn born_at(c: FgoConfig, scan: ScanIndex, d: Dot) -> Run
+pub fn born_at(c: FgoConfig, scan: ScanIndex, d: Dot) -> Run
     ensures { λ r. ⌜ r ≡ born c (detOf scan d) ⌝ }
 {
     let kf = Kf::start(d.x, d.y, d.t, d.r, c.initial_velocity_variance);
@@ -143,7 +140,7 @@ fn born_at(c: FgoConfig, scan: ScanIndex, d: Dot) -> Run
 }
 
 // The filter of a run that is lent.
-fn filter_in(numbers: &[f64; RUN]) -> Kf
+pub fn filter_in(numbers: &[f64; RUN]) -> Kf
     ensures { λ k. ⌜ k ≡ filterIn (now (numbers .entry)) ⌝ }
 {
     Kf {
@@ -159,7 +156,7 @@ fn filter_in(numbers: &[f64; RUN]) -> Kf
 }
 
 // A run from its course and its numbers.
-fn run_in(course: Course, numbers: &[f64; RUN]) -> Run
+pub fn run_in(course: Course, numbers: &[f64; RUN]) -> Run
     ensures { λ r. ⌜ r ≡ runIn course (now (numbers .entry)) ⌝ }
 {
     let kf = filter_in(numbers);
@@ -174,7 +171,7 @@ fn run_in(course: Course, numbers: &[f64; RUN]) -> Run
 
 impl Run {
     // The run in numbers, and its course.
-    fn lend(self, numbers: &mut [f64; RUN]) -> Course
+    pub fn lend(self, numbers: &mut [f64; RUN]) -> Course
         ensures { λ c. ⌜ runIn c (now (numbers .exit)) ≡ self ⌝ }
     {
         let kf = self.kf;
@@ -198,7 +195,7 @@ impl Run {
 }
 
 // The run that goes on from a frozen part.
-fn resume(kf: Kf, last: ScanIndex) -> Run
+pub fn resume(kf: Kf, last: ScanIndex) -> Run
     ensures { λ r. ⌜ r ≡ resumed kf last ⌝ }
 {
     Run {
@@ -236,113 +233,4 @@ impl Stage {
             Stage::Going(r) => numbers[8] + std::num::nearest_u64_to_f64(r.misses) * c.miss_cost,
         }
     }
-}
-
-// The slots before the first detection.
-fn leading(slots: &[usize]) -> usize
-    ensures { λ n. ⌜ Leading (now (slots .entry)) n ⌝ }
-{
-    let mut i: usize = 0;
-    while i < slots.len() {
-        if 0 < slots[i] {
-            return i;
-        }
-        i += 1;
-    }
-    i
-}
-
-// The fold over the slots of a row from one on, after a detection or a frozen part: the row begins at the held scan k. The run's numbers are lent.
-fn run_on<'a>(
-    q: f64,
-    from: Course,
-    numbers: &mut [f64; RUN],
-    slots: &'a [usize],
-    begin: usize,
-    k: usize,
-    first: ScanIndex,
-    dots: &'a [f64; DOTS],
-    logs: &mut [f64; LOGS],
-) -> Course
-    requires { ⌜ Asks (now slots) k first (Going (runIn from (now numbers))) (now logs) × (begin ≤ 17) ⌝ }
-    ensures { λ r. ⌜ (runIn r (now (numbers .exit)) ≡ foldl (added q) (runIn from (now (numbers .entry))) (dets (viewOf first (now (dots .entry))) (k + begin) (drop begin (now (slots .entry))))) × Kept (now (logs .exit)) ⌝ }
-{
-    let mut r = run_in(from, numbers);
-    let mut i = begin;
-    let last = from.last;
-    let mut skips = skipped(first.0 + (k + i) as u64, last.0);
-    while i < slots.len() {
-        let code = slots[i];
-        let scan = ScanIndex(first.0 + (k + i) as u64);
-        if 0 < code {
-            r = r.add(q, scan, skips, dot_at(dots, code - 1), logs);
-            skips = 0;
-        } else {
-            let last = r.last;
-            skips = skipped(scan.0 + 1, last.0);
-        }
-        i += 1;
-    }
-    r.lend(numbers)
-}
-
-// The fold over a part of a row that begins at the held scan k, going on from where it stands; its numbers are lent. It asks that the part ends by scan 17, for few
-// misses so far, scan numbers below 2^33, and logarithms that are right.
-pub fn run_window<'a>(
-    c: FgoConfig,
-    from: Stage,
-    numbers: &mut [f64; RUN],
-    slots: &'a [usize],
-    k: usize,
-    first: ScanIndex,
-    dots: &'a [f64; DOTS],
-    logs: &mut [f64; LOGS],
-) -> Stage
-    requires { ⌜ Asks (now slots) k first (foldIn from (now numbers)) (now logs) ⌝ }
-    ensures { λ s. ⌜ (foldIn s (now (numbers .exit)) ≡ run c (foldIn from (now (numbers .entry))) (dets (viewOf first (now (dots .entry))) k (now (slots .entry)))) × Kept (now (logs .exit)) ⌝ }
-{
-    let q = c.accel_spectral_density;
-    match from {
-        Stage::Fresh => {
-            let i = leading(slots);
-            if slots.len() <= i {
-                return from;
-            }
-            let scan = ScanIndex(first.0 + (k + i) as u64);
-            let r = born_at(c, scan, dot_at(dots, slots[i] - 1));
-            let course = r.lend(numbers);
-            Stage::Going(run_on(q, course, numbers, slots, i + 1, k, first, dots, logs))
-        }
-        Stage::Frozen(last) => {
-            let i = leading(slots);
-            if slots.len() <= i {
-                return from;
-            }
-            let r = resume(filter_in(numbers), last);
-            let course = r.lend(numbers);
-            Stage::Going(run_on(q, course, numbers, slots, i, k, first, dots, logs))
-        }
-        Stage::Going(course) => {
-            Stage::Going(run_on(q, course, numbers, slots, 0, k, first, dots, logs))
-        }
-    }
-}
-
-// The cost of a window, of which `from` is the fold so far and the slots from the held scan k on are the rest. It asks what `run_window` asks.
-pub fn cost_of<'a>(
-    c: FgoConfig,
-    from: Stage,
-    numbers: &'a [f64; RUN],
-    slots: &'a [usize],
-    k: usize,
-    first: ScanIndex,
-    dots: &'a [f64; DOTS],
-    logs: &mut [f64; LOGS],
-) -> f64
-    requires { ⌜ Asks (now slots) k first (foldIn from (now numbers)) (now logs) ⌝ }
-    ensures { λ r. ⌜ (r ≡ cost c (foldIn from (now (numbers .entry))) (dets (viewOf first (now (dots .entry))) k (now (slots .entry)))) × Kept (now (logs .exit)) ⌝ }
-{
-    let mut own = *numbers;
-    let s = run_window(c, from, &mut own, slots, k, first, dots, logs);
-    s.close(&own, c)
 }

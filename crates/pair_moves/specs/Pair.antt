@@ -1,60 +1,23 @@
 -- The best move of a pair of rows: document 01's candidates, in its order. Definitions only.
-use Prim.Native.Nat.{ℕ, _+_, _-_}
+use Prim.Native.Nat.{ℕ, _-_}
 use mathlib.Core.Path.{_≡_}
 use mathlib.Core.Bool.{Bool, true, false, cond}
-use mathlib.Core.List.{List, [], _∷_, map, foldl}
+use mathlib.Core.List.{List, map, foldl}
 use lib.ListN.{length, getD}
 use lib.Dec.{eqb}
-use lib.IntN.{pos}
-use lib.Ieee.{Float, binary64, ofInt}
+use lib.Ieee.{Float}
 use Rattle.engine.specs.declared.config.FgoConfig.{FgoConfig}
 use Rattle.engine.specs.declared.types.RefinedId.{RefinedId}
 use Rattle.engine.specs.declared.types.ScanIndex.{ScanIndex}
-use Rattle.engine.specs.Config.{clutter}
 use Rattle.costs.specs.declared.cost.Fold.{Fold}
-use Rattle.costs.specs.Cost.{View, missesOf}
+use Rattle.costs.specs.Cost.{View}
 use Rattle.model.specs.declared.moves.PairMove.{PairMove}
-use Rattle.model.specs.declared.moves.PairMove.the-variants.{Stay, Swap, Merge}
+use Rattle.model.specs.declared.moves.PairMove.the-variants.{Stay, Swap}
 use Rattle.model.specs.Lists.{keep, upFrom}
 use Rattle.model.specs.Searching.{betterPair}
-use Rattle.pair_moves.specs.declared.pair.Overlap.{Overlap}
+use Rattle.merging.specs.Merge.{betterMerge}
 use Rattle.pricing.specs.declared.price.Hall.{Hall}
-use Rattle.pricing.specs.Price.{_⊕_, _⊖_, _⊗_, rowCost, crossed, scanAt, viewIn, Priced, Fit, Ends}
-
--- ---- rows
-
--- of two detections in one scan the keeper's own is kept, or the other's
-abbrev pub keptSlot : Bool → ℕ → ℕ → ℕ
-keptSlot own x y = cond (eqb x 0) y (cond (eqb y 0) x (cond own x y))
-
-unfoldable pub mergedRow : Bool → List ℕ → List ℕ → List ℕ
-mergedRow own [] b = []
-mergedRow own (x ∷ a) [] = x ∷ a
-mergedRow own (x ∷ a) (y ∷ b) = keptSlot own x y ∷ mergedRow own a b
-
--- what the scans of two rows count, each by its two entries
-unfoldable pub countRows : (ℕ → ℕ → ℕ) → List ℕ → List ℕ → ℕ
-countRows f [] b = 0
-countRows f (x ∷ a) [] = 0
-countRows f (x ∷ a) (y ∷ b) = f x y + countRows f a b
-
-abbrev pub bothHave : ℕ → ℕ → ℕ
-bothHave x y = cond (eqb x 0) 0 (cond (eqb y 0) 0 1)
-
--- the scans that both rows have
-abbrev pub sharedRows : List ℕ → List ℕ → ℕ
-sharedRows a b = countRows bothHave a b
-
-abbrev pub onlyHas : ℕ → ℕ → ℕ
-onlyHas x y = cond (eqb x 0) 0 (cond (eqb y 0) 1 0)
-
--- the scans that the first row has and the second has not
-abbrev pub aloneRows : List ℕ → List ℕ → ℕ
-aloneRows a b = countRows onlyHas a b
-
--- how two rows lie to each other
-abbrev pub overlapOf : List ℕ → List ℕ → Overlap
-overlapOf a b = record { shared = sharedRows a b; mine = aloneRows a b; theirs = aloneRows b a }
+use Rattle.pricing.specs.Price.{_⊕_, _⊖_, rowCost, crossed, scanAt, viewIn, Priced, Fit, Ends}
 
 -- ---- the best move of a pair
 
@@ -73,22 +36,8 @@ trySwapRow c v pa pb a b base g = Swap (scanAt v g) (rowCost c v pa (crossed g a
 abbrev pub firstSwap : Bool → ScanIndex → Float → Float → Float → PairMove
 firstSwap cut first xa xb base = cond cut (betterPair Stay (Swap first (xa ⊕ xb ⊖ base))) Stay
 
--- "d = (cost + losers·clutter_cost) − base"
-abbrev pub mergeOf : FgoConfig → RefinedId → Bool → Float → ℕ → Float → PairMove
-mergeOf c k own cost lost base = Merge k own (cost ⊕ ofInt binary64 (pos lost) ⊗ clutter c ⊖ base)
-
--- "With the merged track's cost"
-unfoldable pub tryMergeRow : FgoConfig → View → RefinedId → Bool → Fold → List ℕ → List ℕ → ℕ → Float → PairMove
-tryMergeRow c v k own p a b lost base = mergeOf c k own (rowCost c v p (mergedRow own a b)) lost base
-
 unfoldable pub bestSwapRow : FgoConfig → View → Fold → Fold → List Bool → List ℕ → List ℕ → Float → PairMove
 bestSwapRow c v pa pb close a b base = foldl betterPair Stay (map (trySwapRow c v pa pb a b base) (cutsOf close))
-
--- "For each keeper there are two forms": "first the keeper's own detections are kept, then the other track's"
-unfoldable pub betterMerge : FgoConfig → View → RefinedId → Fold → List ℕ → List ℕ → Float → PairMove → PairMove
-betterMerge c v k p a b base best =
-    let lost = sharedRows a b in
-    betterPair (betterPair best (tryMergeRow c v k true p a b lost base)) (tryMergeRow c v k false p a b lost base)
 
 -- "Merges are tried next, with a as the keeper and then with b"
 unfoldable pub bestPairRow : FgoConfig → View → RefinedId → RefinedId → Fold → Fold → List Bool → List ℕ → List ℕ → Float → PairMove
@@ -110,11 +59,3 @@ pub record Swaps (h : Hall) (pa pb : Fold) (xa xb : Float) (close : List Bool) (
   pub paid : base ≡ rowCost (h .config) (viewIn h dots) pa a ⊕ rowCost (h .config) (viewIn h dots) pb b
   pub exchanged-a : cutAt close 0 ≡ true → xa ≡ rowCost (h .config) (viewIn h dots) pa b
   pub exchanged-b : cutAt close 0 ≡ true → xb ≡ rowCost (h .config) (viewIn h dots) pb a
-
--- a keeper with the row a and what it goes on from, another row b, and how the two lie to each other
-pub record Merges (h : Hall) (p : Fold) (o : Overlap) (a b : List ℕ) (end : ℕ) (logs : List Float) : Type 0 where
-  pub priced : Priced h logs
-  pub idle : missesOf p ≡ 0
-  pub mine : Ends end a
-  pub theirs : Ends end b
-  pub lie : o ≡ overlapOf a b

@@ -1,2 +1,2 @@
-// What the moves of a pair of tracks would cost, and which is best: swaps and merges.
+// The best move of a pair of tracks: what its swaps would cost, and the best of them and of its merges.
 pub mod pair;

@@ -1,5 +1,4 @@
 // A recording, played: every frame is pushed to the refiner, at the end all are taken, then all from the smoother, if there is one; last come the counters.
-use crate::print;
 use crate::sink;
 use crate::sink::NUMBERS;
 use crate::sink::Printer;
@@ -19,8 +18,8 @@ use memory::state::FILTERS;
 use memory::state::FixedLagRefiner;
 use memory::state::OWNERS;
 use memory::state::TRACKS;
+use printing::print;
 use recording::Contents;
-use smoother::FixedLagSmoother;
 ghost use Prim.Native.Nat.{_≤_};
 
 // How the frames are printed: as the refiner emits them, in short or in full; or smoothed, in full.
@@ -205,7 +204,7 @@ fn run_over<'a, 'b, 'c>(
     requires { ⌜ n ≤ 256 ⌝ }
 {
     let c = refiner.config;
-    let o = FixedLagSmoother::open(c.lag_frames, c.accel_spectral_density, MOST, window, values);
+    let o = smoother::open(c.lag_frames, c.accel_spectral_density, MOST, window, values);
     match o {
         smoother::Opened::Refused(code) => {
             put_refusal(code);

@@ -2,10 +2,10 @@
 //
 // A frame that the refiner emits stands at the front of fw and fx. A smoother has its window in window and values, which are empty where there is none, and
 // writes its frames to words and numbers.
-use crate::print;
+use backward::FixedLagSmoother;
 use fgo::refiner::Answer;
 use lines::ROOM;
-use smoother::FixedLagSmoother;
+use printing::print;
 
 // The words and numbers of the longest frame.
 pub const WORDS: usize = 910;
@@ -56,7 +56,7 @@ fn smooth_one<'a, 'b, 'c, 'd, 'e, 'f>(
     numbers: &'d mut [f64; NUMBERS],
     out: &'e mut [u8; ROOM],
 ) -> Printer {
-    let t = state.push(window, values, fw, fx, words, numbers);
+    let t = smoother::push(state, window, values, fw, fx, words, numbers);
     let answer = t.answer;
     let next = t.state;
     let gathered = put_told(out, n, answer, words, numbers);
@@ -80,7 +80,7 @@ fn smooth_rest<'a, 'b, 'c, 'd>(
     let mut next = state;
     let mut at = n;
     while 0 < held {
-        let t = next.take(window, values, words, numbers);
+        let t = smoother::take(next, window, values, words, numbers);
         let answer = t.answer;
         next = t.state;
         at = put_told(out, at, answer, words, numbers);

@@ -1,5 +1,4 @@
 // What does not change during a search, what the windows of its tracks go on from, and what they cost.
-use costs::cost;
 use costs::cost::DOTS;
 use costs::cost::Fold;
 use costs::cost::LOGS;
@@ -8,6 +7,7 @@ use costs::cost::SCANS;
 use costs::cost::Stage;
 use engine::config::FgoConfig;
 use engine::types::ScanIndex;
+use folds::fold;
 use kf::filter::Kf;
 ghost use mathlib.Core.Path.{_≡_};
 ghost use Prim.Native.Nat.{_≤_, _<_};
@@ -90,7 +90,7 @@ pub fn run_to<'a>(
     ensures { λ r. ⌜ (foldIn r (now (numbers .exit)) ≡ onTo (hall .config) (viewIn hall (now (dots .entry))) k g (now (row .entry)) (foldIn f (now (numbers .entry)))) × Kept (now (logs .exit)) ⌝ }
 {
     let row = &row[..];
-    cost::run_window(
+    fold::run_window(
         hall.config,
         f,
         numbers,
@@ -120,7 +120,7 @@ pub fn rest_cost<'a>(
         return f.close(numbers, hall.config);
     }
     let row = &row[..];
-    cost::cost_of(
+    fold::cost_of(
         hall.config,
         f,
         numbers,

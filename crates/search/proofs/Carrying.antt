@@ -10,7 +10,7 @@ use lib.Seq.{getD-set-same, getD-set-other}
 use lib.Ieee.{Float, nan}
 use Rattle.costs.specs.Cost.{Kept}
 use Rattle.windows.specs.Rows.{Tabled}
-use Rattle.windows.specs.Near.{rowAt}
+use Rattle.nearness.specs.Near.{rowAt}
 use Rattle.search.specs.Pass.{Scene, rowOn, costOn, pairRest, trackRest, Listed, Due, Stands, Left, From, Carried}
 use Rattle.search.proofs.Costing.{costed-start, costed-more}
 use Rattle.search.proofs.Meeting.{table-row, table-entered}

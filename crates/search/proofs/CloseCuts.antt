@@ -10,7 +10,7 @@ use lib.Ieee.{Float}
 use Rattle.model.specs.Lists.{keep, consIf, any, upFrom}
 use Rattle.model.proofs.All.{mem-All}
 use Rattle.model.proofs.Counting.{any-All, or-right}
-use Rattle.windows.specs.Near.{closeAt, closeScans, anyClose}
+use Rattle.nearness.specs.Near.{closeAt, closeScans, anyClose}
 use Rattle.pair_moves.specs.Pair.{cutAt, cutsOf}
 use Rattle.windows.proofs.Filled.{map-up-length}
 use Rattle.search.proofs.CutTests.{or-left, same-answer}

@@ -14,7 +14,7 @@ use borrow.Author.Tests.{eq-eqb, ne-eqb}
 use Rattle.costs.specs.Cost.{View, Det, detAt, dets}
 use Rattle.model.specs.Lists.{any}
 use Rattle.model.proofs.Counting.{or-right}
-use Rattle.windows.specs.Near.{square, apart2, nearSlots, closeAt}
+use Rattle.nearness.specs.Near.{square, apart2, nearSlots, closeAt}
 use Rattle.pair_moves.specs.Pair.{cutAt}
 
 pub or-left : (a b : Bool) → T a → T (a || b)

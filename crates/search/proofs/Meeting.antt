@@ -14,7 +14,7 @@ use mir.Facts.{or-yes}
 use borrow.Author.Tests.{le-leb}
 use Rattle.model.specs.Lists.{any, upFrom}
 use Rattle.windows.specs.Rows.{rowOf, firstIn, endFrom, entryOf, Tabled}
-use Rattle.windows.specs.Near.{closeAt, closeScans, anyClose, meets, rowAt, CloseWithin, Entered, CloseRows}
+use Rattle.nearness.specs.Near.{closeAt, closeScans, anyClose, meets, rowAt, CloseWithin, Entered, CloseRows}
 use Rattle.windows.proofs.RowSlots.{row-length, entry-first, entry-end}
 use Rattle.windows.proofs.RowEnds.{first-by, end-past, end-by}
 use Rattle.search.proofs.CutTests.{same-answer, Meet, close-meet, near-some}

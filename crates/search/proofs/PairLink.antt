@@ -21,7 +21,8 @@ use Rattle.model.specs.Rule.{All}
 use Rattle.model.specs.Faithful.{Regular, Merged}
 use Rattle.model.proofs.Cutting.{swap-says}
 use Rattle.model.proofs.Merging.{merge-first-says, merge-second-says, shared-turned}
-use Rattle.pair_moves.specs.Pair.{cutsOf, sharedRows, trySwapRow, tryMergeRow, bestSwapRow, betterMerge, bestPairRow}
+use Rattle.merging.specs.Merge.{sharedRows, tryMergeRow, betterMerge}
+use Rattle.pair_moves.specs.Pair.{cutsOf, trySwapRow, bestSwapRow, bestPairRow}
 use Rattle.search.specs.Pass.{Scene, idOf, viewOn, partOn, rowOn, pairBest}
 use Rattle.search.proofs.Standing.{Standing, PartsOk, Fits, WindowRow, SharedRows, PairBest, scansNow}
 use Rattle.windows.proofs.RowSlots.{row-length}

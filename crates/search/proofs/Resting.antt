@@ -10,7 +10,7 @@ use lib.Seq.{getD-set-same, getD-set-other}
 use lib.Ieee.{Float}
 use Rattle.costs.specs.Cost.{Kept}
 use Rattle.windows.specs.declared.moves.Tally.{Tally}
-use Rattle.windows.specs.Near.{anyClose}
+use Rattle.nearness.specs.Near.{anyClose}
 use Rattle.windows.specs.Moves.{pairStays, trackStays}
 use Rattle.search.specs.Pass.{Scene, Search, rowOn, costOn, closeOn, pairBest, pairStep, pairIf, trackBest, trackStep, pairRest, trackRest, Listed, Rests, Grows, Stands}
 use Rattle.search.proofs.Listing.{listed-apart}

@@ -11,7 +11,7 @@ use Rattle.model.specs.Lists.{has, upFrom}
 use Rattle.model.specs.Windows.{Scan, Prefix}
 use Rattle.model.specs.Searching.{shared}
 use Rattle.windows.specs.Rows.{Starts, columnAt, slotAt, rowOf}
-use Rattle.pair_moves.specs.Pair.{countRows, bothHave, sharedRows}
+use Rattle.merging.specs.Merge.{countRows, bothHave, sharedRows}
 use Rattle.search.specs.Pass.{Scene}
 use Rattle.windows.specs.Columns.{spread, putBack}
 use Rattle.search.proofs.Standing.{HeldFrom, Standing, SharedRows}

@@ -16,7 +16,8 @@ use Rattle.model.specs.Searching.{afterPair, afterTrack, cuts, bestOfPair, best
 use Rattle.model.specs.Faithful.{Regular}
 use Rattle.model.specs.Rule.{All}
 use Rattle.windows.specs.Rows.{Starts, presentIn}
-use Rattle.pair_moves.specs.Pair.{cutsOf, sharedRows}
+use Rattle.merging.specs.Merge.{sharedRows}
+use Rattle.pair_moves.specs.Pair.{cutsOf}
 use Rattle.windows.specs.Moves.{pairIds, trackIds}
 use Rattle.search.specs.Pass.{Scene, viewOn, partOn, rowOn, closeOn, pairBest, trackBest}
 use Rattle.windows.specs.Columns.{picked, putBack}

@@ -10,7 +10,7 @@ use Rattle.model.specs.Lists.{keep, consIf}
 use Rattle.model.specs.Windows.{Scan, Prefix}
 use Rattle.model.specs.Searching.{Search as Model, Pair, consPair, cuts, pairsWith, pairs, pairStep as onPair, trackStep as onTrack}
 use Rattle.model.specs.Rule.{All}
-use Rattle.windows.specs.Near.{square, anyClose}
+use Rattle.nearness.specs.Near.{square, anyClose}
 use Rattle.pair_moves.specs.Pair.{cutsOf}
 use Rattle.search.specs.Pass.{Scene, Search, rowOn, closeOn, pairIf, pairStep, trackStep, sweepOne, sweep, visit}
 use Rattle.search.proofs.Standing.{Standing, scansNow}

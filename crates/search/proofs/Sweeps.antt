@@ -10,7 +10,7 @@ use lib.Ieee.{Float}
 use Rattle.engine.specs.Config.{radius}
 use Rattle.windows.specs.declared.moves.Tally.{Tally}
 use Rattle.windows.specs.Rows.{Tabled}
-use Rattle.windows.specs.Near.{square, anyClose, rowAt, CloseRows}
+use Rattle.nearness.specs.Near.{square, anyClose, rowAt, CloseRows}
 use Rattle.windows.specs.Moves.{pairStays}
 use Rattle.search.specs.Pass.{Scene, rowOn, closeOn, pairBest, pairStep, pairIf, sweepOne, sweep, Listed, Rests, Grows, Due, Stands}
 use Rattle.search.proofs.Listing.{listed-next, listed-end}

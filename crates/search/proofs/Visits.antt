@@ -12,7 +12,7 @@ use lib.Ieee.{Float, nan}
 use Rattle.costs.specs.Cost.{Kept}
 use Rattle.windows.specs.declared.moves.Tally.{Tally}
 use Rattle.windows.specs.Rows.{Starts}
-use Rattle.windows.specs.Near.{rowAt}
+use Rattle.nearness.specs.Near.{rowAt}
 use Rattle.search.specs.Pass.{Scene, Search, rowOn, costOn, trackStep, trackRest, visit, Listed, Grows, Due, Stands, Visits, Stepped}
 use Rattle.search.proofs.Listing.{listed-apart, listed-next, listed-end}
 use Rattle.search.proofs.Costing.{cost-stays}

@@ -17,7 +17,7 @@ use Rattle.model.specs.Faithful.{before, from, joined}
 use Rattle.model.proofs.All.{map-All}
 use Rattle.model.proofs.Merging.{join-left, join-right, join-both}
 use Rattle.pricing.specs.Price.{crossed}
-use Rattle.pair_moves.specs.Pair.{keptSlot, mergedRow}
+use Rattle.merging.specs.Merge.{keptSlot, mergedRow}
 use Rattle.search.proofs.RowDets.{dets-from, dets-before, dets-onward, dets-cut}
 
 -- ---- lists

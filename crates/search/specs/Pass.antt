@@ -14,7 +14,7 @@ use Rattle.model.specs.declared.moves.TrackMove.{TrackMove}
 use Rattle.pricing.specs.declared.price.Hall.{Hall}
 use Rattle.windows.specs.declared.moves.Tally.{Tally}
 use Rattle.windows.specs.Rows.{Starts, rowOf, presentIn}
-use Rattle.windows.specs.Near.{square, closeScans, anyClose, rowAt, Entered}
+use Rattle.nearness.specs.Near.{square, closeScans, anyClose, rowAt, Entered}
 use Rattle.pricing.specs.Price.{viewIn, partAmong, rowCost}
 use Rattle.pair_moves.specs.Pair.{bestPairRow}
 use Rattle.track_moves.specs.Track.{bestTrackRow}

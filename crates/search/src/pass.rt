@@ -5,6 +5,7 @@ use costs::cost::LOGS;
 use costs::cost::SCANS;
 use engine::types::RefinedId;
 use model::moves::FgoCounters;
+use nearness::near;
 use pair_moves::pair;
 use pricing::price;
 use pricing::price::FILTERS;
@@ -13,7 +14,6 @@ use pricing::price::TRACKS;
 use track_moves::track;
 use windows::moves;
 use windows::moves::Tally;
-use windows::near;
 use windows::rows;
 use windows::rows::ENTRY;
 use windows::rows::ROWS;
@@ -26,7 +26,7 @@ ghost use lib.ListN.{length, getD, take, drop, replicate};
 ghost use Rattle.costs.specs.Cost.{Kept};
 ghost use Rattle.model.specs.Windows.{Scan, Prefix};
 ghost use Rattle.engine.specs.Config.{radius, maxPasses};
-ghost use Rattle.windows.specs.Near.{square, rowAt, Entered, CloseRows};
+ghost use Rattle.nearness.specs.Near.{square, rowAt, Entered, CloseRows};
 ghost use Rattle.windows.specs.Moves.{pairStays};
 ghost use Rattle.windows.specs.Rows.{Starts, rowOf, presentIn, Begins, Tabled};
 ghost use Rattle.search.specs.Pass.{Search, sceneOf, rowOn, costOn, closeOn, pairBest, pairStep, pairIf, trackStep, sweepOne, sweep, visit, passOver, passesOver, Able, Listed, Rests, Grows, Due, Stands, Visits, Stepped, Left, Carried, Tables};
@@ -239,6 +239,8 @@ fn pair_step<'a>(
 {
     let a = table[i];
     let b = table[j];
+    let x = RefinedId(a);
+    let y = RefinedId(b);
     let mut ra = [0usize; SCANS];
     let mut rb = [0usize; SCANS];
     row_now(moved[i] == 0, i, a, rows, starts, ids, &mut ra);
@@ -247,8 +249,8 @@ fn pair_step<'a>(
     let pb = price::part_of(b, hall.frozen, tracks, filters);
     let m = pair::best_of_pair(
         hall,
-        RefinedId(a),
-        RefinedId(b),
+        x,
+        y,
         pa,
         pb,
         close,
@@ -262,16 +264,7 @@ fn pair_step<'a>(
     if moves::pair_stays(m) {
         return t;
     }
-    moves::apply_pair(
-        m,
-        hall.first,
-        RefinedId(a),
-        RefinedId(b),
-        &ra,
-        &rb,
-        starts,
-        ids,
-    );
+    moves::apply_pair(m, hall.first, x, y, &ra, &rb, starts, ids);
     costs[i] = track_cost(hall, a, starts, dots, tracks, filters, ids, logs);
     costs[j] = track_cost(hall, b, starts, dots, tracks, filters, ids, logs);
     moved[i] = 1;

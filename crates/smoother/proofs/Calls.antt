@@ -7,18 +7,18 @@ use native.Mathlib.Omega.{arith}
 use native.Mathlib.Nat.{sub-zero}
 use lib.Ieee.{Float}
 use borrow.Author.Tests.{lt-ltb, le-ltb}
-use Rattle.smoother.specs.declared.FixedLagSmoother.{FixedLagSmoother}
+use Rattle.backward.specs.declared.FixedLagSmoother.{FixedLagSmoother}
 use Rattle.smoother.specs.declared.Answer.the-variants.{Refused}
 use Rattle.smoother.specs.declared.Told.{Told}
 use Rattle.refined.specs.Frame.{SmootherFrame, wellFormed}
-use Rattle.smoother.specs.Pass.{emitted}
-use Rattle.smoother.specs.Smoother as Smoother
+use Rattle.backward.specs.Pass.{emitted}
 use Rattle.smoother.specs.Smoother.{State, Lent, unopened, opensBy, refused, waits, gives, held, laterRefusal, release, settle, pushBy, push, takesBy, takes}
-use Rattle.smoother.specs.Window.{frameIn, framesFrom, framesIn, fewer, more, stateIn, Fitting, AllCounted, Stored}
-use Rattle.smoother.specs.Promise.{Buffers, buffers, lengths, answerOf, over, oldest, Released, Promised}
-use Rattle.smoother.proofs.Forms.{frames-long, formed-more}
-use Rattle.smoother.proofs.Chains.{one-more}
-use Rattle.smoother.proofs.Storing.{released}
+use Rattle.backward.specs.Window.{frameIn, framesFrom, framesIn, allFormed, fewer, more, Fitting, AllCounted, Stored}
+use Rattle.smoother.specs.Promise.{stateIn, Buffers, buffers, lengths, answerOf, Released, Promised}
+use Rattle.backward.specs.Oldest.{over, oldest}
+use Rattle.backward.proofs.Forms.{frames-long, formed-more}
+use Rattle.backward.proofs.Chains.{one-more}
+use Rattle.backward.proofs.Storing.{released}
 use Rattle.smoother.proofs.Refusals.{Passing, all-counted}
 
 -- ---- a refusal
@@ -99,7 +99,7 @@ module _ (s : FixedLagSmoother) (win : List ℕ) (nums : List Float) (f : Smooth
         some = omega arith;
         counts =
             all-counted (more s) win′ nums′ (d .words ∙ p .fits .words)
-            (subst (λ l. Smoother.allFormed (s .most) l ≡ true) (sym stored-frames) (formed-more (s .most) (framesIn s win nums) f (p .formed) h));
+            (subst (λ l. allFormed (s .most) l ≡ true) (sym stored-frames) (formed-more (s .most) (framesIn s win nums) f (p .formed) h));
       })
 
 -- ---- the oldest frame leaves

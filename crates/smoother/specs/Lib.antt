@@ -1,4 +1,2 @@
-pub mod Pass
 pub mod Smoother
-pub mod Window
 pub mod Promise

@@ -1,10 +1,10 @@
 -- What opening, push and take promise, for any values that a caller hands over. Definitions only.
 use Prim.Native.Nat.{ℕ}
 use mathlib.Core.Path.{_≡_}
-use mathlib.Core.List.{List, [], _++_}
-use lib.ListN.{length, drop}
+use mathlib.Core.List.{List, []}
+use lib.ListN.{length}
 use lib.Ieee.{Float}
-use Rattle.smoother.specs.declared.FixedLagSmoother.{FixedLagSmoother}
+use Rattle.backward.specs.declared.FixedLagSmoother.{FixedLagSmoother}
 use Rattle.smoother.specs.declared.Opened.{Opened}
 use Rattle.smoother.specs.declared.Opened.the-variants.{Refused as NotOpened, Ready}
 use Rattle.smoother.specs.declared.Answer.{Answer}
@@ -12,9 +12,12 @@ use Rattle.smoother.specs.declared.Answer.the-variants.{Refused, Held, F
 use Rattle.smoother.specs.declared.Told.{Told}
 use Rattle.smoother.specs.Smoother as Smoother
 use Rattle.smoother.specs.Smoother.{State, Lent, Opening, opened, unopened, refused, waits, gives}
-use Rattle.refined.specs.Frame.{SmootherFrame}
-use Rattle.smoother.specs.Pass.{emitted}
-use Rattle.smoother.specs.Window.{frameIn, framesIn, fewer, stateIn}
+use Rattle.backward.specs.Window.{framesIn, fewer}
+use Rattle.backward.specs.Oldest.{over, oldest}
+
+-- what a struct and its window buffers stand for
+unfoldable pub stateIn : FixedLagSmoother → List ℕ → List Float → State
+stateIn s win nums = record { lag = s .lag; density = s .density; most = s .most; frames = framesIn s win nums }
 
 -- what the lent buffers hold
 pub record Buffers : Type 0 where
@@ -59,15 +62,7 @@ numbersOut (refused n) = []
 numbersOut waits = []
 numbersOut (gives f) = f .numbers
 
--- a buffer once l is put over its front: "The rest stays"
-abbrev pub over : {A : Type 0} → List A → List A → List A
-over l old = l ++ drop (length l) old
-
 -- ---- the oldest frame leaves
-
--- the oldest held frame, smoothed
-unfoldable pub oldest : FixedLagSmoother → List ℕ → List Float → SmootherFrame
-oldest s win nums = emitted (s .lag) (s .density) (framesIn s win nums) (frameIn s win nums 0)
 
 pub record Released (s : FixedLagSmoother) (b : Buffers) (r : Told) (words′ : List ℕ) (numbers′ : List Float) : Type 0 where
   pub answer : r .answer ≡ answerOf (gives (oldest s (b .window) (b .values)))

@@ -7,7 +7,8 @@ use lib.Dec.{leb, ltb, eqb}
 use lib.Ieee.{Float}
 use Rattle.scalar.specs.Scalar.{finite}
 use Rattle.refined.specs.Frame.{SmootherFrame, wellFormed}
-use Rattle.smoother.specs.Pass.{emitted}
+use Rattle.backward.specs.Pass.{emitted}
+use Rattle.backward.specs.Window.{slotWide, slotDeep, allFormed}
 
 -- what a smoother keeps: its settings, most being C, and the held frames, oldest first
 pub record State : Type 0 where
@@ -42,13 +43,6 @@ pub data Answer : Type 0 where
 unfoldable pub bounded : ℕ → ℕ → Bool
 bounded lag most = leb lag 16 && (leb 1 most && leb most 128)
 
--- the words and the numbers that a window has for one frame
-abbrev pub slotWide : ℕ → ℕ
-slotWide most = 142 + 6 * most
-
-abbrev pub slotDeep : ℕ → ℕ
-slotDeep most = 32 + 42 * most
-
 -- "window buffers of (lag + 1)(142 + 6C) words and (lag + 1)(32 + 42C) numbers"
 unfoldable pub windowFits : ℕ → ℕ → ℕ → ℕ → Bool
 windowFits lag most words numbers = eqb words ((lag + 1) * slotWide most) && eqb numbers ((lag + 1) * slotDeep most)
@@ -57,11 +51,6 @@ windowFits lag most words numbers = eqb words ((lag + 1) * slotWide most) && eqb
 unfoldable pub openRefusal : ℕ → Float → ℕ → ℕ → ℕ → ℕ
 openRefusal lag q most words numbers =
     cond (bounded lag most && finite q) (cond (windowFits lag most words numbers) 0 2) 1
-
--- each of some frames is well formed
-unfoldable pub allFormed : ℕ → List SmootherFrame → Bool
-allFormed most [] = true
-allFormed most (f ∷ fs) = wellFormed most f && allFormed most fs
 
 -- "density finite, at most lag frames held, each well formed"
 unfoldable pub ruleOk : State → Bool

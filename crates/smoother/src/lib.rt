@@ -1,9 +1,10 @@
-// Fixed-lag smoothing of refined frames, over window buffers that the caller lends.
-use crate::emit::emit_numbers;
-use crate::emit::emit_words;
-use crate::window::all_formed;
-use crate::window::dropped;
-use crate::window::store;
+// Fixed-lag smoothing of refined frames, over window buffers that the caller lends: open, push and take, and what they refuse.
+use backward::FixedLagSmoother;
+use backward::emit::emit_numbers;
+use backward::emit::emit_words;
+use backward::window::all_formed;
+use backward::window::dropped;
+use backward::window::store;
 use refined::frame;
 use scalar::bits;
 ghost use mathlib.Core.Path.{_≡_};
@@ -12,22 +13,8 @@ ghost use lib.ListN.{length};
 ghost use Rattle.refined.specs.Frame.{frame as frameOf};
 ghost use Rattle.smoother.specs.Smoother as Smoother;
 ghost use Rattle.smoother.specs.Smoother.{openRefusal, laterRefusal};
-ghost use Rattle.smoother.specs.Window.{stateIn, Fitting, AllCounted};
-ghost use Rattle.smoother.specs.Promise.{buffers, lengths, openingOf, Released, Promised};
-
-mod emit;
-mod pass;
-mod window;
-
-// What is kept between calls, beside the window: most is C, the most tracks of a frame; first is the slot of the oldest frame, counted round the window's lag + 1
-// slots; held is how many frames there are.
-pub struct FixedLagSmoother {
-    pub lag: usize,
-    pub density: f64,
-    pub most: usize,
-    pub first: usize,
-    pub held: usize,
-}
+ghost use Rattle.backward.specs.Window.{Fitting, AllCounted};
+ghost use Rattle.smoother.specs.Promise.{stateIn, buffers, lengths, openingOf, Released, Promised};
 
 // What opening answers: refusal 1 or 2, or a smoother that holds nothing.
 pub enum Opened {
@@ -154,88 +141,86 @@ fn release<'a, 'b, 'c>(
     }
 }
 
-impl FixedLagSmoother {
-    // A smoother that holds nothing, over these window buffers, into which it writes nothing yet. The density must be the tracker's.
-    pub fn open<'a>(
-        lag: usize,
-        density: f64,
-        most: usize,
-        window: &'a [u64],
-        values: &'a [f64],
-    ) -> Opened
-        ensures { λ r. ⌜ openingOf r (now (window .entry)) (now (values .entry)) ≡ Smoother.opens lag density most (length (now (window .entry))) (length (now (values .entry))) ⌝ }
-    {
-        let n = open_refusal(lag, density, most, window.len(), values.len());
-        if n != 0 {
-            return Opened::Refused(n);
-        }
-        Opened::Ready(FixedLagSmoother {
-            lag,
-            density,
-            most,
-            first: 0,
-            held: 0,
-        })
+// A smoother that holds nothing, over these window buffers, into which it writes nothing yet. The density must be the tracker's.
+pub fn open<'a>(
+    lag: usize,
+    density: f64,
+    most: usize,
+    window: &'a [u64],
+    values: &'a [f64],
+) -> Opened
+    ensures { λ r. ⌜ openingOf r (now (window .entry)) (now (values .entry)) ≡ Smoother.opens lag density most (length (now (window .entry))) (length (now (values .entry))) ⌝ }
+{
+    let n = open_refusal(lag, density, most, window.len(), values.len());
+    if n != 0 {
+        return Opened::Refused(n);
     }
+    Opened::Ready(FixedLagSmoother {
+        lag,
+        density,
+        most,
+        first: 0,
+        held: 0,
+    })
+}
 
-    // The next frame, as its words and its numbers. When more than lag frames are held, the oldest leaves.
-    pub fn push<'a, 'b, 'c, 'd, 'e>(
-        self,
-        window: &'a mut [u64],
-        values: &'b mut [f64],
-        fw: &'c [u64],
-        fx: &'c [f64],
-        words: &'d mut [u64],
-        numbers: &'e mut [f64],
-    ) -> Told
-        ensures { λ r. ⌜ Promised self (buffers (now (window .entry)) (now (values .entry)) (now (words .entry)) (now (numbers .entry))) (Smoother.push (stateIn self (now (window .entry)) (now (values .entry))) (lengths (buffers (now (window .entry)) (now (values .entry)) (now (words .entry)) (now (numbers .entry)))) (frameOf (now (fw .entry)) (now (fx .entry)))) r (buffers (now (window .exit)) (now (values .exit)) (now (words .exit)) (now (numbers .exit))) ⌝ }
-    {
-        let n = later_refusal(self, window, values, words.len(), numbers.len());
-        if n != 0 {
-            return Told {
-                answer: Answer::Refused(n),
-                state: self,
-            };
-        }
-        if !frame::well_formed(self.most, fw, fx) {
-            return Told {
-                answer: Answer::Refused(5),
-                state: self,
-            };
-        }
-        let s = store(self, window, values, fw, fx);
-        if s.held <= s.lag {
-            return Told {
-                answer: Answer::Held,
-                state: s,
-            };
-        }
-        release(s, window, values, words, numbers)
+// The next frame, as its words and its numbers. When more than lag frames are held, the oldest leaves.
+pub fn push<'a, 'b, 'c, 'd, 'e>(
+    given: FixedLagSmoother,
+    window: &'a mut [u64],
+    values: &'b mut [f64],
+    fw: &'c [u64],
+    fx: &'c [f64],
+    words: &'d mut [u64],
+    numbers: &'e mut [f64],
+) -> Told
+    ensures { λ r. ⌜ Promised given (buffers (now (window .entry)) (now (values .entry)) (now (words .entry)) (now (numbers .entry))) (Smoother.push (stateIn given (now (window .entry)) (now (values .entry))) (lengths (buffers (now (window .entry)) (now (values .entry)) (now (words .entry)) (now (numbers .entry)))) (frameOf (now (fw .entry)) (now (fx .entry)))) r (buffers (now (window .exit)) (now (values .exit)) (now (words .exit)) (now (numbers .exit))) ⌝ }
+{
+    let n = later_refusal(given, window, values, words.len(), numbers.len());
+    if n != 0 {
+        return Told {
+            answer: Answer::Refused(n),
+            state: given,
+        };
     }
+    if !frame::well_formed(given.most, fw, fx) {
+        return Told {
+            answer: Answer::Refused(5),
+            state: given,
+        };
+    }
+    let s = store(given, window, values, fw, fx);
+    if s.held <= s.lag {
+        return Told {
+            answer: Answer::Held,
+            state: s,
+        };
+    }
+    release(s, window, values, words, numbers)
+}
 
-    // The oldest held frame.
-    pub fn take<'a, 'b, 'c>(
-        self,
-        window: &'c [u64],
-        values: &'c [f64],
-        words: &'a mut [u64],
-        numbers: &'b mut [f64],
-    ) -> Told
-        ensures { λ r. ⌜ Promised self (buffers (now (window .entry)) (now (values .entry)) (now (words .entry)) (now (numbers .entry))) (Smoother.takes (stateIn self (now (window .entry)) (now (values .entry))) (lengths (buffers (now (window .entry)) (now (values .entry)) (now (words .entry)) (now (numbers .entry))))) r (buffers (now (window .entry)) (now (values .entry)) (now (words .exit)) (now (numbers .exit))) ⌝ }
-    {
-        let n = later_refusal(self, window, values, words.len(), numbers.len());
-        if n != 0 {
-            return Told {
-                answer: Answer::Refused(n),
-                state: self,
-            };
-        }
-        if self.held == 0 {
-            return Told {
-                answer: Answer::Refused(13),
-                state: self,
-            };
-        }
-        release(self, window, values, words, numbers)
+// The oldest held frame.
+pub fn take<'a, 'b, 'c>(
+    given: FixedLagSmoother,
+    window: &'c [u64],
+    values: &'c [f64],
+    words: &'a mut [u64],
+    numbers: &'b mut [f64],
+) -> Told
+    ensures { λ r. ⌜ Promised given (buffers (now (window .entry)) (now (values .entry)) (now (words .entry)) (now (numbers .entry))) (Smoother.takes (stateIn given (now (window .entry)) (now (values .entry))) (lengths (buffers (now (window .entry)) (now (values .entry)) (now (words .entry)) (now (numbers .entry))))) r (buffers (now (window .entry)) (now (values .entry)) (now (words .exit)) (now (numbers .exit))) ⌝ }
+{
+    let n = later_refusal(given, window, values, words.len(), numbers.len());
+    if n != 0 {
+        return Told {
+            answer: Answer::Refused(n),
+            state: given,
+        };
     }
+    if given.held == 0 {
+        return Told {
+            answer: Answer::Refused(13),
+            state: given,
+        };
+    }
+    release(given, window, values, words, numbers)
 }

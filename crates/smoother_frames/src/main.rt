@@ -4,12 +4,12 @@
 // The input is of 64-bit words, little-endian: lag, density, C; then one call after the other: 0 takes; 1, a number of words, a number of numbers, those
 // words and those numbers push a frame. It ends with the input, or with anything else. In `stdin` there are ids that stand twice, dense and broken
 // covariances, NaN and infinities, times that are equal or go back, takes in between, and frames malformed in each way.
+use backward::FixedLagSmoother;
 use engine::little;
 use libc::STDIN_FILENO;
 use lines::ROOM;
 use scalar::bits;
 use smoother::Answer;
-use smoother::FixedLagSmoother;
 use smoother::Opened;
 ghost use mathlib.Core.Path.{_≡_};
 ghost use Prim.Native.Nat.{_+_, _<_, _≤_};
@@ -94,7 +94,7 @@ fn take_one<'a, 'b, 'c, 'd>(
     let state = p.state;
     let at = p.at + 1;
     let gathered = p.gathered;
-    let t = state.take(window, values, words, numbers);
+    let t = smoother::take(state, window, values, words, numbers);
     let answer = t.answer;
     let next = t.state;
     let n = put_answer(out, gathered, answer, words, numbers);
@@ -135,7 +135,7 @@ fn push_one<'a, 'b, 'c, 'd, 'e, 'f>(
     let state = p.state;
     let at = p.at + 3 + fw.len() + fx.len();
     let gathered = p.gathered;
-    let t = state.push(window, values, fw, fx, words, numbers);
+    let t = smoother::push(state, window, values, fw, fx, words, numbers);
     let answer = t.answer;
     let next = t.state;
     let n = put_answer(out, gathered, answer, words, numbers);
@@ -216,7 +216,7 @@ fn open<'a, 'b, 'c>(s: &'c [u8], window: &'a mut [u64], values: &'b mut [f64]) {
     let density = bits::from_bits(word(s, 1));
     let lag = word(s, 0) as usize;
     let most = word(s, 2) as usize;
-    let o = FixedLagSmoother::open(lag, density, most, window, values);
+    let o = smoother::open(lag, density, most, window, values);
     match o {
         Opened::Refused(code) => {
             let mut out = [0u8; ROOM];

@@ -1,4 +1,3 @@
 pub mod Rows
 pub mod Columns
-pub mod Near
 pub mod Moves

@@ -2,7 +2,7 @@
 use mathlib.Core.Path.{sym, _∙_}
 use borrow.Author.Tests.{le-leb, lt-leb, not-true, not-false}
 use Rattle.smoother.specs.Smoother.{laterRefusal, outFits}
-use Rattle.smoother.specs.Window.{stateIn}
+use Rattle.smoother.specs.Promise.{stateIn}
 use Rattle.smoother.proofs.Refusals.{bounds, fitting}
 use borrow.Author.Needs.{needs}
 use Rattle.smoother.proofs.later_refusal.Statement.{statement}

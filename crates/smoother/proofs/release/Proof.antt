@@ -2,9 +2,9 @@
 use mathlib.Core.Path.{sym, _∙_}
 use lib.ListN.{length-set}
 use Rattle.smoother.specs.declared.Answer.the-variants.{Frame}
-use Rattle.smoother.specs.Pass.{smoothedFlag, emitted}
-use Rattle.smoother.specs.Window.{wordsIn}
-use Rattle.smoother.specs.Promise.{oldest}
+use Rattle.backward.specs.Pass.{smoothedFlag, emitted}
+use Rattle.backward.specs.Window.{wordsIn}
+use Rattle.backward.specs.Oldest.{oldest}
 use borrow.Author.Needs.{needs}
 use Rattle.smoother.proofs.release.Statement.{statement}
 use Rattle.smoother.proofs.release.Tie as tie

@@ -1,11 +1,12 @@
 -- `pair_moves::pair::best_of_pair` meets its contract. Assumes nothing.
 use borrow.Author.Needs.{needs}
 use mathlib.Core.Path.{sym, ap, _∙_}
-use Rattle.pair_moves.specs.declared.pair.Overlap.{Overlap}
-use Rattle.pair_moves.specs.Pair.{bestPairRow, betterMerge, aloneRows}
+use Rattle.merging.specs.declared.merge.Overlap.{Overlap}
+use Rattle.merging.specs.Merge.{betterMerge, aloneRows}
+use Rattle.pair_moves.specs.Pair.{bestPairRow}
 use Rattle.pricing.specs.Price.{_⊕_, viewIn}
 use Rattle.pricing.proofs.Heads.{ends-at, ends-later}
-use Rattle.pair_moves.proofs.Merged.{shared-turned}
+use Rattle.merging.proofs.Merged.{shared-turned}
 use Rattle.pair_moves.proofs.pair.best_of_pair.Statement.{statement}
 use Rattle.pair_moves.proofs.pair.best_of_pair.Tie as tie
 

@@ -6,7 +6,7 @@ use native.Mathlib.Omega.{arith}
 use lib.ListN.{length, getD, set, drop, length-set, length-drop}
 use lib.Seq.{ext-getD, getD-take, getD-drop, getD-set-same, getD-set-other, length-take-le}
 use borrow.Author.Count.{below-more}
-use Rattle.windows.specs.Near.{rowAt}
+use Rattle.nearness.specs.Near.{rowAt}
 use Rattle.search.proofs.pass.copy_row.Statement.{statement}
 use Rattle.search.proofs.pass.copy_row.Tie as tie
 

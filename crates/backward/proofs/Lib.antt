@@ -1,0 +1,5 @@
+pub mod Forms
+pub mod Slots
+pub mod Chains
+mod Writing
+pub mod Storing

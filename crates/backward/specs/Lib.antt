@@ -1,0 +1,3 @@
+pub mod Pass
+pub mod Window
+pub mod Oldest

@@ -1,0 +1,2 @@
+// Where the rows of two tracks come close.
+pub mod near;
