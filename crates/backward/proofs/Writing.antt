@@ -4,25 +4,23 @@ use mathlib.Core.List.{List, _++_, append-assoc}
 use Prim.Native.Nat.{ℕ, _+_, _-_, _*_, _≤_, _<_}
 use native.Mathlib.Omega.{arith}
 use native.Mathlib.Numerals.{add-one}
-use native.Mathlib.Nat.{zero-add}
 use lib.ListN.{length, take, drop, set, length-append, length-drop, length-set}
 use lib.Seq.{take-all, drop-drop, take-at, drop-append-add, length-take-le, set-append-left}
 use lib.Ieee.{Float}
-use Rattle.buffers.specs.Buffers.{over as overAt}
+use Rattle.buffers.specs.Buffers.{over}
 use Rattle.buffers.proofs.Over.{over-more}
 use Rattle.rts.specs.Smoothing.{Estimate}
 use Rattle.refined.specs.Frame.{SmootherFrame}
 use Rattle.backward.specs.Pass.{flat, statesTo, smoothedAt}
-use Rattle.backward.specs.Oldest.{over}
 
 -- x, and p after it
 pub two : (d x p e r : List Float) (at : ℕ) → length x ≡ 6 → length p ≡ 36 → at + 42 ≤ length d
-    → e ≡ overAt at x d → r ≡ overAt (at + 6) p e → r ≡ take at d ++ ((x ++ p) ++ drop (at + 42) d)
-unfolding overAt
+    → e ≡ over at x d → r ≡ over (at + 6) p e → r ≡ take at d ++ ((x ++ p) ++ drop (at + 42) d)
+unfolding over
 two d x p e r at m n h q o =
     let a : at + length (x ++ p) ≡ at + 42 = omega (arith, length-append x p) in
     o
-    ∙ (λ i. overAt (at + sym m i) p (q i))
+    ∙ (λ i. over (at + sym m i) p (q i))
     ∙ over-more at x d (omega arith) p
     ∙ ap (λ k. take at d ++ ((x ++ p) ++ drop k d)) a
 
@@ -63,22 +61,22 @@ module _ (q : Float) (fs : List SmootherFrame) (f : SmootherFrame) (o : List Flo
       }
 
 -- a list over the front of a buffer, and one of its elements set
-pub flagged : (o w e : List ℕ) (v : ℕ) → e ≡ overAt 0 w o → 5 < length w → set e 5 v ≡ over (set w 5 v) o
-unfolding overAt
+pub flagged : (o w e : List ℕ) (v : ℕ) → e ≡ over 0 w o → 5 < length w → set e 5 v ≡ over 0 (set w 5 v) o
+unfolding over
 flagged o w e v q h =
-    ap (λ l. set l 5 v) (q ∙ ap (λ n. w ++ drop n o) (zero-add (length w)))
-    ∙ set-append-left w (drop (length w) o) 5 v h
-    ∙ ap (λ n. set w 5 v ++ drop n o) (sym (length-set w 5 v))
+    ap (λ l. set l 5 v) q
+    ∙ set-append-left w (drop (0 + length w) o) 5 v h
+    ∙ ap (λ n. set w 5 v ++ drop (0 + n) o) (sym (length-set w 5 v))
 
 -- the rest of a frame's numbers after its tracks
 pub costs : (o x e r g : List Float) (at : ℕ) → e ≡ g ++ drop at o → length g ≡ at
-    → r ≡ overAt at (take (length x - at) (drop at x)) e → r ≡ over (g ++ drop at x) o
-unfolding overAt
+    → r ≡ over at (take (length x - at) (drop at x)) e → r ≡ over 0 (g ++ drop at x) o
+unfolding over
 costs o x e r g at q l p =
     let d = drop at x in
     let t : take (length x - at) d ≡ d = take-all (length x - at) d (omega (arith, length-drop at x)) in
-    let n : at + length d ≡ length (g ++ d) = omega (arith, length-append g d, l) in
+    let n : at + length d ≡ 0 + length (g ++ d) = omega (arith, length-append g d, l) in
     p
-    ∙ (λ i. overAt at (t i) (q i))
+    ∙ (λ i. over at (t i) (q i))
     ∙ group-more o g d (g ++ drop at o) at (length d) l refl
     ∙ ap (λ m. (g ++ d) ++ drop m o) n

@@ -13,7 +13,8 @@ ghost use Rattle.rts.specs.Smoothing.{estimate};
 ghost use Rattle.refined.specs.Frame.{trackCount};
 ghost use Rattle.backward.specs.Pass.{flat, statesTo, smoothedFlag};
 ghost use Rattle.backward.specs.Window.{wide, wordsIn, frameIn, framesIn, Fitting, Counted, AllCounted};
-ghost use Rattle.backward.specs.Oldest.{over, oldest};
+ghost use Rattle.buffers.specs.Buffers.{over};
+ghost use Rattle.backward.specs.Oldest.{oldest};
 
 // A track's 42 numbers, from a place on.
 fn put_state<'a, 'b>(out: &'a mut [f64], at: usize, x: &'b [f64; 6], p: &'b [f64; 36])
@@ -46,10 +47,11 @@ fn smoothed_flag(lag: usize) -> u64
     if 0 < lag { 1 } else { 0 }
 }
 
-// The oldest held frame's words, with the flag, at the front of words; how many there are.
+// The oldest held frame's words, with the flag, at the front of words; how many there are. It asks that the window has the length that lag and C ask for, that the frame's
+// counts fit its slot, and that words has room for any frame.
 pub fn emit_words<'a, 'b>(words: &'a mut [u64], s: FixedLagSmoother, win: &'b [u64]) -> usize
     requires { ⌜ (s .lag ≤ 16) × (s .most ≤ 128) × (length (now win) ≡ (s .lag + 1) * wide s) × Counted s (now win) 0 × (910 ≤ length (now words)) ⌝ }
-    ensures { λ r. ⌜ (r ≡ length (wordsIn s (now (win .entry)) 0)) × (now (words .exit) ≡ over (set (wordsIn s (now (win .entry)) 0) 5 (smoothedFlag (s .lag))) (now (words .entry))) ⌝ }
+    ensures { λ r. ⌜ (r ≡ length (wordsIn s (now (win .entry)) 0)) × (now (words .exit) ≡ over 0 (set (wordsIn s (now (win .entry)) 0) 5 (smoothedFlag (s .lag))) (now (words .entry))) ⌝ }
 {
     let w = frame_words(s, win, 0);
     put_words(words, 0, w);
@@ -57,7 +59,7 @@ pub fn emit_words<'a, 'b>(words: &'a mut [u64], s: FixedLagSmoother, win: &'b [u
     w.len()
 }
 
-// Its numbers: the tracks smoothed, then the costs as they were; how many there are.
+// Its numbers: the tracks smoothed, then the costs as they were; how many there are. It asks the same of every held frame, and that numbers has room.
 pub fn emit_numbers<'a, 'b>(
     numbers: &'a mut [f64],
     s: FixedLagSmoother,
@@ -65,7 +67,7 @@ pub fn emit_numbers<'a, 'b>(
     nums: &'b [f64],
 ) -> usize
     requires { ⌜ Fitting s (now win) (now nums) × (s .held ≤ s .lag + 1) × (0 < s .held) × AllCounted s (now win) × (5408 ≤ length (now numbers)) ⌝ }
-    ensures { λ r. ⌜ (r ≡ length (oldest s (now (win .entry)) (now (nums .entry)) .numbers)) × (now (numbers .exit) ≡ over (oldest s (now (win .entry)) (now (nums .entry)) .numbers) (now (numbers .entry))) ⌝ }
+    ensures { λ r. ⌜ (r ≡ length (oldest s (now (win .entry)) (now (nums .entry)) .numbers)) × (now (numbers .exit) ≡ over 0 (oldest s (now (win .entry)) (now (nums .entry)) .numbers) (now (numbers .entry))) ⌝ }
 {
     put_states(numbers, s, win, nums);
     let w = frame_words(s, win, 0);

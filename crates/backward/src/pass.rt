@@ -123,7 +123,7 @@ fn pass<'a>(
     Passed { ok: true, state: a }
 }
 
-// Track i of the oldest held frame, smoothed where no Cholesky fails.
+// Track i of the oldest held frame, smoothed where no Cholesky fails. It asks that there is one, and of the window what its readers ask.
 pub fn chosen<'a>(s: FixedLagSmoother, win: &'a [u64], nums: &'a [f64], i: usize) -> TrackState
     requires { ⌜ Fitting s (now win) (now nums) × (s .held ≤ s .lag + 1) × (0 < s .held) × AllCounted s (now win) × (i < trackCount (wordsIn s (now win) 0)) ⌝ }
     ensures { λ r. ⌜ estimateOf r ≡ smoothedAt (s .density) (framesIn s (now (win .entry)) (now (nums .entry))) (frameIn s (now (win .entry)) (now (nums .entry)) 0) i ⌝ }

@@ -62,7 +62,7 @@ fn exact_numbers<'a>(w: &'a [u64], x: &'a [f64]) -> &'a [f64]
     &x[..end]
 }
 
-// The words of the k-th held frame.
+// The words of the k-th held frame. Like all that reads the window, it asks that the window has the length that lag and C ask for, and that the frame's counts fit its slot.
 pub fn frame_words(s: FixedLagSmoother, win: &[u64], k: usize) -> &[u64]
     requires { ⌜ (s .lag ≤ 16) × (s .most ≤ 128) × (k ≤ s .lag) × (length (now win) ≡ (s .lag + 1) * wide s) × Counted s (now win) k ⌝ }
     ensures { λ r. ⌜ (now r ≡ wordsIn s (now (win .entry)) k) × (length (now r) ≡ wordsLong (slotWords s (now (win .entry)) k)) ⌝ }
@@ -70,7 +70,7 @@ pub fn frame_words(s: FixedLagSmoother, win: &[u64], k: usize) -> &[u64]
     exact_words(slot_words(s, win, k))
 }
 
-// Its numbers.
+// Its numbers; it asks the same.
 pub fn frame_numbers<'a>(
     s: FixedLagSmoother,
     win: &'a [u64],
@@ -96,7 +96,7 @@ fn slot_formed<'a>(s: FixedLagSmoother, win: &'a [u64], nums: &'a [f64], k: usiz
     frame::well_formed(s.most, exact_words(w), exact_numbers(w, x))
 }
 
-// Each slot in use does.
+// Each slot in use does. It asks that the window has the length that lag and C ask for, and that there is a slot for each frame held.
 pub fn all_formed<'a>(s: FixedLagSmoother, win: &'a [u64], nums: &'a [f64]) -> bool
     requires { ⌜ Fitting s (now win) (now nums) × (s .held ≤ s .lag) ⌝ }
     ensures { λ r. ⌜ r ≡ allFormed (s .most) (framesIn s (now (win .entry)) (now (nums .entry))) ⌝ }
@@ -111,7 +111,7 @@ pub fn all_formed<'a>(s: FixedLagSmoother, win: &'a [u64], nums: &'a [f64]) -> b
     true
 }
 
-// A frame put into the next free slot.
+// A frame put into the next free slot. It asks that there is one, that the window has its length, and that the frame is as long as its counts say and fits a slot.
 pub fn store<'a, 'b, 'c>(
     s: FixedLagSmoother,
     win: &'a mut [u64],
@@ -134,7 +134,7 @@ pub fn store<'a, 'b, 'c>(
     }
 }
 
-// The oldest frame is given up: nothing moves, the next slot is the first.
+// The oldest frame is given up: nothing moves, the next slot is the first. It asks that one is held.
 pub fn dropped(s: FixedLagSmoother) -> FixedLagSmoother
     requires { ⌜ (s .lag ≤ 16) × (0 < s .held) ⌝ }
     ensures { λ r. ⌜ r ≡ fewer s ⌝ }

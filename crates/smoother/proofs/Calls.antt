@@ -15,7 +15,8 @@ use Rattle.backward.specs.Pass.{emitted}
 use Rattle.smoother.specs.Smoother.{State, Lent, unopened, opensBy, refused, waits, gives, held, laterRefusal, release, settle, pushBy, push, takesBy, takes}
 use Rattle.backward.specs.Window.{frameIn, framesFrom, framesIn, allFormed, fewer, more, Fitting, AllCounted, Stored}
 use Rattle.smoother.specs.Promise.{stateIn, Buffers, buffers, lengths, answerOf, Released, Promised}
-use Rattle.backward.specs.Oldest.{over, oldest}
+use Rattle.buffers.specs.Buffers.{over}
+use Rattle.backward.specs.Oldest.{oldest}
 use Rattle.backward.proofs.Forms.{frames-long, formed-more}
 use Rattle.backward.proofs.Chains.{one-more}
 use Rattle.backward.proofs.Storing.{released}
@@ -24,6 +25,7 @@ use Rattle.smoother.proofs.Refusals.{Passing, all-counted}
 -- ---- a refusal
 
 pub refuses : (s : FixedLagSmoother) (b : Buffers) (n : ℕ) → Promised s b (refused n, stateIn s (b .window) (b .values)) (record { answer = Refused n; state = s }) b
+unfolding over
 refuses s b n =
     record { answer = refl; state = refl; words = refl; numbers = refl; sizes = refl; kept = record { state = refl; window = refl; values = refl } }
 
@@ -121,8 +123,8 @@ module _ (given s : FixedLagSmoother) (win₀ win : List ℕ) (nums₀ nums : Li
       (record {
         answer = d .answer ∙ ap (λ o. answerOf (gives o)) o;
         state = ap (λ r. stateIn r win nums) (d .state) ∙ (λ i. record { lag = s .lag; density = s .density; most = s .most; frames = g i });
-        words = d .words ∙ ap (λ o. over (o .words) words) o;
-        numbers = d .numbers ∙ ap (λ o. over (o .numbers) numbers) o;
+        words = d .words ∙ ap (λ o. over 0 (o .words) words) o;
+        numbers = d .numbers ∙ ap (λ o. over 0 (o .numbers) numbers) o;
         sizes = z;
         kept = tt;
       })

@@ -13,7 +13,8 @@ use Rattle.smoother.specs.declared.Told.{Told}
 use Rattle.smoother.specs.Smoother as Smoother
 use Rattle.smoother.specs.Smoother.{State, Lent, Opening, opened, unopened, refused, waits, gives}
 use Rattle.backward.specs.Window.{framesIn, fewer}
-use Rattle.backward.specs.Oldest.{over, oldest}
+use Rattle.buffers.specs.Buffers.{over}
+use Rattle.backward.specs.Oldest.{oldest}
 
 -- what a struct and its window buffers stand for
 unfoldable pub stateIn : FixedLagSmoother → List ℕ → List Float → State
@@ -62,13 +63,13 @@ numbersOut (refused n) = []
 numbersOut waits = []
 numbersOut (gives f) = f .numbers
 
--- ---- the oldest frame leaves
+-- ---- the oldest frame leaves: it is put over the front of the output buffers, and "The rest stays"
 
 pub record Released (s : FixedLagSmoother) (b : Buffers) (r : Told) (words′ : List ℕ) (numbers′ : List Float) : Type 0 where
   pub answer : r .answer ≡ answerOf (gives (oldest s (b .window) (b .values)))
   pub state : r .state ≡ fewer s
-  pub words : words′ ≡ over (oldest s (b .window) (b .values) .words) (b .words)
-  pub numbers : numbers′ ≡ over (oldest s (b .window) (b .values) .numbers) (b .numbers)
+  pub words : words′ ≡ over 0 (oldest s (b .window) (b .values) .words) (b .words)
+  pub numbers : numbers′ ≡ over 0 (oldest s (b .window) (b .values) .numbers) (b .numbers)
 
 -- ---- what a call owes
 
@@ -88,7 +89,7 @@ KeptIf (gives f) given b r a = Unit
 pub record Promised (given : FixedLagSmoother) (b : Buffers) (p : Smoother.Answer × State) (r : Told) (a : Buffers) : Type 0 where
   pub answer : r .answer ≡ answerOf (p .0)
   pub state : stateIn (r .state) (a .window) (a .values) ≡ p .1
-  pub words : a .words ≡ over (wordsOut (p .0)) (b .words)
-  pub numbers : a .numbers ≡ over (numbersOut (p .0)) (b .numbers)
+  pub words : a .words ≡ over 0 (wordsOut (p .0)) (b .words)
+  pub numbers : a .numbers ≡ over 0 (numbersOut (p .0)) (b .numbers)
   pub sizes : lengths a ≡ lengths b
   pub kept : KeptIf (p .0) given b r a

@@ -4,6 +4,7 @@ use mathlib.Core.Bool.{true, false}
 use lib.ListN.{length}
 use Rattle.smoother.specs.declared.Answer.the-variants.{Refused, Held}
 use borrow.Author.Tests.{not-true, not-false}
+use Rattle.buffers.specs.Buffers.{over}
 use Rattle.refined.specs.Frame.{frame, wellFormed}
 use Rattle.smoother.specs.Smoother.{laterRefusal, settle}
 use Rattle.smoother.specs.Promise.{stateIn, buffers, lengths, Promised}
@@ -55,7 +56,7 @@ store-requires c κs =
     (p .fits, p .few, v .words, v .numbers, v .head .tracks, v .head .associations, v .head .sensors)
 
 returns-3 : tie.Need-returns-3
-unfolding stateIn
+unfolding over stateIn
 returns-3 c =
     let g = c .before .before .before .before .before .before .before .before .before .before .before .before .before .before .before .before .before .before .before .before .before .args in
     let b = buffers (g .window .now) (g .values .now) (g .words .now) (g .numbers .now) in

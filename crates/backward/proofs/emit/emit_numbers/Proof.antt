@@ -5,11 +5,11 @@ use mathlib.Core.List.{_++_}
 use native.Mathlib.Omega.{arith}
 use lib.ListN.{length, take, drop, length-append, length-drop}
 use lib.Seq.{length-take-le}
-use Rattle.buffers.specs.Buffers.{over as overAt}
+use Rattle.buffers.specs.Buffers.{over}
 use Rattle.refined.specs.Frame.{trackCount}
 use Rattle.backward.specs.Pass.{statesTo, emitted}
 use Rattle.backward.specs.Window.{wordsIn, numbersIn, frameIn, framesIn}
-use Rattle.backward.specs.Oldest.{over, oldest}
+use Rattle.backward.specs.Oldest.{oldest}
 use Rattle.backward.proofs.Chains.{tracks-of}
 use Rattle.backward.proofs.Writing.{costs}
 use borrow.Author.Needs.{needs}
@@ -54,10 +54,10 @@ returns c =
     let e = c .before .before .before .before .before .before .before .before .before .before .put-states .last .0 in
     let s = statesTo (g .s .density) (framesIn (g .s) (g .win .now) (g .nums .now)) (frameIn (g .s) (g .win .now) (g .nums .now) 0) T in
     let X = numbersIn (g .s) (g .win .now) (g .nums .now) 0 in
-    let r = c .before .before .put-numbers .ensures ∙ ap (λ m. overAt (42 * m) (take (length (x .result .now) - 42 * m) (drop (42 * m) (x .result .now))) e) t in (
+    let r = c .before .before .put-numbers .ensures ∙ ap (λ m. over (42 * m) (take (length (x .result .now) - 42 * m) (drop (42 * m) (x .result .now))) e) t in (
       omega (arith, length-append s (drop (42 * T) X), length-drop (42 * T) X, c .before .before .before .before .before .before .before .before .before .before .put-states .ensures .1, ap length (x .ensures .0), x .ensures .1, tracks-of (g .s) (g .win .now) 0),
       costs (g .numbers .now) (x .result .now) e (c .before .before .put-numbers .last .0) s (42 * T) (c .before .before .before .before .before .before .before .before .before .before .put-states .ensures .0) (c .before .before .before .before .before .before .before .before .before .before .put-states .ensures .1) r
-          ∙ ap (λ x. over (s ++ drop (42 * T) x) (g .numbers .now)) (x .ensures .0),
+          ∙ ap (λ x. over 0 (s ++ drop (42 * T) x) (g .numbers .now)) (x .ensures .0),
     )
 
 pub emit-numbers-spec : {M : Type 1} → statement M

@@ -2,7 +2,7 @@
 use mathlib.Core.Path.{ap, _∙_}
 use native.Mathlib.Omega.{arith}
 use lib.ListN.{length, set}
-use Rattle.backward.specs.Oldest.{over}
+use Rattle.buffers.specs.Buffers.{over}
 use Rattle.backward.proofs.Writing.{flagged}
 use borrow.Author.Needs.{needs}
 use Rattle.backward.proofs.emit.emit_words.Statement.{statement}
@@ -14,7 +14,7 @@ returns c =
     let w = c .before .before .before .before .before .frame-words in (
       ap length (w .ensures .0),
       flagged (g .words .now) (w .result .now) (c .before .before .before .put-words .last .0) _ (c .before .before .before .put-words .ensures) (omega (arith, w .ensures .1))
-          ∙ (λ i. over (set (w .ensures .0 i) 5 (c .smoothed-flag .ensures i)) (g .words .now)),
+          ∙ (λ i. over 0 (set (w .ensures .0 i) 5 (c .smoothed-flag .ensures i)) (g .words .now)),
     )
 
 pub emit-words-spec : {M : Type 1} → statement M
