@@ -12,7 +12,6 @@ use mir.Val.{Fits}
 use borrow.Author.Tests.{ltb-false, leb-false}
 use Rattle.engine.specs.Body.{narrow, refusal, frameOf}
 use Rattle.engine.proofs.Every.{both}
-use Rattle.engine.proofs.Settings.{legal-tells}
 use Rattle.model.specs.Refiner.{firstOf}
 use Rattle.model.specs.Rule.{All, Bytes, Spoken, Rule, ruleOk}
 use Rattle.model.proofs.RuleLaw.{rule-of}
@@ -112,9 +111,9 @@ module _ (r : FixedLagRefiner) (m : Memory) (s : List ℕ) (a : Arrives r m s) w
         let k = sound-kept r m (a .sound) in
         record {
           passes = passes;
-          few = omega (arith, k .lagged, legal-tells (r .config) (k .settings) .lag);
+          few = omega (arith, k .counts .lagged, k .counts .short);
           early = omega (arith, spaced .scans);
-          owned = k .owned;
+          owned = k .counts .few;
           ids = spaced .ids;
           bodies-long = l .bodies-long;
           columns-long = l .columns-long;

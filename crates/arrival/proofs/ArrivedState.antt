@@ -22,8 +22,7 @@ use Rattle.memory.specs.declared.state.FixedLagRefiner.{FixedLagRefiner}
 use Rattle.memory.specs.Memory.{Memory, memory, scansIn, entryIn, ownersIn, stateOf}
 use Rattle.ledger.specs.Sound.{liveIn}
 use Rattle.placing.specs.Owning.{keptOwners}
-use Rattle.arrival.specs.Arriving.{Ready}
-use Rattle.arrival.specs.Arriving.{Lent, Arrives, HeldBy, foundIn, Searched, Arrived}
+use Rattle.arrival.specs.Arriving.{Ready, Lent, Arrives, HeldBy, foundIn, Searched, Arrived}
 use Rattle.ledger.proofs.SoundLaw.{live-rule}
 use Rattle.arrival.proofs.Placements.{before}
 use Rattle.arrival.proofs.ReadyLaw.{sound-ready}

@@ -140,7 +140,7 @@ module _ (r : FixedLagRefiner) (m : Memory) (s : List ℕ) (a : Arrives r m s) (
         let k = sound-kept r m (a .sound) in
         let w = holds r m s a l in
         record {
-          settings = k .settings;
+          settings = k .counts .settings;
           held =
               record {
                 few = omega (arith, w .few);
@@ -151,7 +151,7 @@ module _ (r : FixedLagRefiner) (m : Memory) (s : List ℕ) (a : Arrives r m s) (
           columns = subst (All (ColumnRule (v .next .0))) (sym scans-held) (subst (λ (n : ℕ). All (ColumnRule n) (withScan t f)) (sym next-held) columns-placed);
           begun = omega (arith, next-held, placed-is .low, rule r m s a l .begun);
           parts = sound-ready r m (a .sound) .ordered;
-          frozen = k .frozen;
+          frozen = k .counts .parts;
           owners = h .owned;
           spare = spare;
           columns-long = h .columns-long;

@@ -8,9 +8,7 @@ use mathlib.Core.List.{List, [], _∷_}
 use lib.ListN.{length}
 use lib.Dec.{leb, ltb}
 use borrow.Author.Tests.{leb-true, ltb-true}
-use Rattle.engine.specs.Config.{legal, lag}
 use Rattle.engine.proofs.Every.{both}
-use Rattle.engine.proofs.Settings.{legal-tells}
 use Rattle.model.specs.Windows as windows
 use Rattle.model.specs.Windows.{detections}
 use Rattle.model.specs.Rule.{All, prefixOk, risesOk}
@@ -20,7 +18,7 @@ use Rattle.freezing.specs.Frozen.{Ordered, PartOk}
 use Rattle.ledger.specs.Sound.{bodiesOk, columnsOk, partsOk, countsOk, soundIn, soundOk}
 use Rattle.arrival.specs.Arriving.{Ready}
 use Rattle.memory.proofs.Rows.{row-of}
-use Rattle.ledger.proofs.Counted.{body-passes}
+use Rattle.ledger.proofs.Counted.{Counted, counted-of, body-passes}
 use Rattle.ledger.proofs.SoundLaw.{parts-rule, sound-rule}
 
 -- ---- frozen parts
@@ -68,37 +66,22 @@ module _ (first next : ℕ) where
 module _ (r : FixedLagRefiner) (m : Memory) where
   -- what the rule says of the counts, the bodies, the frozen parts and the sum
   pub record Kept : Type 0 where
-    pub settings : legal (r .config) ≡ true
-    pub lagged : r .held ≤ lag (r .config)
-    pub early : r .first .0 + r .held ≤ 4294967295
-    pub begun : 0 < r .next .0
-    pub frozen : r .frozen ≤ 128
-    pub owned : r .owned ≤ 256
+    pub counts : Counted r
     pub bodies : bodiesOk (m .bodies) (m .columns) (r .first .0) (r .held) ≡ true
     pub columns : columnsOk (r .next .0) (m .bodies) (m .columns) (r .first .0) (r .held) ≡ true
     pub parts : risesOk (r .first .0) (r .next .0) 0 (tableIn (m .tracks) (m .filters) (r .frozen)) ≡ true
     pub room : r .frozen + detections (scansIn (m .bodies) (m .columns) (r .first .0) (r .held)) ≤ 128
 
   pub sound-kept : soundOk r m ≡ true → Kept
-  unfolding soundIn countsOk
+  unfolding soundIn
   sound-kept h =
       let s1 = both (countsOk r) _ (sound-rule r m ∙ h) in
       let s2 = both (bodiesOk (m .bodies) (m .columns) (r .first .0) (r .held)) _ (s1 .1) in
       let s3 = both (columnsOk (r .next .0) (m .bodies) (m .columns) (r .first .0) (r .held)) _ (s2 .1) in
       let s4 = both (partsOk (r .first .0) (r .next .0) (m .tracks) (r .frozen)) _ (s3 .1) in
       let s5 = both _ _ (s4 .1) in
-      let c1 = both _ _ (s1 .0) in
-      let c2 = both _ _ (c1 .1) in
-      let c3 = both _ _ (c2 .1) in
-      let c4 = both _ _ (c3 .1) in
-      let c5 = both _ _ (c4 .1) in
       record {
-        settings = c1 .0;
-        lagged = leb-true _ _ (c2 .0);
-        early = leb-true _ _ (c3 .0);
-        begun = ltb-true _ _ (c4 .0);
-        frozen = leb-true _ _ (c5 .0);
-        owned = leb-true _ _ (c5 .1);
+        counts = counted-of r (s1 .0);
         bodies = s2 .0;
         columns = s3 .0;
         parts = sym (parts-rule (r .first .0) (r .next .0) (m .tracks) (m .filters) (r .frozen)) ∙ s4 .0;
@@ -109,11 +92,11 @@ module _ (r : FixedLagRefiner) (m : Memory) where
   pub sound-ready : soundOk r m ≡ true → Ready r m
   sound-ready h =
       let k = sound-kept h in
-      let early = k .early in
-      let lagged = k .lagged in
+      let early = k .counts .early in
+      let lagged = k .counts .lagged in
       let f : r .first .0 ≤ 4294967295 = omega arith in
       record {
-        few = omega (arith, legal-tells (r .config) (k .settings) .lag);
+        few = omega (arith, k .counts .short);
         early = omega arith;
         passes = body-passes (m .bodies) (m .columns) (r .first .0) (r .held) (k .bodies);
         ordered = rises-ordered (r .first .0) (r .next .0) f 0 (tableIn (m .tracks) (m .filters) (r .frozen)) (k .parts);
@@ -122,5 +105,5 @@ module _ (r : FixedLagRefiner) (m : Memory) where
             subst (λ (j : ℕ). PartOk (entryIn (m .tracks) (m .filters) j)) (zero-add i)
             (row-of PartOk (entryIn (m .tracks) (m .filters)) 0 (r .frozen) i (rises-parts (r .first .0) (r .next .0) 0 (tableIn (m .tracks) (m .filters) (r .frozen)) (k .parts)) l);
         room = k .room;
-        owners = k .owned;
+        owners = k .counts .few;
       }

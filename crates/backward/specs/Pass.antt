@@ -9,9 +9,7 @@ use lib.IntN.{ℤ}
 use lib.Ieee.{Float, binary64, sub}
 use Rattle.scalar.specs.Scalar.{secondsOf}
 use Rattle.scalar.specs.F64.{f64}
-use Rattle.rts.specs.declared.Step.{Step}
-use Rattle.rts.specs.declared.Step.the-variants.{Smoothed, Skipped, Failed}
-use Rattle.rts.specs.Smoothing.{Estimate, Answer, estimate, back}
+use Rattle.rts.specs.Smoothing.{Estimate, Later, estimate, backFrom, backOver}
 use Rattle.refined.specs.Frame.{SmootherFrame, time, trackCount, idWord}
 
 -- ---- the state of a track
@@ -25,6 +23,7 @@ unfoldable pub lastAt : ℕ → List ℕ → ℕ → Option ℕ
 lastAt id w zero = none
 lastAt id w (suc n) = cond (eqb (idWord w n) id) (some n) (lastAt id w n)
 
+-- the state of the track that was found, if there is one
 abbrev pub stateIf : List Float → Option ℕ → Option (Estimate Float)
 stateIf x none = none
 stateIf x (some i) = some (stateAt x i)
@@ -40,6 +39,7 @@ pub record Timed : Type 0 where
   pub time : ℤ
   pub state : Estimate Float
 
+-- a frame of time t before those of the chain r: where it has no state of the id, the chain ends before it
 abbrev pub chainOn : ℤ → Option (Estimate Float) → List Timed → List Timed
 chainOn t none r = []
 chainOn t (some a) r = record { time = t; state = a } ∷ r
@@ -51,28 +51,27 @@ chain id (f ∷ fs) = chainOn (time (f .words)) (stateOf id f) (chain id fs)
 
 -- ---- running back over it
 
--- what a step leaves: "A failed Cholesky leaves the track unchanged"
-abbrev pub leftBy : Step → Estimate Float → Option (Estimate Float)
-leftBy Smoothed s = some s
-leftBy Skipped s = some s
-leftBy Failed s = none
-
-abbrev pub left : Answer Float → Option (Estimate Float)
-left r = leftBy (r .step) (r .state)
+-- the seconds from time t to time t′
+abbrev pub dtOf : ℤ → ℤ → Float
+dtOf t t′ = sub binary64 (secondsOf t′) (secondsOf t)
 
 -- from time t′ back to time t, at which the state is a; nothing where a later step has failed
 abbrev pub backOne : Float → ℤ → ℤ → Estimate Float → Option (Estimate Float) → Option (Estimate Float)
-backOne q t t′ a none = none
-backOne q t t′ a (some s) = left (back f64 q (sub binary64 (secondsOf t′) (secondsOf t)) a s)
+backOne q t t′ = backFrom f64 q (dtOf t t′)
+
+-- the states after time t, each with the seconds to it from the one before
+abbrev pub links : ℤ → List Timed → List (Later Float)
+links t [] = []
+links t (b ∷ r) = record { dt = dtOf t (b .time); state = b .state } ∷ links (b .time) r
 
 -- from the chain's last state "back to the oldest"
 unfoldable pub runBack : Float → List Timed → Option (Estimate Float)
 runBack q [] = none
-runBack q (a ∷ []) = some (a .state)
-runBack q (a ∷ b ∷ r) = backOne q (a .time) (b .time) (a .state) (runBack q (b ∷ r))
+runBack q (a ∷ r) = backOver f64 q (a .state) (links (a .time) r)
 
 -- ---- the oldest frame, smoothed
 
+-- the smoothed state in place of a track's own, where there is one: "A failed Cholesky leaves the track unchanged"
 abbrev pub replaced : Estimate Float → Option (Estimate Float) → Estimate Float
 replaced a none = a
 replaced a (some s) = s

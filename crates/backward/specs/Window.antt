@@ -14,10 +14,11 @@ use Rattle.backward.specs.declared.pass.Found.{Found}
 use Rattle.backward.specs.declared.pass.Found.the-variants.{At, Nothing}
 use Rattle.refined.specs.Frame.{SmootherFrame, frame, trackCount, associationCount, sensorCount, wordsLong, numbersLong, wellFormed}
 
--- the words and the numbers that a window has for one frame
+-- "window buffers of (lag + 1)(142 + 6C) words": those for one frame
 abbrev pub slotWide : ℕ → ℕ
 slotWide most = 142 + 6 * most
 
+-- "(lag + 1)(32 + 42C) numbers": those for one frame
 abbrev pub slotDeep : ℕ → ℕ
 slotDeep most = 32 + 42 * most
 
@@ -26,26 +27,31 @@ module _ (s : FixedLagSmoother) where
   unfoldable pub slotOf : ℕ → ℕ
   slotOf k = (s .first + k) % (s .lag + 1)
 
+  -- how many words a slot has
   abbrev pub wide : ℕ
   wide = slotWide (s .most)
 
+  -- how many numbers a slot has
   abbrev pub deep : ℕ
   deep = slotDeep (s .most)
 
-  -- its words and numbers
+  -- the words of the slot of the k-th held frame
   unfoldable pub slotWords : List ℕ → ℕ → List ℕ
   slotWords win k = take wide (drop (slotOf k * wide) win)
 
+  -- the numbers of that slot
   unfoldable pub slotNumbers : List Float → ℕ → List Float
   slotNumbers nums k = take deep (drop (slotOf k * deep) nums)
 
-  -- the k-th held frame: as many words and numbers of its slot as the counts there ask for; the rest of a slot is free
+  -- the words of the k-th held frame: as many of its slot's as the counts there ask for; the rest of a slot is free
   unfoldable pub wordsIn : List ℕ → ℕ → List ℕ
   wordsIn win k = take (wordsLong (slotWords win k)) (slotWords win k)
 
+  -- the numbers of the k-th held frame, likewise
   unfoldable pub numbersIn : List ℕ → List Float → ℕ → List Float
   numbersIn win nums k = take (numbersLong (slotWords win k)) (slotNumbers nums k)
 
+  -- the k-th held frame
   abbrev pub frameIn : List ℕ → List Float → ℕ → SmootherFrame
   frameIn win nums k = frame (wordsIn win k) (numbersIn win nums k)
 
@@ -97,12 +103,15 @@ pub record Stored (s : FixedLagSmoother) (win : List ℕ) (nums : List Float) (f
 
 -- ---- what the code makes: a track's state, where an id stands, and what the pass gave
 
+-- a track's state by value, as the estimate that it is
 abbrev pub estimateOf : TrackState → Estimate Float
 estimateOf t = estimate (t .x) (t .p)
 
+-- the state that running back gave; nothing where a Cholesky failed
 abbrev pub passedOf : Passed → Option (Estimate Float)
 passedOf r = cond (r .ok) (some (estimateOf (r .state))) none
 
+-- where an id stands among the tracks of a frame; nothing where it does not
 abbrev pub foundOf : Found → Option ℕ
 foundOf (At i) = some i
 foundOf Nothing = none

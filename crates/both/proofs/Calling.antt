@@ -3,15 +3,19 @@ use Prim.Native.Nat.{ℕ, zero, suc, _+_, _≤_}
 use native.Mathlib.Nat.{add-zero, zero-add, suc-add, add-suc}
 use native.Mathlib.Omega.{arith}
 use mathlib.Core.Path.{_≡_, refl, sym, ap, _∙_, subst}
-use mathlib.Core.Bool.{Bool, true, false, true≢false}
+use mathlib.Core.Bool.{Bool, true, false, cond, true≢false}
 use mathlib.Core.List.{List, [], _∷_, _++_, foldl-append, append-nil, append-assoc, append-cancel-left, head-eq-of-cons-eq, nil≢cons}
 use lib.ListN.{length, length-append}
 use lib.Dec.{ltb}
 use lib.Ieee.{Float}
-use borrow.Author.Tests.{ltb-true, ltb-false}
+use borrow.Author.Tests.{ltb-true, ltb-false, le-leb}
+use Rattle.scalar.specs.Scalar.{finite}
+use Rattle.engine.proofs.Every.{both}
 use Rattle.refined.specs.Frame.{SmootherFrame, wellFormed}
 use Rattle.backward.specs.Pass.{emitted}
-use Rattle.smoother.specs.Smoother.{State, new, holding, held, Lent, Answer, refused, waits, gives, laterRefusal, settle, settleBy, release, pushFormed, pushBy, push, takesBy, takes}
+use Rattle.smoother.specs.Smoother.{State, new, holding, held, Lent, Answer, refused, waits, gives, bounded, windowFits, ruleOk, outFits, laterRefusal, settle, settleBy, release, pushFormed, pushBy, push, takesBy, takes}
+use Rattle.backward.specs.Window.{allFormed}
+use Rattle.backward.proofs.Forms.{formed-more}
 use Rattle.model.proofs.All.{mem-All, foldl-keeps}
 use Rattle.both.specs.Smoothed.{Call, pushed, taken, Smoothing, acceptedBy, givenBy, answer, step, begin, smoothing}
 
@@ -30,15 +34,15 @@ module _ (lag : ℕ) (q : Float) where
   more (pushed b f) = f ∷ []
   more (taken b) = []
 
-  -- it is refused; or there are the frames fs ++ ms, and they are held, or the oldest of them leaves
+  -- it is refused; or what it hands over is well formed, there are the frames fs ++ ms, and they are held, or the oldest of them leaves
   data Does (fs acc gs ms : List SmootherFrame) (r : Smoothing) : Type 0 where
     refuses : r ≡ after fs acc gs → Does fs acc gs ms r
-    holds : length (fs ++ ms) ≤ lag → r ≡ after (fs ++ ms) (acc ++ ms) gs → Does fs acc gs ms r
-    leaves : (f : SmootherFrame) (hs : List SmootherFrame) → fs ++ ms ≡ f ∷ hs → r ≡ after hs (acc ++ ms) (gs ++ (emitted lag q (f ∷ hs) f ∷ [])) → Does fs acc gs ms r
+    holds : allFormed 128 ms ≡ true → length (fs ++ ms) ≤ lag → r ≡ after (fs ++ ms) (acc ++ ms) gs → Does fs acc gs ms r
+    leaves : allFormed 128 ms ≡ true → (f : SmootherFrame) (hs : List SmootherFrame) → fs ++ ms ≡ f ∷ hs → r ≡ after hs (acc ++ ms) (gs ++ (emitted lag q (f ∷ hs) f ∷ [])) → Does fs acc gs ms r
 
   module _ (fs acc gs : List SmootherFrame) where
     push-does : (b : Lent) (f : SmootherFrame) → Does fs acc gs (f ∷ []) (step (after fs acc gs) (pushed b f))
-    unfolding step push settle release
+    unfolding step push settle release allFormed
     push-does b f = asks (laterRefusal (keeping fs) b)
       where
         us : List SmootherFrame
@@ -50,21 +54,21 @@ module _ (lag : ℕ) (q : Float) where
         no : (n : ℕ) → Does fs acc gs (f ∷ []) (R (refused n, keeping fs))
         no n = refuses (λ i. record { state = keeping fs; accepted = append-nil acc i; given = append-nil gs i })
 
-        settles : (t : Bool) → ltb lag (length us) ≡ t → (l : List SmootherFrame) → us ≡ l → Does fs acc gs (f ∷ []) (R (settleBy t (keeping us)))
-        settles false e l p = holds (ltb-false lag (length us) e) (λ i. record { state = keeping us; accepted = acc ++ (f ∷ []); given = append-nil gs i })
-        settles true e [] p = absurd (let z = ltb-true lag (length us) e in omega (arith, ap length p))
-        settles true e (h ∷ hs) p = leaves h hs p (ap (λ l. R (release (keeping us) l)) p)
+        settles : allFormed 128 (f ∷ []) ≡ true → (t : Bool) → ltb lag (length us) ≡ t → (l : List SmootherFrame) → us ≡ l → Does fs acc gs (f ∷ []) (R (settleBy t (keeping us)))
+        settles w false e l p = holds w (ltb-false lag (length us) e) (λ i. record { state = keeping us; accepted = acc ++ (f ∷ []); given = append-nil gs i })
+        settles w true e [] p = absurd (let z = ltb-true lag (length us) e in omega (arith, ap length p))
+        settles w true e (h ∷ hs) p = leaves w h hs p (ap (λ l. R (release (keeping us) l)) p)
 
-        formed : (t : Bool) → Does fs acc gs (f ∷ []) (R (pushFormed t (keeping fs) f))
-        formed true = settles (ltb lag (length us)) refl us refl
-        formed false = no 5
+        formed : (t : Bool) → wellFormed 128 f ≡ t → Does fs acc gs (f ∷ []) (R (pushFormed t (keeping fs) f))
+        formed true w = settles (formed-more 128 [] f refl w) (ltb lag (length us)) refl us refl
+        formed false w = no 5
 
         asks : (n : ℕ) → Does fs acc gs (f ∷ []) (R (pushBy n (keeping fs) f))
-        asks zero = formed (wellFormed 128 f)
+        asks zero = formed (wellFormed 128 f) refl
         asks (suc n) = no (suc n)
 
     take-does : (b : Lent) → Does fs acc gs [] (step (after fs acc gs) (taken b))
-    unfolding step takes release
+    unfolding step takes release allFormed
     take-does b = asks (laterRefusal (keeping fs) b)
       where
         R : Answer × State → Smoothing
@@ -76,7 +80,7 @@ module _ (lag : ℕ) (q : Float) where
         releases : (l : List SmootherFrame) → fs ≡ l → Does fs acc gs [] (R (release (keeping fs) l))
         releases [] p = no 13
         releases (h ∷ hs) p =
-            leaves h hs (append-nil fs ∙ p) (λ i. record { state = keeping hs; accepted = sym (append-nil acc) i; given = gs ++ (emitted lag q (h ∷ hs) h ∷ []) })
+            leaves refl h hs (append-nil fs ∙ p) (λ i. record { state = keeping hs; accepted = sym (append-nil acc) i; given = gs ++ (emitted lag q (h ∷ hs) h ∷ []) })
 
         asks : (n : ℕ) → Does fs acc gs [] (R (takesBy n (keeping fs)))
         asks zero = releases fs refl
@@ -143,6 +147,7 @@ module _ (lag : ℕ) (q : Float) where
   -- the frames fs are held, acc were accepted and gs put out
   pub record Kept (fs acc gs : List SmootherFrame) : Type 0 where
     pub lagged : length fs ≤ lag
+    pub formed : allFormed 128 fs ≡ true
     pub front : List SmootherFrame
     pub line : acc ≡ front ++ fs
     pub number : length front ≡ length gs
@@ -163,22 +168,29 @@ module _ (lag : ℕ) (q : Float) where
           form = refl;
         }
 
-    kept-holds : length (fs ++ ms) ≤ lag → Kept (fs ++ ms) (acc ++ ms) gs
-    kept-holds h =
+    all-formed : (l : List SmootherFrame) → allFormed 128 l ≡ true → allFormed 128 ms ≡ true → allFormed 128 (l ++ ms) ≡ true
+    unfolding allFormed
+    all-formed [] h w = w
+    all-formed (f ∷ l) h w = let a = both (wellFormed 128 f) (allFormed 128 l) h in rw (a .0) (all-formed l (a .1) w)
+
+    kept-holds : allFormed 128 ms ≡ true → length (fs ++ ms) ≤ lag → Kept (fs ++ ms) (acc ++ ms) gs
+    kept-holds w h =
         record {
           lagged = h;
+          formed = all-formed fs (i .formed) w;
           front = i .front;
           line = ap (λ l. l ++ ms) (i .line) ∙ append-assoc (i .front) fs ms;
           number = i .number;
           blocks = blocks-more acc ms 0 gs (i .blocks);
         }
 
-    kept-leaves : (f : SmootherFrame) (hs : List SmootherFrame) → fs ++ ms ≡ f ∷ hs → Kept hs (acc ++ ms) (gs ++ (emitted lag q (f ∷ hs) f ∷ []))
-    unfolding left
-    kept-leaves f hs p =
+    kept-leaves : allFormed 128 ms ≡ true → (f : SmootherFrame) (hs : List SmootherFrame) → fs ++ ms ≡ f ∷ hs → Kept hs (acc ++ ms) (gs ++ (emitted lag q (f ∷ hs) f ∷ []))
+    unfolding left allFormed
+    kept-leaves w f hs p =
         let o = emitted lag q (f ∷ hs) f in
         record {
           lagged = left f hs p .few;
+          formed = both (wellFormed 128 f) (allFormed 128 hs) (subst (λ l. allFormed 128 l ≡ true) p (all-formed fs (i .formed) w)) .1;
           front = i .front ++ (f ∷ []);
           line =
               ap (λ l. l ++ ms) (i .line) ∙ append-assoc (i .front) fs ms ∙ ap (λ l. i .front ++ l) p ∙ sym (append-assoc (i .front) (f ∷ []) hs);
@@ -196,8 +208,8 @@ module _ (lag : ℕ) (q : Float) where
 
   ran-does : (fs acc gs ms : List SmootherFrame) (r : Smoothing) → length ms ≤ 1 → Kept fs acc gs → Does fs acc gs ms r → Ran r
   ran-does fs acc gs ms r s i (refuses e) = subst Ran (sym e) (record { same = refl; kept = i })
-  ran-does fs acc gs ms r s i (holds h e) = subst Ran (sym e) (record { same = refl; kept = kept-holds fs acc gs ms s i h })
-  ran-does fs acc gs ms r s i (leaves f hs p e) = subst Ran (sym e) (record { same = refl; kept = kept-leaves fs acc gs ms s i f hs p })
+  ran-does fs acc gs ms r s i (holds w h e) = subst Ran (sym e) (record { same = refl; kept = kept-holds fs acc gs ms s i w h })
+  ran-does fs acc gs ms r s i (leaves w f hs p e) = subst Ran (sym e) (record { same = refl; kept = kept-leaves fs acc gs ms s i w f hs p })
 
   is-after : (r : Smoothing) → Ran r → r ≡ after (r .state .frames) (r .accepted) (r .given)
   is-after r i = λ j. record { state = i .same j; accepted = r .accepted; given = r .given }
@@ -211,11 +223,22 @@ module _ (lag : ℕ) (q : Float) where
   ran-step r k i = ran-does (r .state .frames) (r .accepted) (r .given) (more k) (step r k) (short k) (i .kept) (calls-does r i k)
 
   pub ran : (calls : List Call) → Ran (smoothing lag q calls)
-  unfolding smoothing
+  unfolding smoothing allFormed
   ran calls =
       foldl-keeps Ran (λ k. Unit {0}) step (λ r k i u. ran-step r k i) (begin lag q) calls
-      (record { same = refl; kept = record { lagged = omega arith; front = []; line = refl; number = refl; blocks = tt } })
+      (record { same = refl; kept = record { lagged = omega arith; formed = refl; front = []; line = refl; number = refl; blocks = tt } })
       (mem-All (λ k. Unit {0}) calls (λ k m. tt))
+
+  -- ---- what is not refused
+
+  module _ (calls : List Call) (short : lag ≤ 16) (dense : finite q ≡ true) (b : Lent) (fit : windowFits lag 128 (b .windowWords) (b .windowNumbers) ≡ true) where
+    later-at : laterRefusal (keeping (smoothing lag q calls .state .frames)) b ≡ cond (outFits b) 0 4
+    unfolding laterRefusal bounded ruleOk
+    later-at = let i = ran calls .kept in rw (le-leb lag 16 short, fit, dense, le-leb (length (smoothing lag q calls .state .frames)) lag (i .lagged), i .formed)
+
+    -- none of 2 and 3 refuses a call
+    pub later : laterRefusal (smoothing lag q calls .state) b ≡ cond (outFits b) 0 4
+    later = ap (λ s. laterRefusal s b) (ran calls .same) ∙ later-at
 
   -- ---- what a run tells
 
@@ -239,10 +262,10 @@ module _ (lag : ℕ) (q : Float) where
       (fs acc gs ms : List SmootherFrame) (r : Smoothing) → length ms ≤ 1 → Kept fs acc gs → Does fs acc gs ms r →
       (o : SmootherFrame) → r .given ≡ gs ++ (o ∷ []) → Block (r .accepted) [] (length gs) o
   gave fs acc gs ms r s i (refuses e) o h = absurd (none-more gs o (ap (λ r. r .given) (sym e) ∙ h))
-  gave fs acc gs ms r s i (holds l e) o h = absurd (none-more gs o (ap (λ r. r .given) (sym e) ∙ h))
-  gave fs acc gs ms r s i (leaves f hs p e) o h =
-      let w = emitted lag q (f ∷ hs) f in
-      let d : w ≡ o = head-eq-of-cons-eq (append-cancel-left gs (w ∷ []) (o ∷ []) (ap (λ r. r .given) (sym e) ∙ h)) in
+  gave fs acc gs ms r s i (holds w l e) o h = absurd (none-more gs o (ap (λ r. r .given) (sym e) ∙ h))
+  gave fs acc gs ms r s i (leaves w f hs p e) o h =
+      let g = emitted lag q (f ∷ hs) f in
+      let d : g ≡ o = head-eq-of-cons-eq (append-cancel-left gs (g ∷ []) (o ∷ []) (ap (λ r. r .given) (sym e) ∙ h)) in
       subst (λ l. Block l [] (length gs) o) (ap (λ r. r .accepted) (sym e)) (subst (Block (acc ++ ms) [] (length gs)) d (left fs acc gs ms s i f hs p))
 
   pub last-left :

@@ -4,4 +4,5 @@ pub mod Fresh
 pub mod Formed
 pub mod Bodies
 pub mod Theorem
+pub mod CalledLaw
 pub mod Examples

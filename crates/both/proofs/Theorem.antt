@@ -2,11 +2,10 @@
 use Prim.Native.Nat.{ℕ, _+_, _≤_}
 use native.Mathlib.Omega.{arith}
 use mathlib.Core.Path.{_≡_, refl, sym, ap, _∙_, subst}
-use mathlib.Core.Bool.{true}
+use mathlib.Core.Bool.{true, cond}
 use mathlib.Core.List.{List, [], _∷_, _++_, map, append-assoc, nil≢cons, head-eq-of-cons-eq, tail-eq-of-cons-eq}
 use lib.ListN.{length, length-append, length-map}
 use lib.Ieee.{Float}
-use borrow.Author.Tests.{le-leb}
 use Rattle.scalar.specs.Scalar.{finite}
 use Rattle.engine.specs.declared.config.FgoConfig.{FgoConfig}
 use Rattle.model.specs.Emitting.{Emitted}
@@ -15,24 +14,23 @@ use Rattle.model.specs.History.{Op, Sent, run}
 use Rattle.model.proofs.HistoryLaw.{history}
 use Rattle.refined.specs.Frame.{SmootherFrame, wellFormed}
 use Rattle.backward.specs.Pass.{emitted}
-use Rattle.smoother.specs.Smoother.{Lent, bounded, ruleOk, laterRefusal}
-use Rattle.backward.specs.Window.{allFormed}
+use Rattle.smoother.specs.Smoother.{Lent, laterRefusal}
 use Rattle.smoother.proofs.Calls.{push-formed, take-passed}
 use Rattle.both.specs.Smoothed.{handed, Call, Smoothing, step, smoothing, Fitting, Smoothed, Both, Passes}
-use Rattle.both.proofs.Calling.{keeping, Block, ran, every-left, one-more, last-left, step-stays}
+use Rattle.both.proofs.Calling.{Block, ran, later, every-left, one-more, last-left, step-stays}
 use Rattle.both.proofs.Fresh.{Known, emitted-fresh}
 use Rattle.both.proofs.Formed.{well}
 use Rattle.both.proofs.Bodies.{fine}
 
 -- a list whose image is in two parts is in two parts
-record Parts {A B : Type 0} (g : A → B) (l : List A) (front rest : List B) : Type 0 where
-  before : List A
-  after : List A
-  whole : l ≡ before ++ after
-  left : map g before ≡ front
-  right : map g after ≡ rest
+pub record Parts {A B : Type 0} (g : A → B) (l : List A) (front rest : List B) : Type 0 where
+  pub before : List A
+  pub after : List A
+  pub whole : l ≡ before ++ after
+  pub left : map g before ≡ front
+  pub right : map g after ≡ rest
 
-parts : {A B : Type 0} (g : A → B) (l : List A) (front rest : List B) → map g l ≡ front ++ rest → Parts g l front rest
+pub parts : {A B : Type 0} (g : A → B) (l : List A) (front rest : List B) → map g l ≡ front ++ rest → Parts g l front rest
 parts g l [] rest e = record { before = []; after = l; whole = refl; left = refl; right = e }
 parts g [] (b ∷ front) rest e = absurd (nil≢cons e)
 parts g (a ∷ l) (b ∷ front) rest e =
@@ -126,26 +124,9 @@ module _ (c : FgoConfig) (ops : List Op) (sent : All Sent ops) where
 
     -- ---- what is not refused
 
-    formed-all : (past es : List Emitted) → first ≡ past ++ es → allFormed 128 (map handed es) ≡ true
-    unfolding allFormed
-    formed-all past [] p = refl
-    formed-all past (e ∷ es) p =
-        let w = well e (fine c ops sent past e (es ++ rest) (within past e es p)) in
-        rw w (formed-all (past ++ (e ∷ [])) es (p ∙ sym (append-assoc past (e ∷ []) es)))
-
-    frames-formed : allFormed 128 (r .state .frames) ≡ true
-    frames-formed =
-        let i = ran lag q calls .kept in
-        let p = parts handed first (i .front) (r .state .frames) (sym a ∙ i .line) in
-        subst (λ l. allFormed 128 l ≡ true) (p .right) (formed-all (p .before) (p .after) (p .whole))
-
     module _ (short : lag ≤ 16) (dense : finite q ≡ true) (b : Lent) (fit : Fitting lag b) where
-      ready-at : laterRefusal (keeping lag q (r .state .frames)) b ≡ 0
-      unfolding laterRefusal bounded ruleOk
-      ready-at = rw (le-leb lag 16 short, fit .0, dense, le-leb (length (r .state .frames)) lag (ran lag q calls .kept .lagged), frames-formed, fit .1)
-
       ready : laterRefusal (r .state) b ≡ 0
-      ready = ap (λ s. laterRefusal s b) (ran lag q calls .same) ∙ ready-at
+      ready = later lag q calls short dense b (fit .0) ∙ ap (λ x. cond x 0 4) (fit .1)
 
       formed-here : (e : Emitted) → wellFormed 128 (handed e) ≡ true → wellFormed (r .state .most) (handed e) ≡ true
       formed-here e w = ap (λ s. wellFormed (s .most) (handed e)) (ran lag q calls .same) ∙ w

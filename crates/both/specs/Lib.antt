@@ -1,1 +1,2 @@
 pub mod Smoothed
+pub mod Called

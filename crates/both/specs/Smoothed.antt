@@ -36,11 +36,13 @@ pub record Smoothing : Type 0 where
   pub accepted : List SmootherFrame
   pub given : List SmootherFrame
 
+-- the frame f, where the answer is no refusal
 abbrev pub acceptedBy : SmootherFrame → Answer → List SmootherFrame
 acceptedBy f (refused n) = []
 acceptedBy f waits = f ∷ []
 acceptedBy f (gives o) = f ∷ []
 
+-- the frame that an answer gives
 abbrev pub givenBy : Answer → List SmootherFrame
 givenBy (refused n) = []
 givenBy waits = []
@@ -51,6 +53,7 @@ abbrev pub answer : State → Call → Answer × State
 answer s (pushed b f) = push s b f
 answer s (taken b) = takes s b
 
+-- one call more
 unfoldable pub step : Smoothing → Call → Smoothing
 step r (pushed b f) =
     let a = answer (r .state) (pushed b f) in
@@ -63,6 +66,7 @@ step r (taken b) =
 abbrev pub begin : ℕ → Float → Smoothing
 begin lag q = record { state = new lag q 128; accepted = []; given = [] }
 
+-- calls from a new smoother on, in order
 unfoldable pub smoothing : ℕ → Float → List Call → Smoothing
 smoothing lag q calls = foldl step (begin lag q) calls
 
@@ -76,6 +80,7 @@ Fitting lag b = (windowFits lag 128 (b .windowWords) (b .windowNumbers) ≡ true
 abbrev pub estimateOf : Listed → Estimate Float
 estimateOf l = estimate (take 6 (trackNumbers l)) (drop 6 (trackNumbers l))
 
+-- those of a listed track, if there is one
 abbrev pub estimateIf : Option Listed → Option (Estimate Float)
 estimateIf none = none
 estimateIf (some l) = some (estimateOf l)

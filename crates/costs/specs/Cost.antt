@@ -20,7 +20,7 @@ use Rattle.costs.specs.declared.cost.Stage.{Stage}
 use Rattle.costs.specs.declared.cost.Stage.the-variants as stage
 use Rattle.scalar.specs.F64.{f64}
 use Rattle.kf.specs.Plain.{logTerm}
-use Rattle.kf.specs.Filter.{started, predicted, updated}
+use Rattle.kf.specs.Filter.{started, predicted, updated, kfIn}
 
 -- a detection of a window: the number of its scan, that scan's time in seconds, where it lies, and the variance of its position
 pub record Det : Type 0 where
@@ -101,22 +101,15 @@ dets v k (suc j ∷ r) = detAt v k j ∷ dets v (suc k) r
 
 -- ---- a fold that is lent: the numbers of its filter, the NLLs so far, and beside them its stage
 
+-- the filter of a fold that is lent
 abbrev pub filterIn : List Float → Kf
-filterIn ns =
-    record {
-      x = getD ns 0 nan;
-      y = getD ns 1 nan;
-      vx = getD ns 2 nan;
-      vy = getD ns 3 nan;
-      p00 = getD ns 4 nan;
-      p01 = getD ns 5 nan;
-      p11 = getD ns 6 nan;
-      t = getD ns 7 nan;
-    }
+filterIn ns = kfIn ns 0
 
+-- a run: its filter and, as the ninth number, its total; its last scan and its misses are the course's
 abbrev pub runIn : Course → List Float → Run
 runIn c ns = record { kf = filterIn ns; total = getD ns 8 nan; last = c .last; misses = c .misses }
 
+-- the fold that stands at a stage, with the numbers that are lent
 abbrev pub foldIn : Stage → List Float → Fold
 foldIn stage.Fresh ns = Fresh
 foldIn (stage.Frozen last) ns = Frozen (filterIn ns) last

@@ -14,8 +14,7 @@ use Rattle.memory.specs.Memory.{bodyAt, idAt, scanIn, tableIn}
 use Rattle.emitting.specs.Writing.{idsIn, associationsIn, costsIn, headIn, PutTracks, frameIn, PutFrame}
 use Rattle.engine.proofs.Passing.{length-rows}
 use Rattle.memory.proofs.Counts.{sensors-long, associations-long}
-use Rattle.emitting.proofs.Associations.{costs-long}
-use Rattle.emitting.proofs.Associations.{associations-size}
+use Rattle.emitting.proofs.Associations.{costs-long, associations-size}
 use Rattle.emitting.proofs.Listing.{words-size, numbers-size}
 use Rattle.memory.proofs.Writes.{Written, written-more, over-first}
 use Rattle.buffers.proofs.Over.{length-over}

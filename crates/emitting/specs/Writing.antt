@@ -64,10 +64,11 @@ pub record PutTracks (ls : List Listed) (n : ℕ) (ws : List ℕ) (ns : List Flo
 abbrev pub idsIn : List ℕ → ℕ → List ℕ → List ℕ
 idsIn columns n s = rows (idAt columns n) 0 (associationCount narrow s)
 
--- the words of the associations of a body that says scan n, and their costs
+-- the words of the associations of a body that says scan n
 abbrev pub associationsIn : List ℕ → ℕ → List ℕ → List ℕ
 associationsIn columns n s = associationsWords (frameOf narrow s .associations) (idsIn columns n s)
 
+-- "one cost per association": those of a body
 abbrev pub costsIn : List ℕ → List Float
 costsIn s = map (λ a. costNumber (a .cost)) (frameOf narrow s .associations)
 
@@ -91,7 +92,7 @@ pub record PutsFrame (bodies columns : List ℕ) (n : ℕ) (tracks : List ℕ) (
   pub parts : PartsOk (scanIn bodies columns n .frame .time) tracks filters frozen
   pub room : Roomy ws ns
 
--- "or the emitted frame written at the start of the lent buffers, the rest of them as they were"
+-- after the emitted frame was written at the start of the lent buffers: "The rest stays"
 pub record PutFrame (e : Emitted) (z : Size) (ws : List ℕ) (ns : List Float) (ws′ : List ℕ) (ns′ : List Float) : Type 0 where
   pub words-count : z .words ≡ length (wordsOf e)
   pub numbers-count : z .numbers ≡ length (numbersOf e)

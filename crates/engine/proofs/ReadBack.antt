@@ -29,9 +29,9 @@ use Rattle.engine.specs.declared.types.EngineTrack.{EngineTrack}
 use Rattle.engine.specs.declared.types.Observation.{Observation}
 use Rattle.engine.specs.declared.types.Association.{Association}
 use Rattle.engine.specs.Little.{little}
-use Rattle.engine.specs.Frame.{Frame, modeNumber, modeOf, outcomeNumber, outcomeOf, associatedOf, classOf, costOf, noTrack, noObservation, noAssociation}
+use Rattle.engine.specs.Frame.{Frame, modeNumber, modeOf, outcomeNumber, outcomeOf, associatedOf, classOf, costOf, engineOf, noTrack, noObservation, noAssociation}
 use Rattle.engine.specs.Body.{Layout, narrow, all, codeOk, presentOk, timeOk, trackOk, associationOk, observationOk, indexAt, indexOk, trackCount, sensorCount, observationCount, associationCount, sensorsFrom, observationsFrom, associationsFrom, size, headOk, tracksOk, associationsOk, observationsOk, indicesOk, refusal, rows, trackAt, observationAt, associationAt, frameOf, read, decode}
-use Rattle.engine.specs.Encode.{laid, classPresent, classValue, idPresent, idValue, costPresent, costValue, trackFields, sensorFields, observationFields, associationFields, trackBytes, sensorBytes, observationBytes, associationBytes, rowBytes, headFields, encode, Held, HeldCost, TrackOk, ObservationOk, AssociationOk, FrameOk, ReadBack, OneFrame}
+use Rattle.engine.specs.Encode.{laid, classPresent, classValue, idPresent, costPresent, costValue, trackFields, sensorFields, observationFields, associationFields, trackBytes, sensorBytes, observationBytes, associationBytes, rowBytes, headFields, encode, Held, HeldCost, TrackOk, ObservationOk, AssociationOk, FrameOk, ReadBack, OneFrame}
 use Rattle.engine.proofs.Bytes.{little-one}
 use Rattle.engine.proofs.Every.{all-true}
 use Rattle.engine.proofs.Laid.{Stands, stands-left, stands-right, Fit, Reads, length-laid, read-fields, length-flat, stands-row, stands-after, rows-back}
@@ -67,11 +67,11 @@ unfolding presentOk
 class-present Unknown = (lit< tt, refl)
 class-present (Known v) = (lit< tt, refl)
 
-id-back : (a : Associated) → associatedOf (idPresent a) (idValue a) ≡ a
+id-back : (a : Associated) → associatedOf (idPresent a) (engineOf a) ≡ a
 id-back Nobody = refl
 id-back (Track x) = refl
 
-id-present : (a : Associated) → (idPresent a < 256) × (presentOk (idPresent a) (idValue a) ≡ true)
+id-present : (a : Associated) → (idPresent a < 256) × (presentOk (idPresent a) (engineOf a) ≡ true)
 unfolding presentOk
 id-present Nobody = (lit< tt, refl)
 id-present (Track x) = (lit< tt, refl)

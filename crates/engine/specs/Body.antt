@@ -4,14 +4,14 @@ use mathlib.Core.List.{List, [], _∷_}
 use mathlib.Core.Bool.{Bool, true, cond, _&&_, not}
 use lib.ListN.{length, getD}
 use lib.Dec.{leb, ltb, eqb}
-use lib.IntN.{ℤ, natAbs}
+use lib.IntN.{ℤ, pos, natAbs}
 use lib.Ieee.{binary64, ofBits}
 use Rattle.scalar.specs.Scalar.{finite, signed}
 use Rattle.engine.specs.declared.types.EngineTrack.{EngineTrack}
 use Rattle.engine.specs.declared.types.Observation.{Observation}
 use Rattle.engine.specs.declared.types.Association.{Association}
 use Rattle.engine.specs.Little.{little}
-use Rattle.engine.specs.Frame.{Frame, modeOf, outcomeOf, associatedOf, classOf, costOf}
+use Rattle.engine.specs.Frame.{Frame, modeOf, outcomeOf, associatedOf, classOf, costOf, noTrack, noObservation, noAssociation}
 
 -- ---- where things stand: what a kind of body is, apart from the meaning of its rows
 
@@ -192,6 +192,33 @@ frameOf k s =
       observations = rows (λ i. observationAt s (observationsFrom k s + 24 * i)) 0 (observationCount k s);
       associations = rows (λ j. associationAt (k .width) s (associationsFrom k s + 24 * j)) 0 (associationCount k s);
     }
+
+-- ---- what the readers answer on any bytes: the field where its bytes are all there, and else a value that stands for none
+
+-- row i of n rows of w bytes each from place o on: none past the last row, and where the bytes end before the row does
+unfoldable pub rowRead : {A : Type 0} → A → (ℕ → A) → List ℕ → ℕ → ℕ → ℕ → ℕ → A
+rowRead none at s w n o i = cond (leb n i) none (cond (ltb (length s) (o + w * i + w)) none (at (o + w * i)))
+
+module _ (k : Layout) (s : List ℕ) where
+  -- the time, 0 where the header is not all there
+  abbrev pub timeRead : ℤ
+  timeRead = cond (ltb (length s) (k .head)) (pos 0) (time k s)
+
+  -- sensor i, 0 for none
+  abbrev pub sensorRead : ℕ → ℕ
+  sensorRead i = rowRead 0 (little 4 s) s 4 (sensorCount k s) (sensorsFrom k s) i
+
+  -- engine track i
+  abbrev pub trackRead : ℕ → EngineTrack
+  trackRead i = rowRead noTrack (trackAt s) s 16 (trackCount k s) (k .head) i
+
+  -- observation i
+  abbrev pub observationRead : ℕ → Observation
+  observationRead i = rowRead noObservation (observationAt s) s 24 (observationCount k s) (observationsFrom k s) i
+
+  -- association j
+  abbrev pub associationRead : ℕ → Association
+  associationRead j = rowRead noAssociation (associationAt (k .width) s) s 24 (associationCount k s) (associationsFrom k s) j
 
 -- what a push makes of a body: a frame, or 5, 6 or 7
 pub data Decoded : Type 0 where

@@ -16,7 +16,7 @@ use Rattle.engine.specs.declared.types.Cost.the-variants.{Absent, Paid}
 use Rattle.engine.specs.declared.types.EngineTrack.{EngineTrack}
 use Rattle.engine.specs.declared.types.Observation.{Observation}
 use Rattle.engine.specs.declared.types.Association.{Association}
-use Rattle.engine.specs.Frame.{Frame, modeNumber, outcomeNumber, noTrack, noObservation, noAssociation}
+use Rattle.engine.specs.Frame.{Frame, modeNumber, outcomeNumber, engineOf, noTrack, noObservation, noAssociation}
 use Rattle.engine.specs.Body.{Layout, narrow, timeOk, read, decode}
 
 -- ---- bytes
@@ -49,11 +49,6 @@ abbrev pub idPresent : Associated → ℕ
 idPresent Nobody = 0
 idPresent (Track x) = 1
 
--- "u64 id"
-abbrev pub idValue : Associated → ℕ
-idValue Nobody = 0
-idValue (Track x) = x .0
-
 -- "cost present"
 abbrev pub costPresent : Cost → ℕ
 costPresent Absent = 0
@@ -84,7 +79,7 @@ associationFields w a =
     ∷ (1, outcomeNumber (a .outcome))
     ∷ (1, costPresent (a .cost))
     ∷ (5 - w, 0)
-    ∷ (8, idValue (a .track))
+    ∷ (8, engineOf (a .track))
     ∷ (8, costValue (a .cost))
     ∷ []
 
@@ -108,7 +103,7 @@ associationBytes w f = flatMap (λ a. laid (associationFields w a)) (f .associat
 abbrev pub rowBytes : ℕ → Frame → List ℕ
 rowBytes w f = trackBytes f ++ (sensorBytes f ++ (observationBytes f ++ associationBytes w f))
 
--- "bytes mode, engine tracks, observations, associations, sensors, three zeros; i64 time"
+-- the header: "mode", the numbers of "engine tracks, observations, associations" and "sensors", "three zeros; i64 time"
 abbrev pub headFields : Frame → List (ℕ × ℕ)
 headFields f =
     (1, modeNumber (f .mode))
@@ -149,7 +144,7 @@ pub record ObservationOk (p : Observation) : Type 0 where
 -- of an association in a frame with n observations
 pub record AssociationOk (n : ℕ) (a : Association) : Type 0 where
   pub index : a .index .0 < n
-  pub id : idValue (a .track) < 2 ^ 64
+  pub id : engineOf (a .track) < 2 ^ 64
   pub cost : HeldCost (a .cost)
 
 -- a frame that a body of the layout can say

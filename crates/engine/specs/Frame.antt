@@ -1,4 +1,4 @@
--- Document 01, "types.rs, engine.rs: records": what a frame says. Definitions only.
+-- Document 01, "types.rs (502 lines), engine.rs (931): records": what a frame says. Definitions only.
 use Prim.Native.Nat.{ℕ, zero, suc}
 use mathlib.Core.List.{List}
 use lib.IntN.{ℤ}
@@ -65,6 +65,11 @@ classOf (suc n) v = Known v
 abbrev pub costOf : ℕ → Float → Cost
 costOf zero v = Absent
 costOf (suc n) v = Paid v
+
+-- the engine id of an association, 0 where it has none
+abbrev pub engineOf : Associated → ℕ
+engineOf Nobody = 0
+engineOf (Track e) = e .0
 
 -- what an accessor answers past the last row
 abbrev pub noTrack : EngineTrack

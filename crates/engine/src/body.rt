@@ -1,4 +1,4 @@
-// A frame's body: its header, and the fields of a body that passes.
+// A frame's body: its header and its fields.
 use crate::little;
 use crate::types::Associated;
 use crate::types::Association;
@@ -14,7 +14,7 @@ ghost use mathlib.Core.Path.{_≡_};
 ghost use Prim.Native.Nat.{_+_, _≤_};
 ghost use lib.ListN.{length, getD};
 ghost use Rattle.engine.specs.Frame.{modeOf, outcomeOf, associatedOf, classOf, costOf, noTrack, noObservation, noAssociation};
-ghost use Rattle.engine.specs.Body.{narrow, trackCount, sensorCount, observationCount, associationCount, sensorsFrom, observationsFrom, associationsFrom, refusal, frameOf, trackAt, observationAt, associationAt};
+ghost use Rattle.engine.specs.Body.{narrow, trackCount, sensorCount, observationCount, associationCount, sensorsFrom, observationsFrom, associationsFrom, refusal, frameOf, trackAt, observationAt, associationAt, timeRead, sensorRead, trackRead, observationRead, associationRead};
 
 // ---- the header
 
@@ -67,7 +67,8 @@ pub fn associations_from(s: &[u8]) -> usize
     observations_from(s) + 24 * observation_count(s)
 }
 
-// ---- the fields of a body that passes; on any other each answers something
+// ---- the fields: each reader answers, on any bytes, the field where its bytes are all there, and else 0 or the value for none; for a body that passes this
+// is what the frame says
 
 fn mode_of(b: u8) -> TrackingMode
     ensures { λ r. ⌜ r ≡ modeOf b ⌝ }
@@ -89,7 +90,7 @@ pub fn mode(s: &[u8]) -> TrackingMode
 }
 
 pub fn time_of(s: &[u8]) -> i64
-    ensures { λ r. ⌜ (refusal narrow (now (s .entry)) ≡ 0 → r ≡ frameOf narrow (now (s .entry)) .time) ⌝ }
+    ensures { λ r. ⌜ (r ≡ timeRead narrow (now (s .entry))) × (refusal narrow (now (s .entry)) ≡ 0 → r ≡ frameOf narrow (now (s .entry)) .time) ⌝ }
 {
     if s.len() < 16 {
         return 0;
@@ -99,7 +100,7 @@ pub fn time_of(s: &[u8]) -> i64
 
 // The id of sensor i; 0 past the last.
 pub fn sensor(s: &[u8], i: usize) -> u64
-    ensures { λ r. ⌜ (refusal narrow (now (s .entry)) ≡ 0 → r ≡ getD (frameOf narrow (now (s .entry)) .sensors) i 0) ⌝ }
+    ensures { λ r. ⌜ (r ≡ sensorRead narrow (now (s .entry)) i) × (refusal narrow (now (s .entry)) ≡ 0 → r ≡ getD (frameOf narrow (now (s .entry)) .sensors) i 0) ⌝ }
 {
     if sensor_count(s) <= i {
         return 0;
@@ -141,7 +142,7 @@ fn no_track() -> EngineTrack
 
 // Engine track i.
 pub fn track(s: &[u8], i: usize) -> EngineTrack
-    ensures { λ r. ⌜ (refusal narrow (now (s .entry)) ≡ 0 → r ≡ getD (frameOf narrow (now (s .entry)) .tracks) i noTrack) ⌝ }
+    ensures { λ r. ⌜ (r ≡ trackRead narrow (now (s .entry)) i) × (refusal narrow (now (s .entry)) ≡ 0 → r ≡ getD (frameOf narrow (now (s .entry)) .tracks) i noTrack) ⌝ }
 {
     if track_count(s) <= i {
         return no_track();
@@ -176,7 +177,7 @@ fn no_observation() -> Observation
 
 // The observation at an index.
 pub fn observation(s: &[u8], index: ObservationIndex) -> Observation
-    ensures { λ r. ⌜ (refusal narrow (now (s .entry)) ≡ 0 → r ≡ getD (frameOf narrow (now (s .entry)) .observations) (index .0) noObservation) ⌝ }
+    ensures { λ r. ⌜ (r ≡ observationRead narrow (now (s .entry)) (index .0)) × (refusal narrow (now (s .entry)) ≡ 0 → r ≡ getD (frameOf narrow (now (s .entry)) .observations) (index .0) noObservation) ⌝ }
 {
     let i = index.0;
     if observation_count(s) <= i {
@@ -247,7 +248,7 @@ fn no_association() -> Association
 
 // Association j, in the frame's order.
 pub fn association(s: &[u8], j: usize) -> Association
-    ensures { λ r. ⌜ (refusal narrow (now (s .entry)) ≡ 0 → r ≡ getD (frameOf narrow (now (s .entry)) .associations) j noAssociation) ⌝ }
+    ensures { λ r. ⌜ (r ≡ associationRead narrow (now (s .entry)) j) × (refusal narrow (now (s .entry)) ≡ 0 → r ≡ getD (frameOf narrow (now (s .entry)) .associations) j noAssociation) ⌝ }
 {
     if association_count(s) <= j {
         return no_association();

@@ -13,7 +13,7 @@ fn wide(x: u8) -> u64
     x as u64
 }
 
-pub fn u8_at(s: &[u8], o: usize) -> u64
+fn u8_at(s: &[u8], o: usize) -> u64
     requires { ⌜ o + 1 ≤ length (now s) ⌝ }
     ensures { λ r. ⌜ r ≡ little 1 (now (s .entry)) o ⌝ }
 {

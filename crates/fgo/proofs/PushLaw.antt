@@ -27,7 +27,7 @@ use Rattle.refusing.proofs.Refusals.{push-refused, push-accepted}
 
 -- counts that are few
 pub refuses : (r : FixedLagRefiner) (m : Memory) → soundOk r m ≡ true → Refuses r
-refuses r m h = let z = sound-ready r m h in record { few = z .few; early = z .early; frozen = sound-kept r m h .frozen; owned = z .owners }
+refuses r m h = let z = sound-ready r m h in record { few = z .few; early = z .early; frozen = sound-kept r m h .counts .parts; owned = z .owners }
 
 module _ (r : FixedLagRefiner) (m : Memory) (s ws : List ℕ) (ns : List Float) where
   abbrev t : State

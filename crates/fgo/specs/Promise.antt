@@ -74,9 +74,11 @@ checked false b t a = (refused 3, t)
 checked true false t a = (refused 4, t)
 checked true true t a = a
 
+-- push, of the bytes s with the buffers ws and ns: the answer, and the state after it
 unfoldable pub pushAnswer : FixedLagRefiner → Memory → List ℕ → List ℕ → List Float → model.Answer × State
 pushAnswer r m s ws ns = checked (soundOk r m) (roomy ws ns) (stateOf r m) (model.push (r .config) (stateOf r m) s)
 
+-- take, with the buffers ws and ns: the answer, and the state after it
 unfoldable pub takeAnswer : FixedLagRefiner → Memory → List ℕ → List Float → model.Answer × State
 takeAnswer r m ws ns = checked (soundOk r m) (roomy ws ns) (stateOf r m) (model.takes (r .config) (stateOf r m))
 
@@ -84,12 +86,13 @@ takeAnswer r m ws ns = checked (soundOk r m) (roomy ws ns) (stateOf r m) (model.
 abbrev pub releaseOf : FixedLagRefiner → Memory → model.Answer × State
 releaseOf r m = let t = stateOf r m in model.release (r .config) t (t .scans)
 
--- the buffers after an answer: "the emitted frame written at the start of the lent buffers, the rest of them as they were"
+-- the buffer of words after an answer: a frame that is given stands at its start, and "The rest stays"
 abbrev pub wordsAfter : model.Answer → List ℕ → List ℕ
 wordsAfter (refused n) ws = ws
 wordsAfter waits ws = ws
 wordsAfter (gives e) ws = over 0 (wordsOf e) ws
 
+-- the buffer of numbers after an answer, likewise
 abbrev pub numbersAfter : model.Answer → List Float → List Float
 numbersAfter (refused n) ns = ns
 numbersAfter waits ns = ns
@@ -114,6 +117,7 @@ pub record Ends (a : model.Answer × State) (r : FixedLagRefiner) (m : Memory) (
 
 -- ---- counters
 
+-- 3: "the state breaks its rule"; else the counters
 abbrev pub countedBy : Bool → FgoCounters → Counted
 countedBy true k = counted.Moves k
 countedBy false k = counted.Refused 3

@@ -38,6 +38,7 @@ pub record Call : Type 0 where
   pub wordsBack : List ℕ
   pub numbersBack : List Float
 
+-- the answer that came back
 abbrev pub answered : Call → Answer
 answered k = k .came .answer
 
@@ -61,7 +62,7 @@ unfoldable pub left : FixedLagRefiner → Memory → List Call → FixedLagRefin
 left r m [] = (r, m)
 left r m (k ∷ ks) = left (k .came .refiner) (k .memory) ks
 
--- "any list of pushes and takes .. from a new refiner, refused ones included": the refiner is one that open gave, and what is pushed are bytes; the memory
+-- "any list of pushes and takes runs from a new refiner, refused ones included": the refiner is one that open gave, and what is pushed are bytes; the memory
 -- holds anything at first, and the buffers anything at each call
 pub record Session (c : FgoConfig) (r : FixedLagRefiner) (m : Memory) (ks : List Call) : Type 0 where
   pub opening : openedBy c (legal c) ≡ Ready r
@@ -78,22 +79,24 @@ enough k = roomy (k .words) (k .numbers)
 unfoldable pub operations : List Call → List Op
 operations ks = map (λ k. k .sent) (keep enough ks)
 
--- the frames accepted: those pushed, where the answer is no refusal
+-- the frame that was pushed, where the answer is no refusal
 abbrev pub acceptedBy : Op → Answer → List engine.Frame
 acceptedBy taken a = []
 acceptedBy (pushed s) (Refused n) = []
 acceptedBy (pushed s) Held = frameOf narrow s ∷ []
 acceptedBy (pushed s) (Frame w n) = frameOf narrow s ∷ []
 
+-- the frames that the calls accepted, in order
 unfoldable pub accepted : List Call → List engine.Frame
 accepted ks = flatMap (λ k. acceptedBy (k .sent) (answered k)) ks
 
--- what was written: of each call that answers a frame, as many words and numbers as it says, off the start of the buffers
+-- what a call wrote: where it answers a frame, as many words and numbers as it says, off the start of the buffers
 abbrev pub writtenBy : Answer → List ℕ → List Float → List (List ℕ × List Float)
 writtenBy (Refused n) ws ns = []
 writtenBy Held ws ns = []
 writtenBy (Frame w n) ws ns = (take w ws, take n ns) ∷ []
 
+-- what the calls wrote, in order
 unfoldable pub written : List Call → List (List ℕ × List Float)
 written ks = flatMap (λ k. writtenBy (answered k) (k .wordsBack) (k .numbersBack)) ks
 
@@ -103,6 +106,7 @@ written ks = flatMap (λ k. writtenBy (answered k) (k .wordsBack) (k .numbersBac
 abbrev pub inWords : Emitted → List ℕ × List Float
 inWords e = (wordsOf e, numbersOf e)
 
+-- the answer a, or 4 where a buffer is short
 abbrev pub orShort : Bool → model.Answer → model.Answer
 orShort true a = a
 orShort false a = refused 4
@@ -130,6 +134,7 @@ pub record Served (c : FgoConfig) (ops : List Op) (r : FixedLagRefiner) (m : Mem
 
 -- ---- the theorem
 
+-- demand 3, of calls from an opened refiner on
 pub record Delivered (c : FgoConfig) (r : FixedLagRefiner) (m : Memory) (ks : List Call) : Type 0 where
   -- every call
   pub every : (past : List Call) (k : Call) (later : List Call) → ks ≡ past ++ (k ∷ later) → Served c (operations past) (left r m past .0) (left r m past .1) k

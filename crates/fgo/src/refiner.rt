@@ -18,11 +18,13 @@ use model::moves::FgoCounters;
 use placing::own;
 use refusing::refuse;
 ghost use mathlib.Core.Path.{_≡_};
+ghost use mathlib.Core.List.{List};
 ghost use Prim.Native.Nat.{_≤_};
+ghost use lib.Ieee.{Float};
 ghost use Rattle.engine.specs.Config.{legal};
 ghost use Rattle.memory.specs.Memory.{memory};
 ghost use Rattle.emitting.specs.Writing.{Roomy};
-ghost use Rattle.ledger.specs.Sound.{soundIn};
+ghost use Rattle.ledger.specs.Sound.{soundOk};
 ghost use Rattle.fgo.specs.Promise.{newBy, openedBy, refusedAs, roomy, pushAnswer, takeAnswer, releaseOf, Ends, countedBy};
 ghost use Rattle.arrival.specs.Arriving.{Ready};
 
@@ -153,7 +155,7 @@ fn refused(r: FixedLagRefiner, n: u8) -> Pushed
     Pushed { answer, refiner: r }
 }
 
-// 4: output buffers that are too short.
+// The output buffers are long enough; 4 where they are not.
 fn is_roomy<'a>(words: &'a [u64], numbers: &'a [f64]) -> bool
     ensures { λ b. ⌜ b ≡ roomy (now (words .entry)) (now (numbers .entry)) ⌝ }
 {
@@ -220,7 +222,7 @@ pub fn push<'a, 'b, 'c, 'd, 'e, 'f, 'g, 'h>(
     Pushed { answer, refiner: u }
 }
 
-// The moves made so far, or 3.
+// The moves made so far, or 3: the state rule, which does not look at the numbers of the frozen parts.
 pub fn counters<'a>(
     r: FixedLagRefiner,
     bodies: &'a [u8; BODIES],
@@ -228,7 +230,7 @@ pub fn counters<'a>(
     owners: &'a [u64; OWNERS],
     tracks: &'a [u64; TRACKS],
 ) -> Counted
-    ensures { λ k. ⌜ k ≡ countedBy (soundIn r (now (bodies .entry)) (now (columns .entry)) (now (owners .entry)) (now (tracks .entry))) (r .counters) ⌝ }
+    ensures { λ k. ⌜ ((fs : List Float) → k ≡ countedBy (soundOk r (memory (now (bodies .entry)) (now (columns .entry)) (now (owners .entry)) (now (tracks .entry)) fs)) (r .counters)) ⌝ }
 {
     if !rule::is_sound(r, bodies, columns, owners, tracks) {
         return Counted::Refused(3);

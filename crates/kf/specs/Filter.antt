@@ -1,6 +1,8 @@
 -- The plain filter at f64: "The filter is x, y, their speeds, p00, p01, p11 and t". Definitions only.
-use mathlib.Core.List.{[], _∷_}
-use lib.Ieee.{Float, binary64, sub}
+use Prim.Native.Nat.{ℕ, _+_}
+use mathlib.Core.List.{List, [], _∷_}
+use lib.ListN.{getD}
+use lib.Ieee.{Float, nan, binary64, sub}
 use Rattle.scalar.specs.F64.{f64}
 use Rattle.kf.specs.declared.filter.Kf.{Kf}
 use Rattle.kf.specs.declared.filter.Updated.{Updated}
@@ -49,3 +51,17 @@ moved k t q x y r = updated (predicted k t q) x y r .kf
 -- the logarithm of an update
 abbrev pub logOf : Kf → Float → Float
 logOf k r = logTerm f64 (gain f64 r (covOf k) .s)
+
+-- "The filter is x, y, their speeds, p00, p01, p11 and t": the one whose eight numbers stand in a list from place o on
+abbrev pub kfIn : List Float → ℕ → Kf
+kfIn ns o =
+    record {
+      x = getD ns o nan;
+      y = getD ns (o + 1) nan;
+      vx = getD ns (o + 2) nan;
+      vy = getD ns (o + 3) nan;
+      p00 = getD ns (o + 4) nan;
+      p01 = getD ns (o + 5) nan;
+      p11 = getD ns (o + 6) nan;
+      t = getD ns (o + 7) nan;
+    }

@@ -1,4 +1,4 @@
--- Document 01, "fgo.rs: the plain filter", over any arithmetic: axis by axis, with one covariance for all axes; each operation once, in the order written.
+-- Document 01, "the plain filter", over any arithmetic: axis by axis, with one covariance for all axes; each operation once, in the order written.
 -- Definitions only.
 use mathlib.Core.List.{List, foldl}
 use Rattle.scalar.specs.Num.{Num}

@@ -12,7 +12,7 @@ use borrow.Author.Tests.{ne-eqb}
 use Rattle.engine.specs.declared.types.Associated.{Associated}
 use Rattle.engine.specs.declared.types.Associated.the-variants.{Nobody, Track}
 use Rattle.engine.specs.declared.types.Association.{Association}
-use Rattle.engine.specs.Frame.{Frame}
+use Rattle.engine.specs.Frame.{Frame, engineOf}
 use Rattle.engine.specs.Body.{all}
 use Rattle.engine.proofs.Every.{all-at}
 use Rattle.model.specs.Lists.{find}
@@ -25,7 +25,7 @@ use Rattle.model.proofs.Latest.{tied-latest}
 use Rattle.memory.specs.declared.state.FixedLagRefiner.{FixedLagRefiner}
 use Rattle.buffers.specs.Buffers.{over}
 use Rattle.memory.specs.Memory.{scanIn, scansIn, ownersIn}
-use Rattle.memory.specs.Gathering.{engineOf, gatheredIn, gatheredOf, gathered, enginesOf, foundOf, latestOf, GatheredAll}
+use Rattle.memory.specs.Gathering.{gatheredIn, gatheredOf, gathered, enginesOf, foundOf, latestOf, GatheredAll}
 use Rattle.ledger.specs.Sound.{orNone, columnsOk, ownedAt, ownedAll, ownedOk, Owning}
 use Rattle.memory.proofs.Rows.{rows-all}
 use Rattle.buffers.proofs.Over.{over-in}

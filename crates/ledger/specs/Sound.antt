@@ -47,9 +47,11 @@ idOk next columns s n j =
     (eqb x 0 || not (has x (rows (idAt columns n) (suc j) (associationCount narrow s - suc j))))
     && (ltb x next && looseOk (associationIn s j .track) x)
 
+-- each id of scan n, of which the body is s, is so
 unfoldable pub columnIn : ℕ → List ℕ → List ℕ → ℕ → Bool
 columnIn next columns s n = all (idOk next columns s n) (associationCount narrow s)
 
+-- "each held association lies in exactly one window or in clutter, those without engine id in clutter"; ids are below the next id
 unfoldable pub columnsOk : ℕ → List ℕ → List ℕ → ℕ → ℕ → Bool
 columnsOk next bodies columns first held = all (λ i. columnIn next columns (bodyAt bodies columns (first + i)) (first + i)) held
 
@@ -69,14 +71,16 @@ partOk first next tracks k =
     && (leb count first
     && (leb 1 heights && (leb heights 5 && (ltb (getD tracks (6 * k + 1) 0) first && timeOk (lastIn tracks k)))))))
 
+-- each frozen part is so
 unfoldable pub partsOk : ℕ → ℕ → List ℕ → ℕ → Bool
 partsOk first next tracks frozen = all (partOk first next tracks) frozen
 
--- the owner of an engine id, 0 if none
+-- an id, 0 if there is none
 abbrev pub orNone : Option ℕ → ℕ
 orNone none = 0
 orNone (some x) = x
 
+-- the owner of the engine id e, 0 if none
 abbrev pub ownerIn : List ℕ → ℕ → ℕ → ℕ
 ownerIn owners owned e = orNone (find e (ownersIn owners owned))
 
@@ -85,13 +89,15 @@ unfoldable pub ownedAt : List ℕ → List ℕ → List ℕ → ℕ → List ℕ
 ownedAt ids engines starts held owners owned i =
     let e = getD engines i 0 in eqb (ownerIn owners owned e) (latestOf e ids engines starts held)
 
+-- "an engine id in a window is owned by the holder of its latest": of each of the first n detections gathered
 unfoldable pub ownedAll : List ℕ → List ℕ → List ℕ → ℕ → List ℕ → ℕ → ℕ → Bool
 ownedAll ids engines starts held owners owned n = all (ownedAt ids engines starts held owners owned) n
 
--- "owner entries have distinct engine ids": entry k and those after it
+-- the engine id of owner entry k
 abbrev pub engineIn : List ℕ → ℕ → ℕ
 engineIn owners k = getD owners (2 * k) 0
 
+-- "owner entries have distinct engine ids": entry k and those after it
 unfoldable pub distinctAt : List ℕ → ℕ → ℕ → Bool
 distinctAt owners owned k = not (has (engineIn owners k) (rows (engineIn owners) (suc k) (owned - suc k)))
 
@@ -100,11 +106,13 @@ unfoldable pub liveIn : List ℕ → List ℕ → ℕ → ℕ → List ℕ → �
 liveIn bodies columns first held tracks frozen x =
     has x (keysIn tracks frozen) || (ltb 0 x && inWindow x (scansIn bodies columns first held))
 
+-- "owner entries have distinct engine ids, live owners": entry k
 unfoldable pub entryOk : FixedLagRefiner → List ℕ → List ℕ → List ℕ → List ℕ → ℕ → Bool
 entryOk r bodies columns owners tracks k =
     distinctAt owners (r .owned) k
     && liveIn bodies columns (r .first .0) (r .held) tracks (r .frozen) (getD owners (2 * k + 1) 0)
 
+-- each owner entry is so
 unfoldable pub entriesOk : FixedLagRefiner → List ℕ → List ℕ → List ℕ → List ℕ → Bool
 entriesOk r bodies columns owners tracks = all (entryOk r bodies columns owners tracks) (r .owned)
 

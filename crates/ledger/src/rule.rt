@@ -356,7 +356,7 @@ fn is_distinct(owners: &[u64; OWNERS], owned: usize, k: usize) -> bool
 }
 
 // Whether a track has a frozen part.
-pub fn is_frozen(tracks: &[u64; TRACKS], frozen: usize, id: u64) -> bool
+fn is_frozen(tracks: &[u64; TRACKS], frozen: usize, id: u64) -> bool
     requires { ⌜ frozen ≤ 128 ⌝ }
     ensures { λ b. ⌜ b ≡ has id (keysIn (now (tracks .entry)) frozen) ⌝ }
 {

@@ -9,7 +9,7 @@ use lib.Seq.{take-at, drop-at}
 use lib.Dec.{ltb}
 use borrow.Author.Tests.{lt-ltb}
 use Rattle.engine.specs.declared.types.Association.{Association}
-use Rattle.engine.specs.Frame.{Frame}
+use Rattle.engine.specs.Frame.{Frame, engineOf}
 use Rattle.engine.specs.Body.{rows}
 use Rattle.engine.proofs.Passing.{length-rows}
 use Rattle.model.specs.Lists.{keep}
@@ -19,7 +19,7 @@ use Rattle.windows.specs.Rows.{segment, columnAt}
 use Rattle.windows.specs.Columns.{picked, spread, putBack}
 use Rattle.windows.proofs.Spreads.{spread-self}
 use Rattle.buffers.specs.Buffers.{over}
-use Rattle.memory.specs.Gathering.{engineOf, Gathered, gatheredIn, gatheredOf, gathered, idsOf, enginesOf}
+use Rattle.memory.specs.Gathering.{Gathered, gatheredIn, gatheredOf, gathered, idsOf, enginesOf}
 use Rattle.memory.proofs.Rows.{rows-more, rows-first, rows-parts}
 use Rattle.memory.proofs.LatestGathered.{Each, enginesIn}
 

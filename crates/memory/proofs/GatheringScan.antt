@@ -9,13 +9,13 @@ use lib.Seq.{take-all, set-split}
 use lib.Ieee.{Float}
 use Rattle.engine.specs.declared.config.FgoConfig.{FgoConfig}
 use Rattle.engine.specs.declared.types.Association.{Association}
-use Rattle.engine.specs.Frame.{Frame, noAssociation}
+use Rattle.engine.specs.Frame.{Frame, noAssociation, engineOf}
 use Rattle.engine.specs.Body.{narrow, associationCount, frameOf, rows}
 use Rattle.engine.proofs.Passing.{row-at, length-rows}
 use Rattle.model.specs.Windows.{dotOf}
 use Rattle.buffers.specs.Buffers.{over}
 use Rattle.memory.specs.Memory.{idAt, associationIn}
-use Rattle.memory.specs.Gathering.{Gathered, engineOf, gatheredIn, idsOf, enginesOf, numbersFor, dotsOf, dotIn, foundIn, GathersScan, GatheredScan}
+use Rattle.memory.specs.Gathering.{Gathered, gatheredIn, idsOf, enginesOf, numbersFor, dotsOf, dotIn, foundIn, GathersScan, GatheredScan}
 use Rattle.memory.proofs.Counts.{associations-long}
 use Rattle.memory.proofs.Writes.{Written, written-none, written-more, written-same}
 

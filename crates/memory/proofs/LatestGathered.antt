@@ -8,6 +8,7 @@ use mathlib.Core.List.{List, [], _∷_, map, foldr}
 use lib.ListN.{length, getD, take, drop}
 use lib.Seq.{drop-cons}
 use lib.Dec.{eqb}
+use Rattle.engine.specs.Frame.{engineOf}
 use Rattle.engine.specs.declared.types.Associated.{Associated}
 use Rattle.engine.specs.declared.types.Associated.the-variants.{Nobody, Track}
 use Rattle.engine.specs.declared.types.Association.{Association}
@@ -17,7 +18,7 @@ use Rattle.model.specs.Owning.{isEngine, holderIn, orElse, latest}
 use Rattle.model.proofs.Ties.{Engine, Tied, TiedScan}
 use Rattle.windows.specs.Rows.{segment, columnAt}
 use Rattle.windows.specs.Columns.{picked, spread, putBack}
-use Rattle.memory.specs.Gathering.{engineOf, holderOf, latestOf}
+use Rattle.memory.specs.Gathering.{holderOf, latestOf}
 
 -- something of each scan of a list, by its number: the first is the k-th
 abbrev pub Each : (ℕ → Scan → Type 0) → ℕ → List Scan → Type 0

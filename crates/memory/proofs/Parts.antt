@@ -15,7 +15,8 @@ use Rattle.engine.proofs.Passing.{length-rows, row-at}
 use Rattle.model.specs.Emitting.{classWord}
 use Rattle.memory.specs.declared.state.Prefix.{Prefix}
 use Rattle.buffers.specs.Buffers.{over}
-use Rattle.memory.specs.Memory.{cells, classIn, kfIn, heightsIn, prefixIn, keyIn, entryIn, partWords, partNumbers, Copied, Put}
+use Rattle.kf.specs.Filter.{kfIn}
+use Rattle.memory.specs.Memory.{cells, classIn, heightsIn, prefixIn, keyIn, entryIn, partWords, partNumbers, Copied, Put}
 use Rattle.buffers.proofs.Over.{over-before, over-in, over-after}
 use Rattle.memory.proofs.Rows.{rows-same}
 

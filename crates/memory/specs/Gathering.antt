@@ -8,21 +8,14 @@ use lib.Dec.{eqb}
 use lib.Ieee.{Float}
 use Rattle.scalar.specs.Scalar.{secondsOf}
 use Rattle.engine.specs.declared.config.FgoConfig.{FgoConfig}
-use Rattle.engine.specs.declared.types.Associated.{Associated}
-use Rattle.engine.specs.declared.types.Associated.the-variants.{Nobody, Track}
 use Rattle.engine.specs.declared.types.Association.{Association}
-use Rattle.engine.specs.Frame.{Frame, noAssociation}
+use Rattle.engine.specs.Frame.{Frame, noAssociation, engineOf}
 use Rattle.engine.specs.Body.{narrow, associationCount, refusal, frameOf, rows}
 use Rattle.model.specs.Windows.{Scan, Dot, inWindows, detections, dotOf, noise}
 use Rattle.model.specs.Owning.{orElse}
 use Rattle.windows.specs.Columns.{spread}
 use Rattle.buffers.specs.Buffers.{over}
 use Rattle.memory.specs.Memory.{slotAt, bodyAt, idAt, scansIn}
-
--- the engine id of an association, 0 where it has none
-abbrev pub engineOf : Associated → ℕ
-engineOf Nobody = 0
-engineOf (Track e) = e .0
 
 -- a detection in a window: its engine id, its refined id, and its observation
 pub record Gathered : Type 0 where
@@ -38,6 +31,7 @@ gatheredIn n f (a ∷ l) (zero ∷ is) = gatheredIn n f l is
 gatheredIn n f (a ∷ l) (suc i ∷ is) =
     record { engine = engineOf (a .track); id = suc i; dot = dotOf n f a } ∷ gatheredIn n f l is
 
+-- those of a held scan, which has the number n
 abbrev pub gatheredOf : ℕ → Scan → List Gathered
 gatheredOf n s = gatheredIn n (s .frame) (s .frame .associations) (s .ids)
 
@@ -46,9 +40,11 @@ unfoldable pub gathered : ℕ → List Scan → List Gathered
 gathered n [] = []
 gathered n (s ∷ ss) = gatheredOf n s ++ gathered (suc n) ss
 
+-- their refined ids
 abbrev pub idsOf : List Gathered → List ℕ
 idsOf gs = map (λ g. g .id) gs
 
+-- their engine ids
 abbrev pub enginesOf : List Gathered → List ℕ
 enginesOf gs = map (λ g. g .engine) gs
 
@@ -56,6 +52,7 @@ enginesOf gs = map (λ g. g .engine) gs
 abbrev pub numbersFor : FgoConfig → Gathered → List Float
 numbersFor c g = let d = g .dot in d .x ∷ d .y ∷ noise c d ∷ secondsOf (d .time) ∷ []
 
+-- those of all, one after the other
 abbrev pub dotsOf : FgoConfig → List Gathered → List Float
 dotsOf c gs = flatMap (numbersFor c) gs
 
@@ -93,6 +90,7 @@ pub record GathersScan (s columns : List ℕ) (n o : ℕ) (is es : List ℕ) : T
   pub room : o + length (foundIn columns n s) ≤ length is
   pub beside : length es ≡ length is
 
+-- after the detections gs of one scan were written from place o on: r is the place after them
 pub record GatheredScan (gs : List Gathered) (o r : ℕ) (is es is′ es′ : List ℕ) : Type 0 where
   pub count : r ≡ o + length gs
   pub ids : is′ ≡ over o (idsOf gs) is

@@ -16,7 +16,7 @@ use Rattle.engine.specs.declared.types.ClassLabel.the-variants.{Unknown, Known}
 use Rattle.engine.specs.declared.types.Association.{Association}
 use Rattle.engine.specs.Frame.{noAssociation}
 use Rattle.engine.specs.Body.{narrow, associationCount, frameOf, rows}
-use Rattle.kf.specs.declared.filter.Kf.{Kf}
+use Rattle.kf.specs.Filter.{kfIn}
 use Rattle.model.specs.Windows as windows
 use Rattle.model.specs.Windows.{Scan}
 use Rattle.model.specs.Lists.{any, has}
@@ -25,6 +25,7 @@ use Rattle.model.specs.Refiner.{State}
 use Rattle.memory.specs.declared.state.Prefix.{Prefix}
 use Rattle.memory.specs.declared.state.FixedLagRefiner.{FixedLagRefiner}
 
+-- the five arrays that are lent along: bodies, columns of lengths and ids, owners, and the words and the numbers of the frozen parts
 pub record Memory : Type 0 where
   pub bodies : List ℕ
   pub columns : List ℕ
@@ -32,6 +33,7 @@ pub record Memory : Type 0 where
   pub tracks : List ℕ
   pub filters : List Float
 
+-- the memory of five arrays
 abbrev pub memory : List ℕ → List ℕ → List ℕ → List ℕ → List Float → Memory
 memory bodies columns owners tracks filters =
     record { bodies = bodies; columns = columns; owners = owners; tracks = tracks; filters = filters }
@@ -42,6 +44,7 @@ cells d l o n = rows (λ i. getD l (o + i) d) 0 n
 
 -- ---- held scans: the scan n lies in slot n mod 17
 
+-- the slot of the scan n
 abbrev pub slotAt : ℕ → ℕ
 slotAt n = n % 17
 
@@ -49,6 +52,7 @@ slotAt n = n % 17
 abbrev pub lengthAt : List ℕ → ℕ → ℕ
 lengthAt columns n = let l = getD columns (33 * slotAt n) 0 in cond (leb l 2096) l 0
 
+-- the body of the scan n
 unfoldable pub bodyAt : List ℕ → List ℕ → ℕ → List ℕ
 bodyAt bodies columns n = take (lengthAt columns n) (drop (2096 * slotAt n) bodies)
 
@@ -80,19 +84,6 @@ inWindow x ss = any (λ s. has x (s .ids)) ss
 abbrev pub classIn : ℕ → ClassLabel
 classIn w = cond (ltb w 4294967296) (Known w) Unknown
 
-abbrev pub kfIn : List Float → ℕ → Kf
-kfIn ns o =
-    record {
-      x = getD ns o nan;
-      y = getD ns (o + 1) nan;
-      vx = getD ns (o + 2) nan;
-      vy = getD ns (o + 3) nan;
-      p00 = getD ns (o + 4) nan;
-      p01 = getD ns (o + 5) nan;
-      p11 = getD ns (o + 6) nan;
-      t = getD ns (o + 7) nan;
-    }
-
 -- n heights from place o on: more than five are none
 abbrev pub heightsIn : List Float → ℕ → ℕ → List Float
 heightsIn ns o n = cond (leb n 5) (cells nan ns o n) []
@@ -109,9 +100,11 @@ prefixIn tracks filters k =
       class = classIn (getD tracks (6 * k + 4) 0);
     }
 
+-- the id of frozen part k
 abbrev pub keyIn : List ℕ → ℕ → ℕ
 keyIn tracks k = getD tracks (6 * k) 0
 
+-- the ids of the first n frozen parts
 abbrev pub keysIn : List ℕ → ℕ → List ℕ
 keysIn tracks n = rows (keyIn tracks) 0 n
 
@@ -119,9 +112,11 @@ keysIn tracks n = rows (keyIn tracks) 0 n
 abbrev pub lastIn : List ℕ → ℕ → ℤ
 lastIn tracks k = signed (getD tracks (6 * k + 2) 0)
 
+-- frozen part k under its id
 abbrev pub entryIn : List ℕ → List Float → ℕ → ℕ × windows.Prefix
 entryIn tracks filters k = (keyIn tracks k, prefixIn tracks filters k)
 
+-- the first n frozen parts, each under its id
 abbrev pub tableIn : List ℕ → List Float → ℕ → List (ℕ × windows.Prefix)
 tableIn tracks filters n = rows (entryIn tracks filters) 0 n
 
@@ -137,11 +132,12 @@ partOf p =
       class = p .class;
     }
 
--- its six words, under an id, and its thirteen numbers
+-- its six words, under an id
 abbrev pub partWords : ℕ → Prefix → List ℕ
 partWords x p =
     x ∷ p .«last_frame» .0 ∷ word (p .«last_ns») ∷ p .count ∷ classWord (p .class) ∷ p .«height_count» ∷ []
 
+-- its thirteen numbers
 abbrev pub partNumbers : Prefix → List Float
 partNumbers p =
     let k = p .kf in
@@ -149,11 +145,13 @@ partNumbers p =
 
 -- ---- owners: pairs of an engine id and a refined id
 
+-- the first n owner entries
 abbrev pub ownersIn : List ℕ → ℕ → List (ℕ × ℕ)
 ownersIn owners n = rows (λ k. (getD owners (2 * k) 0, getD owners (2 * k + 1) 0)) 0 n
 
 -- ---- the state
 
+-- the state that a refiner and its memory mean
 unfoldable pub stateOf : FixedLagRefiner → Memory → State
 stateOf r m =
     record {

@@ -10,12 +10,13 @@ use engine::types::Associated;
 use engine::types::ScanIndex;
 use scalar::bits;
 ghost use mathlib.Core.Path.{_≡_};
-ghost use Prim.Native.Nat.{_+_, _*_, _<_, _≤_};
+ghost use Prim.Native.Nat.{_+_, _*_, _≤_};
 ghost use lib.ListN.{length};
-ghost use Rattle.engine.specs.Body.{narrow, refusal};
+ghost use Rattle.engine.specs.Frame.{engineOf};
+ghost use Rattle.engine.specs.Body.{narrow, refusal, associationRead};
 ghost use Rattle.buffers.specs.Buffers.{over};
 ghost use Rattle.memory.specs.Memory.{associationIn};
-ghost use Rattle.memory.specs.Gathering.{engineOf, dotsOf, dotIn, countIn, Scattered, foundIn, foundOf, Held, GathersScan, GatheredScan, Filled, GatheredAll, ScatteredScan};
+ghost use Rattle.memory.specs.Gathering.{dotsOf, dotIn, countIn, Scattered, foundIn, foundOf, Held, GathersScan, GatheredScan, Filled, GatheredAll, ScatteredScan};
 
 // Numbers of detections before each scan, and in all.
 pub const STARTS: usize = 18;
@@ -30,8 +31,8 @@ fn engine_in(a: Associated) -> u64
 }
 
 // The engine id of association j of a body; 0 where it has none.
-pub fn engine_of(s: &[u8], j: usize) -> u64
-    ensures { λ r. ⌜ (refusal narrow (now (s .entry)) ≡ 0 → r ≡ engineOf (associationIn (now (s .entry)) j .track)) ⌝ }
+fn engine_of(s: &[u8], j: usize) -> u64
+    ensures { λ r. ⌜ (r ≡ engineOf (associationRead narrow (now (s .entry)) j .track)) × (refusal narrow (now (s .entry)) ≡ 0 → r ≡ engineOf (associationIn (now (s .entry)) j .track)) ⌝ }
 {
     let a = body::association(s, j);
     let t = a.track;

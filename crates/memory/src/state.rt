@@ -15,7 +15,8 @@ ghost use lib.Ieee.{nan};
 ghost use Rattle.engine.specs.Body.{rows};
 ghost use Rattle.model.specs.Lists.{has};
 ghost use Rattle.model.specs.Emitting.{classWord};
-ghost use Rattle.memory.specs.Memory.{cells, slotAt, lengthAt, bodyAt, idAt, scansIn, inWindow, classIn, kfIn, prefixIn, partOf, Copied, Put};
+ghost use Rattle.kf.specs.Filter.{kfIn};
+ghost use Rattle.memory.specs.Memory.{cells, slotAt, lengthAt, bodyAt, idAt, scansIn, inWindow, classIn, prefixIn, partOf, Copied, Put};
 
 // Bodies of held scans: 17 slots of 2,096 bytes.
 pub const BODIES: usize = 35632;
@@ -64,7 +65,7 @@ pub fn slot_of(n: ScanIndex) -> usize
 }
 
 // The length of the body of a scan; 0 where it says more than a body can have.
-pub fn length_in(columns: &[u64; COLUMNS], n: ScanIndex) -> usize
+fn length_in(columns: &[u64; COLUMNS], n: ScanIndex) -> usize
     ensures { λ r. ⌜ (r ≡ lengthAt (now (columns .entry)) (n .0)) × (r ≤ 2096) ⌝ }
 {
     let l = columns[33 * slot_of(n)];

@@ -13,10 +13,10 @@ use Rattle.costs.specs.declared.cost.Fold.{Fold}
 use Rattle.costs.specs.Cost.{View, missesOf}
 use Rattle.model.specs.declared.moves.PairMove.{PairMove}
 use Rattle.model.specs.declared.moves.PairMove.the-variants.{Merge}
-use Rattle.model.specs.Searching.{betterPair}
+use Rattle.model.specs.Searching.{_⊕_, _⊖_, _⊗_, betterPair}
 use Rattle.merging.specs.declared.merge.Overlap.{Overlap}
 use Rattle.pricing.specs.declared.price.Hall.{Hall}
-use Rattle.pricing.specs.Price.{_⊕_, _⊖_, _⊗_, rowCost, Priced, Ends}
+use Rattle.pricing.specs.Price.{rowCost, Priced, Ends}
 
 -- ---- rows
 
@@ -24,6 +24,7 @@ use Rattle.pricing.specs.Price.{_⊕_, _⊖_, _⊗_, rowCost, Priced, Ends}
 abbrev pub keptSlot : Bool → ℕ → ℕ → ℕ
 keptSlot own x y = cond (eqb x 0) y (cond (eqb y 0) x (cond own x y))
 
+-- the row of the merged track, of the keeper's row and the other's
 unfoldable pub mergedRow : Bool → List ℕ → List ℕ → List ℕ
 mergedRow own [] b = []
 mergedRow own (x ∷ a) [] = x ∷ a
@@ -35,6 +36,7 @@ countRows f [] b = 0
 countRows f (x ∷ a) [] = 0
 countRows f (x ∷ a) (y ∷ b) = f x y + countRows f a b
 
+-- 1 for a scan in which both rows have a detection, else 0
 abbrev pub bothHave : ℕ → ℕ → ℕ
 bothHave x y = cond (eqb x 0) 0 (cond (eqb y 0) 0 1)
 
@@ -42,6 +44,7 @@ bothHave x y = cond (eqb x 0) 0 (cond (eqb y 0) 0 1)
 abbrev pub sharedRows : List ℕ → List ℕ → ℕ
 sharedRows a b = countRows bothHave a b
 
+-- 1 for a scan in which the first row has a detection and the second has none, else 0
 abbrev pub onlyHas : ℕ → ℕ → ℕ
 onlyHas x y = cond (eqb x 0) 0 (cond (eqb y 0) 1 0)
 

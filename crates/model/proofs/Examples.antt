@@ -6,12 +6,13 @@ use mathlib.Core.Bool.{true, false}
 use mathlib.Core.List.{List, [], _∷_, _++_, map, flatMap}
 use lib.Count.{trailingZeros}
 use lib.ListN.{length}
-use lib.IntN.{pos}
+use lib.IntN.{pos, negsuc}
 use lib.Ieee.{binary64, add, sub, mul, div, lt, round, ofInt, ofBits, toBits, neg, sum, units, odd, size, span, climb, ofFields}
 use Rattle.scalar.specs.Scalar.{finite, bitsOf}
 use Rattle.scalar.specs.Ln.{lnOf}
 use Rattle.engine.specs.declared.config.FgoConfig.{FgoConfig}
-use Rattle.engine.specs.declared.types.ClassLabel.the-variants.{Unknown}
+use Rattle.engine.specs.declared.types.ClassLabel.the-variants.{Unknown, Known}
+use Rattle.engine.specs.declared.types.EngineTrack.{EngineTrack}
 use Rattle.engine.specs.Config.{defaults}
 use Rattle.engine.specs.Little.{little}
 use Rattle.engine.specs.Body.{all, codeOk, presentOk, timeOk, trackOk, associationOk, observationOk, indexOk, headOk, tracksOk, associationsOk, observationsOk, indicesOk, refusal, rows, trackAt, observationAt, associationAt, frameOf, decode}
@@ -23,7 +24,7 @@ use Rattle.model.specs.Placing.{place}
 use Rattle.model.specs.Searching.{recolumn, shared, rest, costOf, close, isCut, cuts, pairsWith, pairs, trySwap, tryMerge, pairCandidates, bestOfPair, trySplit, tryDrop, trackCandidates, bestOfTrack, pairStep, trackStep, pass, passes, improve}
 use Rattle.model.specs.Owning.{holderIn, latest, reown}
 use Rattle.model.specs.Freezing.{mean, freeze, freezeAll, listable, remember}
-use Rattle.model.specs.Emitting.{Listed, report, listing, associationsWords, wordsOf, numbersOf}
+use Rattle.model.specs.Emitting.{Listed, report, listing, associationsWords, wordsOf, numbersOf, predictionOnly}
 use Rattle.model.specs.Refiner.{arrive, emit, leave, release, settle, full8, full9, full10, pushFrame, push, takes}
 use Rattle.model.specs.History.{Op, pushed, taken, Run, step, run}
 
@@ -32,6 +33,18 @@ use Rattle.model.specs.History.{Op, pushed, taken, Run, step, run}
 -- "defaults: age 500,000,000 listed, one more not"
 pub listed-until : (p : Prefix) → p .lastNs ≡ pos 0 → (listable defaults (pos 500000000) (1, p) ≡ true) × (listable defaults (pos 500000001) (1, p) ≡ false)
 listed-until p e = (rw e, rw e)
+
+-- a repeated engine id: "the last of them counts"
+abbrev classed : ℕ → EngineTrack
+classed n = record { id = record { 0 = 7 }; class = Known n }
+
+pub last-counts : classAmong 7 Unknown (classed 1 ∷ classed 2 ∷ []) ≡ Known 2
+unfolding classAmong
+last-counts = refl
+
+-- "prediction_only is age > 0": not at -1 and 0, but at 1
+pub predicted-from : (l : Listed) → (l .age ≡ negsuc 0 → predictionOnly l ≡ false) × (l .age ≡ pos 0 → predictionOnly l ≡ false) × (l .age ≡ pos 1 → predictionOnly l ≡ true)
+predicted-from l = (λ e. rw e, λ e. rw e, λ e. rw e)
 
 -- "at a squared distance below radius²": 1.5 metres are not below 1.5, and 1.25 are
 abbrev spot : ℕ → Dot

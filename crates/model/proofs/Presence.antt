@@ -15,7 +15,8 @@ use Rattle.model.proofs.Counting.{any-All, any-count, count-any, any-fl
 abbrev pub Names : (ℕ → Type 0) → Scan → Type 0
 Names Q s = (x : ℕ) → 0 < x → 0 < times x (s .ids) → Q x
 
-present-has : (x : ℕ) (ss : List Scan) → has x (present ss) ≡ (ltb 0 x && any (λ s. has x (s .ids)) ss)
+-- the ids present are those above 0 that stand in a scan
+pub present-has : (x : ℕ) (ss : List Scan) → has x (present ss) ≡ (ltb 0 x && any (λ s. has x (s .ids)) ss)
 unfolding present
 present-has x ss =
     let l = flatMap (λ (s : Scan). s .ids) ss in

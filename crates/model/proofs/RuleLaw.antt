@@ -84,7 +84,7 @@ module _ (first : ℕ) where
 
 -- ---- columns
 
--- "no number for which P holds stands twice", of a list with one number more in front
+-- no number for which P holds stands twice, of a list with one number more in front
 module _ (P : ℕ → Type 0) (i : ℕ) (is : List ℕ) where
   once-cons : (P i → has i is ≡ false) → ((x : ℕ) → P x → times x is ≤ 1) → (x : ℕ) → P x → times x (i ∷ is) ≤ 1
   once-cons h k x p = go (ℕ-discrete x i)

@@ -186,13 +186,13 @@ pub columns-regular : (next : ℕ) (ss : List Scan) → All (ColumnRule next) ss
 columns-regular next ss h = All-weaken (ColumnRule next) Regular ss (λ s r. record { complete = r .complete; apart = r .apart }) h
 
 -- the next id has no window
-pub next-unused : (next n : ℕ) (ss : List Scan) → 0 < next → All (ColumnRule next) ss → window next n ss ≡ []
+pub next-empty : (next n : ℕ) (ss : List Scan) → 0 < next → All (λ s. (x : ℕ) → 0 < x → 0 < times x (s .ids) → x < next) ss → window next n ss ≡ []
 unfolding window
-next-unused next n [] h r = refl
-next-unused next n (s ∷ ss) h r = λ i. under-absent n (s .frame) next (s .frame .associations) (s .ids) unknown i ++ next-unused next (suc n) ss h (r .1) i
+next-empty next n [] h k = refl
+next-empty next n (s ∷ ss) h k = λ i. under-absent n (s .frame) next (s .frame .associations) (s .ids) unknown i ++ next-empty next (suc n) ss h (k .1) i
   where
     unknown : times next (s .ids) ≡ 0
-    unknown = elim (eq-zero-or-pos (times next (s .ids))) [ inl z ↦ z | inr k ↦ absurd (lt-irrefl next (r .0 .known next h k)) ]
+    unknown = elim (eq-zero-or-pos (times next (s .ids))) [ inl z ↦ z | inr p ↦ absurd (lt-irrefl next (k .0 next h p)) ]
 
 -- ---- each held association lies in exactly one window or in clutter
 

@@ -1,4 +1,4 @@
--- Document 01: "The frame lists, in id order, the tracks ..", and "Emitted words" and "Numbers". Definitions only.
+-- Document 01: "The frame lists, in id order, the tracks", and "Emitted words" and "Numbers". Definitions only.
 use Prim.Native.Nat.{ℕ, zero, suc}
 use mathlib.Core.Bool.{Bool, cond, not}
 use mathlib.Core.List.{List, [], _∷_, _++_, map, flatMap}
@@ -6,7 +6,7 @@ use lib.ListN.{length}
 use lib.Dec.{leb}
 use lib.IntN.{ℤ, pos}
 use lib.Signed.{leZ}
-use lib.Ieee.{Float, binary64, mul, ofBits}
+use lib.Ieee.{Float, binary64, ofBits}
 use Rattle.scalar.specs.Scalar.{secondsOf, word}
 use Rattle.engine.specs.declared.config.FgoConfig.{FgoConfig}
 use Rattle.engine.specs.declared.types.ClassLabel.{ClassLabel}
@@ -15,13 +15,13 @@ use Rattle.engine.specs.declared.types.Outcome.{Outcome}
 use Rattle.engine.specs.declared.types.Cost.{Cost}
 use Rattle.engine.specs.declared.types.Cost.the-variants.{Absent, Paid}
 use Rattle.engine.specs.declared.types.Association.{Association}
-use Rattle.engine.specs.Config.{density, sigma}
+use Rattle.engine.specs.Config.{density}
 use Rattle.engine.specs.Frame.{modeNumber, outcomeNumber}
 use Rattle.engine.specs.Encode.{costPresent}
 use Rattle.kf.specs.declared.filter.Kf.{Kf}
 use Rattle.kf.specs.Filter.{predicted}
 use Rattle.model.specs.Lists.{keep}
-use Rattle.model.specs.Windows.{Scan, Prefix}
+use Rattle.model.specs.Windows.{Scan, Prefix, positionVariance}
 use Rattle.model.specs.Freezing.{mean, ageOf, listable}
 
 -- a listed track
@@ -40,9 +40,9 @@ pub record Emitted : Type 0 where
   pub scan : Scan
   pub tracks : List Listed
 
--- the r of a listed track's covariance
+-- the r of a listed track's covariance: the same for every track
 abbrev pub partNoise : FgoConfig → Prefix → Float
-partNoise c p = mul binary64 (sigma c) (sigma c)
+partNoise c p = positionVariance c
 
 -- "Each one's state is its frozen filter predicted to this scan's time, its height is the mean"
 unfoldable pub report : FgoConfig → ℤ → ℕ → Prefix → Listed
@@ -73,7 +73,7 @@ abbrev pub classWord : ClassLabel → ℕ
 classWord Unknown = 4294967296
 classWord (Known n) = n
 
--- "per track id, lifecycle, last time, age, class, count"
+-- "per track id, lifecycle (0 tentative, 1 confirmed), last time, age, class (2^32 if none), count"
 abbrev pub trackWords : Listed → List ℕ
 trackWords l = l .id ∷ lifecycle (l .count) ∷ word (l .lastNs) ∷ word (l .age) ∷ classWord (l .class) ∷ l .count ∷ []
 

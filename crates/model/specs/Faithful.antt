@@ -63,7 +63,7 @@ pub record Merged (own : Bool) (k o n : ℕ) (ss ts : List Scan) : Type 0 where
   pub others : (x : ℕ) → 0 < x → (k ≡ x → ⊥) → (o ≡ x → ⊥) → window x n ts ≡ window x n ss
   pub lost : shared k o ss ≡ length (losers own (window k n ss) (window o n ss))
 
--- "Splits of the window", at its detection d, which has the detections v before it and u after it: "The tail .. gets the next id", here x
+-- "Splits of the window", at its detection d, which has the detections v before it and u after it: the tail "gets the next id", here x
 pub record Halved (a x n : ℕ) (v : List Dot) (d : Dot) (u : List Dot) (ss ts : List Scan) : Type 0 where
   pub head : window a n ts ≡ v
   pub tail : window x n ts ≡ d ∷ u

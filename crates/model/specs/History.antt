@@ -24,7 +24,7 @@ use Rattle.model.specs.Emitting.{Listed, Emitted}
 use Rattle.model.specs.Refiner.{State, new, Answer, refused, waits, gives, arrive, push, takes}
 use Rattle.model.specs.Rule.{All, Bytes, Rule}
 
--- ---- a run: "any list of pushes and takes .. from a new refiner, refused ones included"
+-- ---- a run: "any list of pushes and takes runs from a new refiner, refused ones included"
 
 -- a push is of any list of numbers: where they have to be bytes, it is said
 pub data Op : Type 0 where

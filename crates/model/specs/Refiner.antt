@@ -144,7 +144,7 @@ firstOf false true d = some 9
 firstOf false false true = some 10
 firstOf false false false = none
 
--- a refusal changes nothing; else the frame arrives, and the oldest leaves "when more than lag scans are held"
+-- a refusal changes nothing; else the frame arrives: "When more than lag scans are held, the oldest one leaves"
 abbrev pub pushBy : Option ℕ → FgoConfig → State → Frame → Answer × State
 pushBy (some n) c t f = (refused n, t)
 pushBy none c t f = let u = arrive c t f in settle c u (ltb (lag c) (length (u .scans)))

@@ -1,6 +1,6 @@
 -- Document 01, "searching": pairs and cuts, the moves and their gains, passes. Definitions only.
 use Prim.Native.Nat.{ℕ, zero, suc, _+_, min}
-use mathlib.Core.Bool.{Bool, true, false, cond, _&&_, _||_, not}
+use mathlib.Core.Bool.{Bool, true, false, cond, _&&_, _||_}
 use mathlib.Core.List.{List, [], _∷_, _++_, map, foldl}
 use mathlib.Core.Option.{none}
 use lib.ListN.{length}
@@ -19,16 +19,20 @@ use Rattle.model.specs.Windows.{Scan, Dot, Prefix, window, present, pric
 
 infixl 65 _⊕_ _⊖_
 infixl 70 _⊗_
-abbrev _⊕_ : Float → Float → Float
+-- a sum, rounded once
+abbrev pub _⊕_ : Float → Float → Float
 x ⊕ y = add binary64 x y
 
-abbrev _⊖_ : Float → Float → Float
+-- a difference
+abbrev pub _⊖_ : Float → Float → Float
 x ⊖ y = sub binary64 x y
 
-abbrev _⊗_ : Float → Float → Float
+-- a product
+abbrev pub _⊗_ : Float → Float → Float
 x ⊗ y = mul binary64 x y
 
-abbrev square : Float → Float
+-- "Squares are v·v"
+abbrev pub square : Float → Float
 square v = v ⊗ v
 
 -- ---- moves: each renames ids within the scans
@@ -103,7 +107,7 @@ countTrack Rest k = k
 countTrack (Split f g) k = record { swaps = k .swaps; merges = k .merges; splits = suc (k .splits); drops = k .drops }
 countTrack (Drop f g) k = record { swaps = k .swaps; merges = k .merges; splits = k .splits; drops = suc (k .drops) }
 
--- "The tail .. gets the next id"
+-- the tail of a split "gets the next id"
 abbrev pub nextAfter : TrackMove → ℕ → ℕ
 nextAfter Rest n = n
 nextAfter (Split f g) n = suc n
@@ -221,7 +225,7 @@ module _ (c : FgoConfig) (first : ℕ) (ps : List (ℕ × Prefix)) where
 
   -- ---- the best move of a pair: "The base is the old cost of a plus the old cost of b"
 
-  -- "d = (new cost of a + new cost of b) − base"; a swap that leaves a's window equal never wins
+  -- "d = (new cost of a + new cost of b) − base"; a swap that leaves a's window equal never wins (proofs/NoGain.antt), so that it is as if skipped
   unfoldable pub trySwap : ℕ → ℕ → List Scan → Float → ℕ → PairMove
   trySwap a b ss base f =
       let t = swapped a b f ss in
@@ -263,7 +267,7 @@ module _ (c : FgoConfig) (first : ℕ) (ps : List (ℕ × Prefix)) where
   tryDrop a ss base d =
       Drop (record { 0 = d .scan }) (costOf a (dropped a (d .scan) ss) ⊕ clutter c ⊖ base)
 
-  -- "Splits of the window are tried after its detection 1, 2 and so on"; "Then .. the drop of each single detection"
+  -- "Splits of the window are tried after its detection 1, 2 and so on"; then "the drop of each single detection is tried"
   unfoldable pub trackCandidates : List Scan → ℕ → ℕ → List TrackMove
   trackCandidates ss x a =
       let w = window a first ss in
@@ -310,10 +314,6 @@ module _ (c : FgoConfig) (first : ℕ) (ps : List (ℕ × Prefix)) where
   passes (suc n) ran s false = record { search = s; ran = ran }
   passes (suc n) ran s true = let t = pass s in passes n (suc ran) t (t .moved)
 
-  -- the search at one push, whether or not the search before it came to rest
+  -- the search at one push
   unfoldable pub improve : List Scan → ℕ → FgoCounters → Searched
   improve ss next k = passes (maxPasses c) 0 (record { scans = ss; next = next; counters = k; moved = true }) true
-
--- "the last one made no move": zero passes are not at rest
-abbrev pub atRest : Searched → Bool
-atRest r = not (r .search .moved)

@@ -101,9 +101,13 @@ live ps ss x = isSome (find x ps) || has x (present ss)
 
 -- ---- what a window costs
 
--- "r = sigma²": the variance of a dot's position
+-- "r = sigma²": the variance of a position
+abbrev pub positionVariance : FgoConfig → Float
+positionVariance c = mul binary64 (sigma c) (sigma c)
+
+-- the variance of a dot's position: the same for every dot
 abbrev pub noise : FgoConfig → Dot → Float
-noise c d = mul binary64 (sigma c) (sigma c)
+noise c d = positionVariance c
 
 -- an observation, as the detection of a window
 abbrev pub detOf : FgoConfig → Dot → Det

@@ -5,18 +5,16 @@ use mathlib.Core.Bool.{Bool, true, false, cond, _&&_}
 use mathlib.Core.List.{List, map}
 use lib.ListN.{getD}
 use lib.Dec.{eqb, leb}
-use lib.Ieee.{Float, nan, binary64, add, sub, mul, lt}
+use lib.Ieee.{Float, nan, lt}
 use Rattle.costs.specs.Cost.{dotAt}
 use Rattle.model.specs.Lists.{any, upFrom}
+use Rattle.model.specs.Searching.{_⊕_, _⊖_, square}
 use Rattle.nearness.specs.declared.near.Point.{Point}
 use Rattle.windows.specs.Rows.{segment, firstIn, endFrom}
 
-abbrev pub square : Float → Float
-square v = mul binary64 v v
-
 -- "squared distance"
 abbrev pub apart2 : List Float → ℕ → ℕ → Float
-apart2 dots i j = add binary64 (square (sub binary64 (dotAt dots i .x) (dotAt dots j .x))) (square (sub binary64 (dotAt dots i .y) (dotAt dots j .y)))
+apart2 dots i j = square (dotAt dots i .x ⊖ dotAt dots j .x) ⊕ square (dotAt dots i .y ⊖ dotAt dots j .y)
 
 -- two entries of rows have a detection each, "at a squared distance below radius²", here q
 unfoldable pub nearSlots : Float → List Float → ℕ → ℕ → Bool
@@ -44,7 +42,7 @@ pointAt dots i = cond (eqb i 0) (record { x = nan; y = nan }) (record { x = dotA
 
 -- nearSlots, by where the detections of the two entries lie
 unfoldable pub nearPoints : Float → Point → Point → Bool
-nearPoints q d e = lt (add binary64 (square (sub binary64 (d .x) (e .x))) (square (sub binary64 (d .y) (e .y)))) q
+nearPoints q d e = lt (square (d .x ⊖ e .x) ⊕ square (d .y ⊖ e .y)) q
 
 -- closeSlots, by where the detections of the four entries lie
 abbrev pub closePoints : Float → Point → Point → Point → Point → Bool

@@ -14,10 +14,10 @@ use Rattle.costs.specs.Cost.{View}
 use Rattle.model.specs.declared.moves.PairMove.{PairMove}
 use Rattle.model.specs.declared.moves.PairMove.the-variants.{Stay, Swap}
 use Rattle.model.specs.Lists.{keep, upFrom}
-use Rattle.model.specs.Searching.{betterPair}
+use Rattle.model.specs.Searching.{_⊕_, _⊖_, betterPair}
 use Rattle.merging.specs.Merge.{betterMerge}
 use Rattle.pricing.specs.declared.price.Hall.{Hall}
-use Rattle.pricing.specs.Price.{_⊕_, _⊖_, rowCost, crossed, scanAt, viewIn, Priced, Fit, Ends}
+use Rattle.pricing.specs.Price.{rowCost, crossed, scanAt, viewIn, Priced, Fit, Ends}
 
 -- ---- the best move of a pair
 
@@ -25,6 +25,7 @@ use Rattle.pricing.specs.Price.{_⊕_, _⊖_, rowCost, crossed, scanAt, viewIn,
 abbrev pub cutAt : List Bool → ℕ → Bool
 cutAt close g = cond (getD close g false) true (cond (eqb g 0) false (getD close (g - 1) false))
 
+-- the cuts of a pair, "in ascending order"
 unfoldable pub cutsOf : List Bool → List ℕ
 cutsOf close = keep (cutAt close) (upFrom 0 18)
 
@@ -36,6 +37,7 @@ trySwapRow c v pa pb a b base g = Swap (scanAt v g) (rowCost c v pa (crossed g a
 abbrev pub firstSwap : Bool → ScanIndex → Float → Float → Float → PairMove
 firstSwap cut first xa xb base = cond cut (betterPair Stay (Swap first (xa ⊕ xb ⊖ base))) Stay
 
+-- "Swaps are tried first, at each cut": the best of them, from no move on
 unfoldable pub bestSwapRow : FgoConfig → View → Fold → Fold → List Bool → List ℕ → List ℕ → Float → PairMove
 bestSwapRow c v pa pb close a b base = foldl betterPair Stay (map (trySwapRow c v pa pb a b base) (cutsOf close))
 

@@ -17,7 +17,8 @@ ghost use mathlib.Core.Bool.{true};
 ghost use Prim.Native.Nat.{_≤_, _<_};
 ghost use lib.ListN.{length, drop};
 ghost use Rattle.costs.specs.Cost.{dets, cost, foldIn, missesOf, Kept};
-ghost use Rattle.pricing.specs.Price.{_⊕_, _⊖_, rowCost, Priced, Fit, Ends, viewIn};
+ghost use Rattle.model.specs.Searching.{_⊕_, _⊖_};
+ghost use Rattle.pricing.specs.Price.{rowCost, Priced, Fit, Ends, viewIn};
 ghost use Rattle.pair_moves.specs.Pair.{cutAt, firstSwap, bestSwapRow, bestPairRow, Swaps};
 
 // The gain of the swap at a cut, by the folds over both rows before it, whose numbers are lent. The rows end at ea and eb.

@@ -32,6 +32,7 @@ placedTrack p e x =
     (record { ids = p .ids ++ (x ∷ []); owners = p .owners; next = p .next })
     (record { ids = p .ids ++ (p .next ∷ []); owners = assignedIn e (p .next) (p .owners); next = p .next + 1 })
 
+-- "One without an engine id becomes clutter. One with an engine id goes to the track that owns this engine id"
 abbrev pub placedOne : ℕ → model.Placing → Associated → model.Placing
 placedOne old p Nobody = record { ids = p .ids ++ (0 ∷ []); owners = p .owners; next = p .next }
 placedOne old p (Track e) = placedTrack p (e .0) (freeBelow old (p .ids) (orNone (find (e .0) (p .owners))))

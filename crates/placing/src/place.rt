@@ -6,7 +6,7 @@ use engine::types::RefinedId;
 use ledger::rule;
 use memory::state::OWNERS;
 ghost use mathlib.Core.Path.{_≡_};
-ghost use Prim.Native.Nat.{_+_, _*_, _<_, _≤_};
+ghost use Prim.Native.Nat.{_+_, _<_, _≤_};
 ghost use lib.ListN.{length, take};
 ghost use Rattle.engine.specs.Body.{narrow, associationCount, refusal, frameOf};
 ghost use Rattle.model.specs.Lists.{has};

@@ -5,43 +5,23 @@ use mathlib.Core.Bool.{cond}
 use mathlib.Core.List.{List, _++_}
 use lib.ListN.{length, getD, take, drop}
 use lib.Dec.{eqb}
-use lib.Ieee.{Float, nan, binary64, add, sub, mul}
+use lib.Ieee.{Float}
 use Rattle.engine.specs.declared.config.FgoConfig.{FgoConfig}
 use Rattle.engine.specs.declared.types.ScanIndex.{ScanIndex}
+use Rattle.kf.specs.Filter.{kfIn}
 use Rattle.costs.specs.declared.cost.Fold.{Fold}
 use Rattle.costs.specs.declared.cost.Fold.the-variants.{Fresh, Frozen}
 use Rattle.costs.specs.Cost.{View, viewOf, dets, run, cost, missesOf, Kept}
 use Rattle.windows.specs.Rows.{segment}
 use Rattle.pricing.specs.declared.price.Hall.{Hall}
 
-infixl 65 _⊕_ _⊖_
-infixl 70 _⊗_
-abbrev pub _⊕_ : Float → Float → Float
-x ⊕ y = add binary64 x y
-
-abbrev pub _⊖_ : Float → Float → Float
-x ⊖ y = sub binary64 x y
-
-abbrev pub _⊗_ : Float → Float → Float
-x ⊗ y = mul binary64 x y
-
 -- ---- the frozen parts: 6 words and 13 numbers a track; its id, its last scan, and its filter first
 
+-- the frozen part at place n, as what a window goes on from
 abbrev pub frozenAt : List ℕ → List Float → ℕ → Fold
-frozenAt ts fs n =
-    Frozen
-    (record {
-      x = getD fs (13 * n) nan;
-      y = getD fs (13 * n + 1) nan;
-      vx = getD fs (13 * n + 2) nan;
-      vy = getD fs (13 * n + 3) nan;
-      p00 = getD fs (13 * n + 4) nan;
-      p01 = getD fs (13 * n + 5) nan;
-      p11 = getD fs (13 * n + 6) nan;
-      t = getD fs (13 * n + 7) nan;
-    })
-    (record { 0 = getD ts (6 * n + 1) 0 })
+frozenAt ts fs n = Frozen (kfIn fs (13 * n)) (record { 0 = getD ts (6 * n + 1) 0 })
 
+-- the frozen part of x among the m tracks from place n on, or none
 unfoldable pub partFrom : List ℕ → List Float → ℕ → ℕ → ℕ → Fold
 partFrom ts fs x n zero = Fresh
 partFrom ts fs x n (suc m) = cond (eqb x (getD ts (6 * n) 0)) (frozenAt ts fs n) (partFrom ts fs x (suc n) m)
@@ -52,6 +32,7 @@ partAmong ts fs m x = partFrom ts fs x 0 m
 
 -- ---- rows
 
+-- the cost of the window that has the row r and goes on from p
 abbrev pub rowCost : FgoConfig → View → Fold → List ℕ → Float
 rowCost c v p r = cost c p (dets v 0 r)
 
@@ -63,6 +44,7 @@ headOf c v p r k = run c p (dets v 0 (take k r))
 abbrev pub crossed : ℕ → List ℕ → List ℕ → List ℕ
 crossed g a b = take g a ++ drop g b
 
+-- the number of the held scan k
 abbrev pub scanAt : View → ℕ → ScanIndex
 scanAt v k = record { 0 = v .first + k }
 
@@ -74,6 +56,7 @@ onTo c v k g r f = run c f (dets v k (segment k g r))
 
 -- ---- what the inner functions ask
 
+-- the view of the dots that are lent for a search
 abbrev pub viewIn : Hall → List Float → View
 viewIn h dots = viewOf (h .first) dots
 

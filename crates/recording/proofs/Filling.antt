@@ -6,7 +6,7 @@ use mathlib.Core.Bool.{true}
 use native.Mathlib.Omega.{arith}
 use lib.ListN.{length, take, drop, take-append-drop}
 use lib.Seq.{drop-drop, drop-length}
-use borrow.Author.Tests.{le-leb}
+use borrow.Author.Tests.{lt-ltb, le-leb}
 use Rattle.engine.specs.Body.{rows}
 use Rattle.recording.specs.Recording.{count, offset, size, start, refusal, holds, bodyAt}
 use Rattle.recording.specs.Filled.{PassesFilled}
@@ -19,7 +19,7 @@ module _ (s : List ℕ) (e : refusal s ≡ 0) where
       let r = recorded s e in
       let p = r .places i h in
       let g = start-grows s i (count s) h in
-      rw (le-leb (100 + 8 * i) (length s) (omega (arith, r .table)), le-leb (offset s i + size s i) (length s) (omega (arith, p, g, r .whole)))
+      rw (le-leb (100 + 8 * i) (length s) (omega (arith, r .table)), lt-ltb i (count s) h, le-leb (offset s i + size s i) (length s) (omega (arith, p, g, r .whole)))
 
   body-is : (i : ℕ) → i < count s → bodyAt s i ≡ take (size s i) (drop (start s i) s)
   unfolding bodyAt

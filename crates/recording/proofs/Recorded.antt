@@ -2,7 +2,7 @@
 use Prim.Native.Nat.{ℕ, zero, suc, _+_, _*_, _<_, _≤_}
 use mathlib.Core.Path.{_≡_, refl}
 use mathlib.Core.List.{List}
-use mathlib.Core.Bool.{Bool, true, false, cond}
+use mathlib.Core.Bool.{Bool, true, false, cond, _&&_}
 use native.Mathlib.Omega.{arith}
 use native.Mathlib.Numerals.{add-one}
 use lib.ListN.{length}
@@ -60,4 +60,7 @@ recorded s e =
 -- what an entry that a recording holds tells
 pub held : (s : List ℕ) (i : ℕ) → holds s i ≡ true → (100 + 8 * i ≤ length s) × (offset s i + size s i ≤ length s)
 unfolding holds
-held s i e = let a = both (leb (100 + 8 * i) (length s)) (leb (offset s i + size s i) (length s)) e in (leb-true _ _ (a .0), leb-true _ _ (a .1))
+held s i e =
+    let a = both (leb (100 + 8 * i) (length s)) (ltb i (count s) && leb (offset s i + size s i) (length s)) e in
+    let b = both (ltb i (count s)) (leb (offset s i + size s i) (length s)) (a .1) in
+    (leb-true _ _ (a .0), leb-true _ _ (b .1))

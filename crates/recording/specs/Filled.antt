@@ -1,4 +1,4 @@
--- "The bodies exactly fill the rest, in order without gaps", as a law of what is read. Definitions only.
+-- The bodies "exactly fill the rest, in order without gaps", as a law of what is read. Definitions only.
 use Prim.Native.Nat.{ℕ, _+_, _*_, _<_}
 use mathlib.Core.Path.{_≡_}
 use mathlib.Core.List.{List, _++_, flatten}

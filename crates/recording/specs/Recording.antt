@@ -14,13 +14,15 @@ use Rattle.recording.specs.declared.Contents.{Contents}
 use Rattle.recording.specs.declared.Contents.the-variants.{Refused, Frames}
 
 module _ (s : List ℕ) where
-  -- field i of the settings, as a number, as an f64 and as an i64
+  -- field i of the settings, as a number
   abbrev field : ℕ → ℕ
   field i = little 8 s (8 * i)
 
+  -- field i as an f64
   abbrev real : ℕ → Float
   real i = ofBits binary64 (field i)
 
+  -- field i as an i64
   abbrev nanoseconds : ℕ → ℤ
   nanoseconds i = signed (field i)
 
@@ -58,7 +60,7 @@ module _ (s : List ℕ) where
   start zero = 92 + 8 * count
   start (suc i) = start i + size i
 
-  -- "the bodies exactly fill the rest, in order without gaps"
+  -- the bodies "exactly fill the rest, in order without gaps"
   unfoldable pub fills : Bool
   fills = all (λ i. eqb (offset i) (start i)) count && eqb (start count) (length s)
 
@@ -69,9 +71,9 @@ module _ (s : List ℕ) where
       (cond (ltb (length s) 92) 11
       (cond (ltb 256 count) 11 (cond (ltb (length s) (92 + 8 * count)) 11 (cond fills 0 12))))
 
-  -- the contents table has entry i, and the recording the bytes that it names
+  -- the contents table is there as far as entry i, has that entry, and the recording has the bytes that it names
   unfoldable pub holds : ℕ → Bool
-  holds i = leb (100 + 8 * i) (length s) && leb (offset i + size i) (length s)
+  holds i = leb (100 + 8 * i) (length s) && (ltb i count && leb (offset i + size i) (length s))
 
   -- the body of frame i; nothing where the recording does not hold one
   unfoldable pub bodyAt : ℕ → List ℕ

@@ -118,7 +118,7 @@ pub fn contents_of(s: &[u8]) -> Contents
     }
 }
 
-// The contents table has entry i, and the recording the bytes that it names.
+// The contents table is there as far as entry i, has that entry, and the recording has the bytes that it names.
 fn entry_holds(s: &[u8], i: usize) -> bool
     ensures { λ r. ⌜ r ≡ holds (now (s .entry)) i ⌝ }
 {
@@ -126,6 +126,9 @@ fn entry_holds(s: &[u8], i: usize) -> bool
         return false;
     }
     if (s.len() - 100) / 8 < i {
+        return false;
+    }
+    if count_of(s) <= i {
         return false;
     }
     offset_of(s, i) + size_of(s, i) <= s.len()

@@ -14,6 +14,7 @@ pub record SmootherFrame : Type 0 where
   pub words : List ℕ
   pub numbers : List Float
 
+-- the frame of two lists
 abbrev pub frame : List ℕ → List Float → SmootherFrame
 frame w x = record { words = w; numbers = x }
 
@@ -24,18 +25,23 @@ module _ (w : List ℕ) where
   abbrev pub time : ℤ
   time = signed (getD w 0 0)
 
+  -- "mode"
   abbrev pub modeWord : ℕ
   modeWord = getD w 1 0
 
+  -- "tracks": how many there are
   abbrev pub trackCount : ℕ
   trackCount = getD w 2 0
 
+  -- "associations": how many there are
   abbrev pub associationCount : ℕ
   associationCount = getD w 3 0
 
+  -- "sensors": how many there are
   abbrev pub sensorCount : ℕ
   sensorCount = getD w 4 0
 
+  -- "smoothed"
   abbrev pub smoothedWord : ℕ
   smoothedWord = getD w 5 0
 
@@ -43,12 +49,15 @@ module _ (w : List ℕ) where
   abbrev pub idWord : ℕ → ℕ
   idWord i = getD w (6 + 6 * i) 0
 
+  -- "lifecycle (0 tentative, 1 confirmed)" of track i
   abbrev pub lifecycleWord : ℕ → ℕ
   lifecycleWord i = getD w (6 + 6 * i + 1) 0
 
+  -- "class (2^32 if none)" of track i
   abbrev pub classWord : ℕ → ℕ
   classWord i = getD w (6 + 6 * i + 4) 0
 
+  -- "count" of track i
   abbrev pub countWord : ℕ → ℕ
   countWord i = getD w (6 + 6 * i + 5) 0
 
@@ -56,9 +65,11 @@ module _ (w : List ℕ) where
   abbrev pub associationsFrom : ℕ
   associationsFrom = 6 + 6 * trackCount
 
+  -- "outcome" of association j
   abbrev pub outcomeWord : ℕ → ℕ
   outcomeWord j = getD w (associationsFrom + 4 * j + 2) 0
 
+  -- "cost present" of association j
   abbrev pub costPresentWord : ℕ → ℕ
   costPresentWord j = getD w (associationsFrom + 4 * j + 3) 0
 
@@ -66,10 +77,11 @@ module _ (w : List ℕ) where
   abbrev pub sensorsFrom : ℕ
   sensorsFrom = associationsFrom + 4 * associationCount
 
+  -- sensor k
   abbrev pub sensorWord : ℕ → ℕ
   sensorWord k = getD w (sensorsFrom + k) 0
 
-  -- how many words and numbers the counts ask for
+  -- how many words the counts ask for
   abbrev pub wordsLong : ℕ
   wordsLong = sensorsFrom + sensorCount
 
@@ -77,12 +89,13 @@ module _ (w : List ℕ) where
   abbrev pub costsFrom : ℕ
   costsFrom = 42 * trackCount
 
+  -- how many numbers the counts ask for
   abbrev pub numbersLong : ℕ
   numbersLong = costsFrom + associationCount
 
 -- ---- 5: "frame malformed, or a count, code or time out of bounds"
 
--- "the same counts, codes and bound on the time (smoothed 0 or 1)", "at most C tracks"
+-- "the same counts, codes and bound on the time (smoothed 0 or 1; the refiner's is 0)", "at most C tracks"
 unfoldable pub headOk : ℕ → List ℕ → Bool
 headOk most w =
     leb 6 (length w)
@@ -91,7 +104,7 @@ headOk most w =
     && (leb (trackCount w) most
     && (leb (associationCount w) 32 && (leb (sensorCount w) 8 && leb (smoothedWord w) 1)))))
 
--- lifecycle 0 or 1, "class at most 2^32, count .. below 2^32"
+-- lifecycle 0 or 1, "class at most 2^32", and a count "below 2^32"
 unfoldable pub trackOk : List ℕ → ℕ → Bool
 trackOk w i = leb (lifecycleWord w i) 1 && (leb (classWord w i) (2 ^ 32) && ltb (countWord w i) (2 ^ 32))
 

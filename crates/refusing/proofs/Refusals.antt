@@ -16,7 +16,8 @@ use Rattle.model.specs.Refiner as model
 use Rattle.model.specs.Refiner.{State, refused, full8, full9, full10, idCount, join, firstOf, pushBy, pushRead, pushFrame}
 use Rattle.memory.specs.declared.state.FixedLagRefiner.{FixedLagRefiner}
 use Rattle.memory.specs.Memory.{Memory, scanIn, scansIn, entryIn, stateOf}
-use Rattle.refusing.specs.Refusing.{fullIn, joinedIn, numberOr, refusedBy, pushRefusal}
+use Rattle.ledger.specs.Sound.{orNone}
+use Rattle.refusing.specs.Refusing.{fullIn, joinedIn, refusedBy, pushRefusal}
 use Rattle.ledger.proofs.SoundLaw.{map-rows}
 
 module _ (r : FixedLagRefiner) (m : Memory) (s : List ℕ) where
@@ -61,7 +62,7 @@ module _ (r : FixedLagRefiner) (m : Memory) (s : List ℕ) where
   unfolding pushRefusal
   none-found = by (refusal narrow s) (fullIn r) _ _
     where
-      by : (n : ℕ) (a b d : Bool) → refusedBy n (numberOr (firstOf a b d)) ≡ 0 → (n ≡ 0) × (firstOf a b d ≡ none)
+      by : (n : ℕ) (a b d : Bool) → refusedBy n (orNone (firstOf a b d)) ≡ 0 → (n ≡ 0) × (firstOf a b d ≡ none)
       by zero true b d e = absurd (omega arith)
       by zero false true d e = absurd (omega arith)
       by zero false false true e = absurd (omega arith)
@@ -90,7 +91,7 @@ module _ (r : FixedLagRefiner) (m : Memory) (s : List ℕ) where
   unfolding pushRefusal
   push-refused k h = push-by ∙ by (refusal narrow s) (fullIn r) _ _ h
     where
-      by : (n : ℕ) (a b d : Bool) → refusedBy n (numberOr (firstOf a b d)) ≡ suc k → pushedBy n (firstOf a b d) ≡ (refused (suc k), t)
+      by : (n : ℕ) (a b d : Bool) → refusedBy n (orNone (firstOf a b d)) ≡ suc k → pushedBy n (firstOf a b d) ≡ (refused (suc k), t)
       by zero true b d e = ap (λ (i : ℕ). (refused i, t)) e
       by zero false true d e = ap (λ (i : ℕ). (refused i, t)) e
       by zero false false true e = ap (λ (i : ℕ). (refused i, t)) e

@@ -2,7 +2,6 @@
 use Prim.Native.Nat.{ℕ, zero, suc, _+_, _^_, _≤_}
 use mathlib.Core.Bool.{Bool, cond, _||_}
 use mathlib.Core.List.{List, [], _∷_, _++_, foldr}
-use mathlib.Core.Option.{Option, none, some}
 use lib.ListN.{length, drop}
 use lib.Dec.{leb, ltb}
 use Rattle.engine.specs.declared.types.Associated.{Associated}
@@ -13,7 +12,7 @@ use Rattle.model.specs.Windows.{detections}
 use Rattle.model.specs.Refiner.{firstOf, idCount, join}
 use Rattle.memory.specs.declared.state.FixedLagRefiner.{FixedLagRefiner}
 use Rattle.memory.specs.Memory.{scansIn}
-use Rattle.ledger.specs.Sound.{engineIn}
+use Rattle.ledger.specs.Sound.{engineIn, orNone}
 
 -- 8: "4,294,967,295 scans accepted, or next id or a counter above 2^60"
 unfoldable pub fullIn : FixedLagRefiner → Bool
@@ -36,11 +35,6 @@ joinEnd (Track e) l = cond (has (e .0) l) l (l ++ ((e .0) ∷ []))
 unfoldable pub joinedIn : List ℕ → ℕ → List ℕ → ℕ → List ℕ
 joinedIn owners owned s j = foldr (λ a. join (a .track)) (enginesIn owners owned) (drop j (frameOf narrow s .associations))
 
--- 0 for none
-abbrev pub numberOr : Option ℕ → ℕ
-numberOr none = 0
-numberOr (some n) = n
-
 -- 5, 6 or 7, else what comes after them
 abbrev pub refusedBy : ℕ → ℕ → ℕ
 refusedBy zero n = n
@@ -51,7 +45,7 @@ unfoldable pub pushRefusal : FixedLagRefiner → List ℕ → List ℕ → List 
 pushRefusal r bodies columns owners s =
     let ss = scansIn bodies columns (r .first .0) (r .held) in
     refusedBy (refusal narrow s)
-    (numberOr
+    (orNone
     (firstOf (fullIn r)
     (ltb 128 (r .frozen + detections ss + idCount (frameOf narrow s .associations)))
     (ltb 256 (length (joinedIn owners (r .owned) s 0)))))

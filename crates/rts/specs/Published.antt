@@ -1,30 +1,37 @@
--- The backward step of Rauch, Tung and Striebel (1965), as textbooks have it:
+-- The smoother of Rauch, Tung and Striebel (1965), as textbooks have it: from the last state, which stays as it was filtered, back by steps
 --     P⁻ = F P Fᵀ + Q,  G = P Fᵀ (P⁻)⁻¹,  x_s = x + G (x_s⁺ − F x),  P_s = P + G (P_s⁺ − P⁻) Gᵀ.
 -- Definitions only.
 use mathlib.Core.Path.{_≡_}
-use mathlib.Core.List.{List}
+use mathlib.Core.Bool.{true, false}
+use mathlib.Core.List.{List, [], _∷_}
 use Rattle.scalar.specs.Num.{Num}
 use Rattle.linalg.specs.Matrix.{identity, mul, mulVec, transpose, add, sub}
 use Rattle.models.specs.Motion.{cvF, cvQ}
-use Rattle.rts.specs.Smoothing.{Estimate}
+use Rattle.rts.specs.Smoothing.{Estimate, Later}
 
 -- from the filtered state (x, P) and the smoothed one after it, (x⁺, P⁺), over dt with the noise's density q, to the smoothed state r
 module _ (N : Num) (q dt : N .F) (filtered later r : Estimate (N .F)) where
+  -- F, the motion over dt at constant velocity
   abbrev F : List (N .F)
   F = cvF N dt
 
+  -- Q, the covariance of the noise over dt
   abbrev Q : List (N .F)
   Q = cvQ N dt q
 
+  -- x, the filtered state
   abbrev x : List (N .F)
   x = filtered .x
 
+  -- P, its covariance
   abbrev P : List (N .F)
   P = filtered .p
 
+  -- x⁺, the smoothed state after it
   abbrev x⁺ : List (N .F)
   x⁺ = later .x
 
+  -- P⁺, the covariance of that
   abbrev P⁺ : List (N .F)
   P⁺ = later .p
 
@@ -45,3 +52,24 @@ module _ (N : Num) (q dt : N .F) (filtered later r : Estimate (N .F)) where
     pub state : r .x ≡ add N 6 x (mulVec N G (sub N 6 x⁺ (mulVec N F x)))
     -- P_s = P + G (P⁺ − P⁻) Gᵀ
     pub covariance : r .p ≡ add N 36 P (mul N (mul N G (sub N 36 P⁺ P⁻)) (transpose N G))
+
+-- over a chain, with the noise's density q
+module _ (N : Num) (q : N .F) where
+  -- from a filtered state and the smoothed one after it to r: a step of Rauch, Tung and Striebel, but "dt ≤ 0.0 skips, keeping the later state"
+  pub record Stepped (dt : N .F) (filtered later r : Estimate (N .F)) : Type 0 where
+    pub skipped : N .le dt (N .zero) ≡ true → r ≡ later
+    pub taken : N .le dt (N .zero) ≡ false → RauchTungStriebel N q dt filtered later r
+
+  -- r is the smoothed form of the filtered state a, which the filtered states l follow: the last state itself, and before it a step back from the next one's
+  abbrev pub Published : Estimate (N .F) → List (Later (N .F)) → Estimate (N .F) → Type 0
+  Published a [] r = r ≡ a
+  Published a (b ∷ l) r = (s : Estimate (N .F)) × Published (b .state) l s × Stepped (b .dt) a s r
+
+-- a state's covariance is symmetric
+abbrev pub Symmetric : (N : Num) → Estimate (N .F) → Type 0
+Symmetric N a = transpose N (a .p) ≡ a .p
+
+-- that of a is, and those of the states l after it
+abbrev pub AllSymmetric : (N : Num) → Estimate (N .F) → List (Later (N .F)) → Type 0
+AllSymmetric N a [] = Symmetric N a
+AllSymmetric N a (b ∷ l) = Symmetric N a × AllSymmetric N (b .state) l

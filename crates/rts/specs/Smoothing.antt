@@ -1,6 +1,7 @@
--- One step of the backward pass over any arithmetic: each operation once, in the order of document 01. Definitions only.
+-- The backward pass over any arithmetic: one step, each operation once, in the order of document 01; and the recursion over a chain of states. Definitions only.
 use mathlib.Core.Bool.{cond}
-use mathlib.Core.List.{List}
+use mathlib.Core.List.{List, [], _∷_}
+use mathlib.Core.Option.{Option, none, some}
 use Rattle.scalar.specs.Num.{Num}
 use Rattle.linalg.specs.Matrix.{mul, mulVec, transpose, add, sub, halfSum}
 use Rattle.linalg.specs.Cholesky.{cholesky, positive, inverse}
@@ -18,6 +19,11 @@ pub record Answer (F : Type 0) : Type 0 where
   pub step : Step
   pub state : Estimate F
 
+-- a later state of a chain, and the time dt to it from the state before it
+pub record Later (F : Type 0) : Type 0 where
+  pub dt : F
+  pub state : Estimate F
+
 -- the state of x and p
 abbrev pub estimate : {F : Type 0} → List F → List F → Estimate F
 estimate x p = record { x = x; p = p }
@@ -25,6 +31,16 @@ estimate x p = record { x = x; p = p }
 -- the answer of a step and a state
 abbrev pub answer : {F : Type 0} → Step → Estimate F → Answer F
 answer r e = record { step = r; state = e }
+
+-- what a step leaves: "A failed Cholesky leaves the track unchanged"
+abbrev pub leftBy : {F : Type 0} → Step → Estimate F → Option (Estimate F)
+leftBy Smoothed s = some s
+leftBy Skipped s = some s
+leftBy Failed s = none
+
+-- what is left by its answer
+abbrev pub left : {F : Type 0} → Answer F → Option (Estimate F)
+left r = leftBy (r .step) (r .state)
 
 module _ (N : Num) where
   open Num N using (F, le, zero)
@@ -61,3 +77,13 @@ module _ (N : Num) where
   unfoldable pub back : F → F → Estimate F → Estimate F → Answer F
   back q dt a s =
       cond (le dt zero) (answer Skipped s) (cond (positive N (pPred q dt (a .p))) (answer Smoothed (smoothed q dt a s)) (answer Failed s))
+
+  -- from the state dt later, in its smoothed form, back to the state a; nothing where a later step has failed
+  abbrev pub backFrom : F → F → Estimate F → Option (Estimate F) → Option (Estimate F)
+  backFrom q dt a none = none
+  backFrom q dt a (some s) = left (back q dt a s)
+
+  -- from the chain's last state "back to the oldest", which is a and which the states l follow
+  abbrev pub backOver : F → Estimate F → List (Later F) → Option (Estimate F)
+  backOver q a [] = some a
+  backOver q a (b ∷ l) = backFrom q (b .dt) a (backOver q (b .state) l)

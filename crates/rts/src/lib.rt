@@ -22,7 +22,7 @@ ghost use Rattle.rts.specs.Smoothing.{estimate, answer};
 pub enum Step {
     // The later state is replaced by this one's smoothed form.
     Smoothed,
-    // dt is not above 0: the later state stays.
+    // dt is 0 or below: the later state stays.
     Skipped,
     // A pivot is not above 0: the later state stays.
     Failed,

@@ -4,12 +4,11 @@ use mathlib.Core.Bool.{Bool, true, false, _&&_}
 use mathlib.Core.List.{List, [], _∷_, map, foldl}
 use Prim.Native.Nat.{ℕ, _+_, _<_}
 use lib.Dec.{T, eqb, eqb→eq}
-use lib.ListN.{length, getD}
+use lib.ListN.{length, getD, drop}
 use lib.Ieee.{Float, nan, binary64, ofBits, toBits, round}
 use lib.Ieee.Bits.{ofBits-toBits}
 use lib.Ieee.Fits.{and-l, and-r, round-fits}
 use native.Mathlib.Numerals.{add-one}
-use lib.ListN.{drop}
 use lib.Seq.{drop-cons}
 use Rattle.scalar.specs.Ln.{reciprocal, oddsDown, seriesStep, lnSeries}
 

@@ -8,11 +8,10 @@ use native.Mathlib.Omega.{arith}
 use lib.Dec.{T, leb, lit<, lit≤}
 use lib.IntN.{ℤ}
 use lib.Pow.{pow-add, pow-pos}
-use lib.Ieee.{Float, fin, binary64, up, down, minus, size, odd, ofBits}
+use lib.Ieee.{Float, fin, binary64, up, down, minus, size, odd, ofBits, nanBits}
 use lib.Ieee.Digits.{minus-val}
 use lib.Ieee.Fits.{down-pos}
 use borrow.Author.Tests.{lt-leb, le-leb, le-ltb, ne-eqb}
-use lib.Ieee.{nanBits}
 use lib.Ieee.Bits.{nanBits-above}
 use Rattle.scalar.proofs.Positive.{oddly, odd-shift, size-exact, Shift}
 use Rattle.scalar.proofs.Floor.{near-is, root-big}

@@ -1,4 +1,4 @@
-// Numbers: the logarithm of document 01's "Arithmetic", the root as defined, and the small conversions that the crates above share.
+// Numbers: the logarithm of document 01's "Arithmetic" and the small conversions that the crates above share.
 pub mod bits;
 pub mod digits;
 pub mod log;

@@ -13,10 +13,10 @@ use Rattle.engine.specs.declared.config.FgoConfig.{FgoConfig}
 use Rattle.engine.specs.Config.{radius}
 use Rattle.model.specs.Lists.{keep, any, upFrom}
 use Rattle.model.specs.Windows.{Scan, Prefix, Dot, detOf, window}
-use Rattle.model.specs.Searching.{close, isCut, cuts}
+use Rattle.model.specs.Searching.{close, isCut, cuts, square}
 use Rattle.model.specs.Rule.{All}
 use Rattle.model.proofs.Counting.{keep-append, keep-const}
-use Rattle.nearness.specs.Near.{square, nearSlots, closeAt, closeScans}
+use Rattle.nearness.specs.Near.{nearSlots, closeAt, closeScans}
 use Rattle.pair_moves.specs.Pair.{cutAt, cutsOf}
 use Rattle.search.specs.Pass.{Scene, viewOn, rowOn, closeOn}
 use Rattle.windows.specs.Columns.{putBack}

@@ -14,7 +14,8 @@ use borrow.Author.Tests.{eq-eqb, ne-eqb}
 use Rattle.costs.specs.Cost.{View, Det, detAt, dets}
 use Rattle.model.specs.Lists.{any}
 use Rattle.model.proofs.Counting.{or-right}
-use Rattle.nearness.specs.Near.{square, apart2, nearSlots, closeAt}
+use Rattle.model.specs.Searching.{square}
+use Rattle.nearness.specs.Near.{apart2, nearSlots, closeAt}
 use Rattle.pair_moves.specs.Pair.{cutAt}
 
 pub or-left : (a b : Bool) → T a → T (a || b)

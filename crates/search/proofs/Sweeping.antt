@@ -8,9 +8,9 @@ use lib.ListN.{length}
 use Rattle.engine.specs.Config.{radius}
 use Rattle.model.specs.Lists.{keep, consIf}
 use Rattle.model.specs.Windows.{Scan, Prefix}
-use Rattle.model.specs.Searching.{Search as Model, Pair, consPair, cuts, pairsWith, pairs, pairStep as onPair, trackStep as onTrack}
+use Rattle.model.specs.Searching.{Search as Model, Pair, consPair, cuts, pairsWith, pairs, pairStep as onPair, trackStep as onTrack, square}
 use Rattle.model.specs.Rule.{All}
-use Rattle.nearness.specs.Near.{square, anyClose}
+use Rattle.nearness.specs.Near.{anyClose}
 use Rattle.pair_moves.specs.Pair.{cutsOf}
 use Rattle.search.specs.Pass.{Scene, Search, rowOn, closeOn, pairIf, pairStep, trackStep, sweepOne, sweep, visit}
 use Rattle.search.proofs.Standing.{Standing, scansNow}

@@ -10,7 +10,8 @@ use lib.Ieee.{Float}
 use Rattle.engine.specs.Config.{radius}
 use Rattle.windows.specs.declared.moves.Tally.{Tally}
 use Rattle.windows.specs.Rows.{Tabled}
-use Rattle.nearness.specs.Near.{square, anyClose, rowAt, CloseRows}
+use Rattle.model.specs.Searching.{square}
+use Rattle.nearness.specs.Near.{anyClose, rowAt, CloseRows}
 use Rattle.windows.specs.Moves.{pairStays}
 use Rattle.search.specs.Pass.{Scene, rowOn, closeOn, pairBest, pairStep, pairIf, sweepOne, sweep, Listed, Rests, Grows, Due, Stands}
 use Rattle.search.proofs.Listing.{listed-next, listed-end}

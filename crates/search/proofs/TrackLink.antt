@@ -1,9 +1,8 @@
 -- The best move of a track by its row is the model's. Takes as given that rows have the windows' detections.
 use Prim.Native.Nat.{ℕ, zero, suc, _+_, _<_}
-use native.Mathlib.Nat.{zero-add, eq-zero-or-pos, lt-irrefl}
+use native.Mathlib.Nat.{zero-add}
 use native.Mathlib.Omega.{arith}
 use mathlib.Core.Path.{_≡_, refl, sym, ap, _∙_}
-use mathlib.Core.Logic.{inl, inr}
 use mathlib.Core.Bool.{Bool, true, false, cond}
 use mathlib.Core.List.{List, [], _∷_, _++_, map, map-map, map-append, append-nil, foldl, foldl-append}
 use mathlib.Core.Option.{Option, none, some}
@@ -17,15 +16,16 @@ use Rattle.costs.specs.declared.cost.Fold.the-variants.{Fresh}
 use Rattle.costs.specs.Cost.{Det, View, detAt, dets, cost}
 use Rattle.model.specs.declared.moves.TrackMove.{TrackMove}
 use Rattle.model.specs.declared.moves.TrackMove.the-variants.{Split, Drop, Stay as Rest}
-use Rattle.model.specs.Lists.{keep, upFrom, times, find, isSome}
+use Rattle.model.specs.Lists.{keep, upFrom, find, isSome}
 use Rattle.model.specs.Windows.{Scan, Dot, Prefix, detOf, partOf, price, window}
 use Rattle.model.specs.Searching.{costOf, swapped, dropped, rest, droppable, trySplit, tryDrop, trackCandidates, bestOfTrack, betterTrack}
 use Rattle.model.specs.Rule.{All}
 use Rattle.model.specs.Faithful.{before, from, Regular}
 use Rattle.model.proofs.All.{All-keep, mem-All}
-use Rattle.model.proofs.Windows.{under-absent}
+use Rattle.model.proofs.Windows.{next-empty}
 use Rattle.model.proofs.Cutting.{swap-says, drop-says}
-use Rattle.track_moves.specs.Track.{marked, marks, frozenOne, trySplitRow, tryDropRow, bestSplitRow, bestDropRow, bestTrackRow}
+use Rattle.windows.specs.Moves.{hasSlot}
+use Rattle.track_moves.specs.Track.{marks, frozenOne, trySplitRow, tryDropRow, bestSplitRow, bestDropRow, bestTrackRow}
 use Rattle.search.specs.Pass.{Scene, viewOn, partOn, rowOn}
 use Rattle.search.proofs.Standing.{Standing, PartsOk, WindowRow, TrackBest, scansNow}
 use Rattle.search.proofs.RowDets.{dets-scans, dets-at}
@@ -47,16 +47,6 @@ rest-drop : (w : List Dot) → rest w ≡ drop 1 w
 unfolding rest
 rest-drop [] = refl
 rest-drop (d ∷ w) = refl
-
--- ---- the next id has no window
-
-next-empty : (next n : ℕ) (ss : List Scan) → 0 < next → All (λ s. (x : ℕ) → 0 < x → 0 < times x (s .ids) → x < next) ss → window next n ss ≡ []
-unfolding window
-next-empty next n [] h k = refl
-next-empty next n (s ∷ ss) h k = λ i. under-absent n (s .frame) next (s .frame .associations) (s .ids) unknown i ++ next-empty next (suc n) ss h (k .1) i
-  where
-    unknown : times next (s .ids) ≡ 0
-    unknown = elim (eq-zero-or-pos (times next (s .ids))) [ inl z ↦ z | inr p ↦ absurd (lt-irrefl next (k .0 next h p)) ]
 
 -- ---- the moves of a track
 
@@ -98,7 +88,7 @@ module _ (c : FgoConfig) (v : View) (ps : List (ℕ × Prefix)) (ss : List Scan)
         ∙ (λ i. t .heads i ++ t .tails i) in
         λ i. Drop (record { 0 = v .first + k }) (sub binary64 (add binary64 (cost-dets c (v .first) ps a p (sa .part) _ _ u i) (clutter c)) base)
 
-    drop-row : (k : ℕ) → T (marked r k) → dropMove (v .first + k) ≡ tryDropRow c v p r base k
+    drop-row : (k : ℕ) → T (hasSlot r k) → dropMove (v .first + k) ≡ tryDropRow c v p r base k
     drop-row k h = go (getD r k 0) refl
       where
         go : (s : ℕ) → getD r k 0 ≡ s → dropMove (v .first + k) ≡ tryDropRow c v p r base k
@@ -114,8 +104,8 @@ module _ (c : FgoConfig) (v : View) (ps : List (ℕ × Prefix)) (ss : List Scan)
     scans-row =
         sym (map-map (λ (d : Det). d .scan) (detOf c) (window a (v .first) ss))
         ∙ ap (map (λ (d : Det). d .scan)) (sa .row)
-        ∙ dets-scans v 0 r (marked r) (λ i. ap (marked r) (zero-add i))
-        ∙ ap (λ (n : ℕ). map (λ (k : ℕ). v .first + k) (keep (marked r) (upFrom 0 n))) long
+        ∙ dets-scans v 0 r (hasSlot r) (λ i. ap (hasSlot r) (zero-add i))
+        ∙ ap (λ (n : ℕ). map (λ (k : ℕ). v .first + k) (keep (hasSlot r) (upFrom 0 n))) long
 
     length-row : length (window a (v .first) ss) ≡ length (marks r)
     length-row =
@@ -137,8 +127,8 @@ module _ (c : FgoConfig) (v : View) (ps : List (ℕ × Prefix)) (ss : List Scan)
         ∙ ap (map dropMove) scans-row
         ∙ map-map dropMove (λ (k : ℕ). v .first + k) (marks r)
         ∙ map-same (λ (k : ℕ). dropMove (v .first + k)) (tryDropRow c v p r base) (marks r)
-        (All-keep (λ (k : ℕ). dropMove (v .first + k) ≡ tryDropRow c v p r base k) (marked r) (upFrom 0 17)
-        (mem-All (λ (k : ℕ). T (marked r k) → dropMove (v .first + k) ≡ tryDropRow c v p r base k) (upFrom 0 17) (λ k m. drop-row ha regular k)))
+        (All-keep (λ (k : ℕ). dropMove (v .first + k) ≡ tryDropRow c v p r base k) (hasSlot r) (upFrom 0 17)
+        (mem-All (λ (k : ℕ). T (hasSlot r k) → dropMove (v .first + k) ≡ tryDropRow c v p r base k) (upFrom 0 17) (λ k m. drop-row ha regular k)))
 
     frozen-one : cond (isSome (find a ps)) 1 0 ≡ frozenOne p
     frozen-one = go (find a ps) ∙ ap frozenOne (sym (sa .part))

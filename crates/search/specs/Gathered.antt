@@ -24,6 +24,7 @@ pub record GatheredScan (e : Scene) (ids : List ℕ) (k : ℕ) (s : Scan) : Type
   pub dots : (j : ℕ) → j < length (picked (s .ids) (s .frame .associations)) → detAt (viewOn e) k (getD (e .starts) k 0 + j) ≡ detOf (e .hall .config) (dotOf (e .hall .first .0 + k) (s .frame) (getD (picked (s .ids) (s .frame .associations)) j noAssociation))
   pub regular : Regular s
 
+-- the scans are gathered, of which the first is the k-th
 abbrev pub GatheredFrom : Scene → List ℕ → ℕ → List Scan → Type 0
 GatheredFrom e ids k [] = Unit {0}
 GatheredFrom e ids k (s ∷ ss) = GatheredScan e ids k s × GatheredFrom e ids (suc k) ss

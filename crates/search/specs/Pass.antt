@@ -14,7 +14,8 @@ use Rattle.model.specs.declared.moves.TrackMove.{TrackMove}
 use Rattle.pricing.specs.declared.price.Hall.{Hall}
 use Rattle.windows.specs.declared.moves.Tally.{Tally}
 use Rattle.windows.specs.Rows.{Starts, rowOf, presentIn}
-use Rattle.nearness.specs.Near.{square, closeScans, anyClose, rowAt, Entered}
+use Rattle.model.specs.Searching.{square}
+use Rattle.nearness.specs.Near.{closeScans, anyClose, rowAt, Entered}
 use Rattle.pricing.specs.Price.{viewIn, partAmong, rowCost}
 use Rattle.pair_moves.specs.Pair.{bestPairRow}
 use Rattle.track_moves.specs.Track.{bestTrackRow}
@@ -25,6 +26,7 @@ pub record Search : Type 0 where
   pub ids : List ℕ
   pub tally : Tally
 
+-- a number as a refined id
 abbrev pub idOf : ℕ → RefinedId
 idOf x = record { 0 = x }
 
@@ -36,9 +38,11 @@ pub record Scene : Type 0 where
   pub tracks : List ℕ
   pub filters : List Float
 
+-- the scene of what is lent
 abbrev pub sceneOf : Hall → List ℕ → List Float → List ℕ → List Float → Scene
 sceneOf h starts dots ts fs = record { hall = h; starts = starts; dots = dots; tracks = ts; filters = fs }
 
+-- the view of its dots
 abbrev pub viewOn : Scene → View
 viewOn e = viewIn (e .hall) (e .dots)
 
@@ -46,6 +50,7 @@ viewOn e = viewIn (e .hall) (e .dots)
 abbrev pub partOn : Scene → ℕ → Fold
 partOn e x = partAmong (e .tracks) (e .filters) (e .hall .frozen) x
 
+-- the row of x
 abbrev pub rowOn : Scene → List ℕ → ℕ → List ℕ
 rowOn e ids x = rowOf (e .starts) ids x
 
@@ -59,11 +64,13 @@ closeOn e a b = closeScans (square (radius (e .hall .config))) (e .dots) a b
 
 -- ---- a pair
 
+-- the best move of the pair a, b: "The base is the old cost of a plus the old cost of b"
 abbrev pub pairBest : Scene → List Bool → ℕ → ℕ → List ℕ → PairMove
 pairBest e close a b ids =
     bestPairRow (e .hall .config) (viewOn e) (idOf a) (idOf b) (partOn e a) (partOn e b) close (rowOn e ids a) (rowOn e ids b)
     (add binary64 (costOn e ids a) (costOn e ids b))
 
+-- what the move m of the pair a, b leaves
 abbrev pub pairMoved : Scene → PairMove → ℕ → ℕ → Search → Search
 pairMoved e m a b s =
     cond (pairStays m) s
@@ -72,6 +79,7 @@ pairMoved e m a b s =
       tally = pairTally m (s .tally);
     })
 
+-- the pair's best move, made
 unfoldable pub pairStep : Scene → List Bool → ℕ → ℕ → Search → Search
 pairStep e close a b s = pairMoved e (pairBest e close a b (s .ids)) a b s
 
@@ -84,20 +92,24 @@ unfoldable pub sweepOne : Scene → List ℕ → ℕ → List ℕ → Search →
 sweepOne e is a [] s = s
 sweepOne e is a (b ∷ l) s = sweepOne e is a l (pairIf e (closeOn e (rowOn e is a) (rowOn e is b)) a b s)
 
+-- "in ascending order, the pairs of tracks a < b": each of a list of ascending ids with those after it
 unfoldable pub sweep : Scene → List ℕ → List ℕ → Search → Search
 sweep e is [] s = s
 sweep e is (a ∷ l) s = sweep e is l (sweepOne e is a l s)
 
 -- ---- a track
 
+-- the best move of the track a: "for a move of a single track it is that track's old cost"
 abbrev pub trackBest : Scene → ℕ → List ℕ → TrackMove
 trackBest e a ids = bestTrackRow (e .hall .config) (viewOn e) (partOn e a) (rowOn e ids a) (costOn e ids a)
 
+-- what the move m of the track a leaves
 abbrev pub trackMoved : Scene → TrackMove → ℕ → Search → Search
 trackMoved e m a s =
     cond (trackStays m) s
     (record { ids = trackIds (e .hall .first .0) (e .starts) m a (s .tally .next) (s .ids); tally = trackTally m (s .tally) })
 
+-- the track's best move, made
 unfoldable pub trackStep : Scene → ℕ → Search → Search
 trackStep e a s = trackMoved e (trackBest e a (s .ids)) a s
 
@@ -108,6 +120,7 @@ visit e (a ∷ l) s = visit e l (trackStep e a s)
 
 -- ---- passes
 
+-- one pass: "After the pairs the pass visits each id present"
 unfoldable pub passOver : Scene → Search → Search
 passOver e s =
     let l = presentIn (e .hall .detections) (s .ids) in

@@ -27,9 +27,11 @@ pub record Buffers : Type 0 where
   pub words : List ℕ
   pub numbers : List Float
 
+-- the buffers that hold these four lists
 abbrev pub buffers : List ℕ → List Float → List ℕ → List Float → Buffers
 buffers win nums words numbers = record { window = win; values = nums; words = words; numbers = numbers }
 
+-- how long the lent buffers are
 abbrev pub lengths : Buffers → Lent
 lengths b =
     record {
@@ -52,12 +54,13 @@ answerOf (refused n) = Refused n
 answerOf waits = Held
 answerOf (gives f) = Frame (length (f .words)) (length (f .numbers))
 
--- what is put out
+-- the words that are put out
 abbrev pub wordsOut : Smoother.Answer → List ℕ
 wordsOut (refused n) = []
 wordsOut waits = []
 wordsOut (gives f) = f .words
 
+-- the numbers that are put out
 abbrev pub numbersOut : Smoother.Answer → List Float
 numbersOut (refused n) = []
 numbersOut waits = []
@@ -65,6 +68,7 @@ numbersOut (gives f) = f .numbers
 
 -- ---- the oldest frame leaves: it is put over the front of the output buffers, and "The rest stays"
 
+-- after the oldest frame left: the answer, the state and the output buffers
 pub record Released (s : FixedLagSmoother) (b : Buffers) (r : Told) (words′ : List ℕ) (numbers′ : List Float) : Type 0 where
   pub answer : r .answer ≡ answerOf (gives (oldest s (b .window) (b .values)))
   pub state : r .state ≡ fewer s
@@ -79,6 +83,7 @@ pub record Kept (given : FixedLagSmoother) (b : Buffers) (r : Told) (a : Buffers
   pub window : a .window ≡ b .window
   pub values : a .values ≡ b .values
 
+-- `Kept`, where the answer is a refusal
 abbrev pub KeptIf : Smoother.Answer → FixedLagSmoother → Buffers → Told → Buffers → Type 0
 KeptIf (refused n) given b r a = Kept given b r a
 KeptIf waits given b r a = Unit

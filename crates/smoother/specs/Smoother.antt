@@ -32,6 +32,7 @@ pub record Lent : Type 0 where
   pub outWords : ℕ
   pub outNumbers : ℕ
 
+-- what a call answers: a refusal's number, "held", or a frame
 pub data Answer : Type 0 where
   refused : ℕ → Answer
   waits : Answer
@@ -39,7 +40,7 @@ pub data Answer : Type 0 where
 
 -- ---- refusals
 
--- "lag 0 to 16, .. C tracks per frame, 1 to 128"
+-- "lag 0 to 16", and "C tracks per frame, 1 to 128"
 unfoldable pub bounded : ℕ → ℕ → Bool
 bounded lag most = leb lag 16 && (leb 1 most && leb most 128)
 
@@ -69,14 +70,17 @@ laterRefusal s b =
 
 -- ---- opening
 
+-- what an opening answers: a refusal's number, or the new state
 pub data Opening : Type 0 where
   unopened : ℕ → Opening
   opened : State → Opening
 
+-- by the refusal that the opening gets
 abbrev pub opensBy : ℕ → State → Opening
 opensBy zero s = opened s
 opensBy (suc n) s = unopened (suc n)
 
+-- opening: 1, 2, or a new smoother
 unfoldable pub opens : ℕ → Float → ℕ → ℕ → ℕ → Opening
 opens lag q most words numbers = opensBy (openRefusal lag q most words numbers) (new lag q most)
 
@@ -98,6 +102,7 @@ abbrev pub settleBy : Bool → State → Answer × State
 settleBy true s = release s (s .frames)
 settleBy false s = (waits, s)
 
+-- the answer where a frame was pushed, by how many are held
 unfoldable pub settle : State → Answer × State
 settle s = settleBy (ltb (s .lag) (length (s .frames))) s
 
@@ -106,19 +111,23 @@ abbrev pub pushFormed : Bool → State → SmootherFrame → Answer × State
 pushFormed true s f = settle (held s f)
 pushFormed false s f = (refused 5, s)
 
+-- by which of 2, 3 and 4 refuses the push
 abbrev pub pushBy : ℕ → State → SmootherFrame → Answer × State
 pushBy zero s f = pushFormed (wellFormed (s .most) f) s f
 pushBy (suc n) s f = (refused (suc n), s)
 
+-- push: 2, 3, 4, then 5
 unfoldable pub push : State → Lent → SmootherFrame → Answer × State
 push s b f = pushBy (laterRefusal s b) s f
 
 -- ---- take
 
+-- by which of 2, 3 and 4 refuses the take
 abbrev pub takesBy : ℕ → State → Answer × State
 takesBy zero s = release s (s .frames)
 takesBy (suc n) s = (refused (suc n), s)
 
+-- take: 2, 3, 4, then 13
 unfoldable pub takes : State → Lent → Answer × State
 takes s b = takesBy (laterRefusal s b) s
 

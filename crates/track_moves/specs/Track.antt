@@ -14,17 +14,15 @@ use Rattle.costs.specs.Cost.{View, dets, closed, cost}
 use Rattle.model.specs.declared.moves.TrackMove.{TrackMove}
 use Rattle.model.specs.declared.moves.TrackMove.the-variants.{Split, Drop, Stay as Rest}
 use Rattle.model.specs.Lists.{keep, upFrom}
-use Rattle.model.specs.Searching.{betterTrack}
-use Rattle.pricing.specs.Price.{_⊕_, _⊖_, rowCost, headOf, scanAt}
+use Rattle.model.specs.Searching.{_⊕_, _⊖_, betterTrack}
+use Rattle.windows.specs.Moves.{hasSlot}
+use Rattle.pricing.specs.Price.{rowCost, headOf, scanAt}
 
 -- ---- rows
 
-abbrev pub marked : List ℕ → ℕ → Bool
-marked r k = ltb 0 (getD r k 0)
-
 -- the scans in which a row has a detection
 unfoldable pub marks : List ℕ → List ℕ
-marks r = keep (marked r) (upFrom 0 17)
+marks r = keep (hasSlot r) (upFrom 0 17)
 
 -- ---- the best move of a track
 
@@ -36,6 +34,7 @@ trySplitRow c v p r base k = Split (scanAt v k) (rowCost c v p (take k r) ⊕ co
 unfoldable pub tryDropRow : FgoConfig → View → Fold → List ℕ → Float → ℕ → TrackMove
 tryDropRow c v p r base k = Drop (scanAt v k) (cost c p (dets v 0 (take k r) ++ dets v (suc k) (drop (suc k) r)) ⊕ clutter c ⊖ base)
 
+-- "plus 1 where there is a frozen part"
 abbrev pub frozenOne : Fold → ℕ
 frozenOne Fresh = 0
 frozenOne (Frozen k l) = 1
@@ -68,7 +67,7 @@ dropGain c v f r k base = cost c f (dets v (suc k) (drop (suc k) r)) ⊕ clutter
 -- for each detection before scan k what its drop gains
 pub record Dropped (c : FgoConfig) (v : View) (p : Fold) (r : List ℕ) (base : Float) (k : ℕ) (gains : List Float) : Type 0 where
   pub long : length gains ≡ 17
-  pub each : (j : ℕ) → j < k → marked r j ≡ true → getD gains j nan ≡ dropGain c v (headOf c v p r j) r j base
+  pub each : (j : ℕ) → j < k → hasSlot r j ≡ true → getD gains j nan ≡ dropGain c v (headOf c v p r j) r j base
 
 -- the best so far, or the drop of a detection, by what each gains; first is the number of the oldest scan
 unfoldable pub bestDropBy : ℕ → List Float → List ℕ → TrackMove → TrackMove

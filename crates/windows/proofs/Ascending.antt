@@ -1,4 +1,4 @@
--- Ascending lists held at the start of an array.
+-- Ascending lists held at the start of an array. Assumes nothing.
 use mathlib.Core.Path.{_≡_, refl, sym, ap, _∙_}
 use mathlib.Core.List.{List, [], _∷_, _++_, foldr}
 use mathlib.Core.Bool.{Bool, true, false, cond}

@@ -1,4 +1,4 @@
--- The gathered ids renamed, scan by scan.
+-- The gathered ids renamed, scan by scan. Assumes nothing.
 use mathlib.Core.Path.{_≡_, refl, sym, ap, _∙_, subst}
 use mathlib.Core.List.{List, map}
 use Prim.Native.Nat.{ℕ, zero, suc, _+_, _-_, _≤_, _<_}

@@ -1,4 +1,4 @@
--- Parts of a list, and a part of a list changed.
+-- Parts of a list, and a part of a list changed. Assumes nothing.
 use mathlib.Core.Path.{_≡_, refl, sym, ap, _∙_}
 use mathlib.Core.List.{List, [], _∷_, _++_, map, append-assoc}
 use Prim.Native.Nat.{ℕ, zero, suc, _+_, _-_, _≤_, _<_}

@@ -1,6 +1,6 @@
 -- What a move does to the gathered ids, and what it counts. Definitions only.
 use Prim.Native.Nat.{ℕ, zero, suc, _+_}
-use mathlib.Core.Bool.{Bool, true, false, cond}
+use mathlib.Core.Bool.{Bool, true, false, cond, not}
 use mathlib.Core.List.{List, _++_, map}
 use lib.ListN.{getD, take, drop}
 use lib.Dec.{eqb, leb, ltb}
@@ -9,6 +9,7 @@ use Rattle.model.specs.declared.moves.PairMove.{PairMove}
 use Rattle.model.specs.declared.moves.PairMove.the-variants.{Stay, Swap, Merge}
 use Rattle.model.specs.declared.moves.TrackMove.{TrackMove}
 use Rattle.model.specs.declared.moves.TrackMove.the-variants.{Split, Drop, Stay as Rest}
+use Rattle.model.specs.Searching.{pairMoves, trackMoves}
 use Rattle.windows.specs.Rows.{segment}
 use Rattle.windows.specs.declared.moves.Targets.{Targets}
 use Rattle.windows.specs.declared.moves.Tally.{Tally}
@@ -17,14 +18,16 @@ use Rattle.windows.specs.declared.moves.Tally.{Tally}
 abbrev pub retarget : ℕ → ℕ → Targets → ℕ → ℕ
 retarget a b t i = cond (eqb a i) (t .a) (cond (eqb b i) (t .b) i)
 
+-- a and b stay as they are
 abbrev pub same : ℕ → ℕ → Targets
 same a b = record { a = a; b = b }
 
--- in a scan of a merge the keeper's own detection is kept, or the other's: what becomes of the keeper k and of the other; hk and ho say which have one
+-- what becomes of the keeper k in a scan of a merge, where its own detection is kept or else the other's; ho says whether the other has one
 abbrev pub keeperTarget : Bool → Bool → ℕ → ℕ
 keeperTarget true ho k = k
 keeperTarget false ho k = cond ho 0 k
 
+-- what becomes of the other: its detection goes to the keeper k, or to clutter where k's own is kept; hk says whether k has one
 abbrev pub otherTarget : Bool → Bool → ℕ → ℕ
 otherTarget true hk k = cond hk 0 k
 otherTarget false hk k = k
@@ -54,6 +57,7 @@ renamedFrom starts a b t k zero ids = ids
 renamedFrom starts a b t k (suc n) ids =
     renamedFrom starts a b t (suc k) n (over (retarget a b (t k)) (getD starts k 0) (getD starts (suc k) 0) ids)
 
+-- a row has a detection in scan k
 abbrev pub hasSlot : List ℕ → ℕ → Bool
 hasSlot r k = ltb 0 (getD r k 0)
 
@@ -67,40 +71,44 @@ trackIds first starts m a x ids = renamedFrom starts a x (λ k. trackTargets m a
 
 -- ---- counting, far below where a word ends
 
+-- one more; a number from 2^63 on stays
 abbrev pub oneMore : ℕ → ℕ
 oneMore n = cond (ltb n 9223372036854775808) (n + 1) n
 
+-- the pair stays as it is
 abbrev pub pairStays : PairMove → Bool
-pairStays Stay = true
-pairStays (Swap f g) = false
-pairStays (Merge k own g) = false
+pairStays m = not (pairMoves m)
 
+-- the track stays as it is
 abbrev pub trackStays : TrackMove → Bool
-trackStays Rest = true
-trackStays (Split f g) = false
-trackStays (Drop f g) = false
+trackStays m = not (trackMoves m)
 
 -- a pass begins: it has made no move yet
 abbrev pub begun : Tally → Tally
 begun t = record { next = t .next; counters = t .counters; passes = oneMore (t .passes); moved = false }
 
+-- the counters after a move of a pair
 abbrev pub pairCounters : PairMove → FgoCounters → FgoCounters
 pairCounters Stay k = k
 pairCounters (Swap f g) k = record { swaps = oneMore (k .swaps); merges = k .merges; splits = k .splits; drops = k .drops }
 pairCounters (Merge i own g) k = record { swaps = k .swaps; merges = oneMore (k .merges); splits = k .splits; drops = k .drops }
 
+-- the tally after a move of a pair
 abbrev pub pairTally : PairMove → Tally → Tally
 pairTally m t = record { next = t .next; counters = pairCounters m (t .counters); passes = t .passes; moved = true }
 
+-- the counters after a move of a single track
 abbrev pub trackCounters : TrackMove → FgoCounters → FgoCounters
 trackCounters Rest k = k
 trackCounters (Split f g) k = record { swaps = k .swaps; merges = k .merges; splits = oneMore (k .splits); drops = k .drops }
 trackCounters (Drop f g) k = record { swaps = k .swaps; merges = k .merges; splits = k .splits; drops = oneMore (k .drops) }
 
+-- the next id after a move of a single track: the tail of a split "gets the next id"
 abbrev pub nextId : TrackMove → ℕ → ℕ
 nextId Rest n = n
 nextId (Split f g) n = oneMore n
 nextId (Drop f g) n = n
 
+-- the tally after a move of a single track
 abbrev pub trackTally : TrackMove → Tally → Tally
 trackTally m t = record { next = nextId m (t .next); counters = trackCounters m (t .counters); passes = t .passes; moved = true }

@@ -8,7 +8,7 @@ use model::moves::FgoCounters;
 use model::moves::PairMove;
 use model::moves::TrackMove;
 ghost use mathlib.Core.Path.{_≡_};
-ghost use Prim.Native.Nat.{_+_, _≤_, _<_};
+ghost use Prim.Native.Nat.{_≤_, _<_};
 ghost use lib.ListN.{length};
 ghost use Rattle.windows.specs.Rows.{Starts};
 ghost use Rattle.windows.specs.Moves.{retarget, keeperTarget, otherTarget, pairTargets, trackTargets, over, pairIds, trackIds, oneMore, pairStays, trackStays, begun, pairCounters, pairTally, trackCounters, nextId, trackTally};

@@ -140,7 +140,7 @@ pub fn end_of(row: &[usize; SCANS]) -> usize
 }
 
 // A row, its first scan and its end, as entry i of the table. It asks for a row whose entries fit a byte.
-fn put_entry<'a>(i: usize, row: &[usize; SCANS], rows: &mut [u8; ROWS])
+fn put_entry(i: usize, row: &[usize; SCANS], rows: &mut [u8; ROWS])
     requires { ⌜ (i < 128) × (length (now row) ≡ 17) × ((k : ℕ) → k < 17 → getD (now row) k 0 < 256) × (length (now rows) ≡ 2432) ⌝ }
     ensures { λ r. ⌜ now (rows .exit) ≡ take (19 * i) (now (rows .entry)) ++ (entryOf (now (row .entry)) ++ drop (19 * i + 19) (now (rows .entry))) ⌝ }
 {

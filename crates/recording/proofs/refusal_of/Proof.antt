@@ -2,10 +2,9 @@
 use native.Mathlib.Omega.{arith}
 use lib.ListN.{length}
 use Prim.Native.Nat.{_+_, _*_}
-use Rattle.recording.specs.Recording.{count}
+use Rattle.recording.specs.Recording.{count, refusal}
 use mathlib.Core.Path.{sym, _∙_}
 use borrow.Author.Tests.{le-ltb, lt-ltb}
-use Rattle.recording.specs.Recording.{refusal}
 use borrow.Author.Needs.{needs}
 use Rattle.recording.proofs.refusal_of.Statement.{statement}
 use Rattle.recording.proofs.refusal_of.Tie as tie

@@ -8,9 +8,9 @@ use Rattle.scalar.specs.Scalar.{secondsOf, signed}
 use Rattle.scalar.specs.F64.{f64}
 use Rattle.rts.specs.declared.Step.{Step}
 use Rattle.rts.specs.declared.Step.the-variants.{Smoothed, Skipped, Failed}
-use Rattle.rts.specs.Smoothing.{Estimate, answer, back}
+use Rattle.rts.specs.Smoothing.{Estimate, answer, leftBy, left, back}
 use Rattle.backward.specs.declared.pass.Passed.{Passed}
-use Rattle.backward.specs.Pass.{leftBy, left, backOne}
+use Rattle.backward.specs.Pass.{backOne}
 use Rattle.backward.specs.Window.{estimateOf, passedOf}
 use borrow.Author.Needs.{needs}
 use Rattle.backward.proofs.pass.joined.Statement.{statement}

@@ -3,12 +3,11 @@ use borrow.Author.Needs.{needs}
 use mathlib.Core.Path.{sym, subst}
 use native.Mathlib.Omega.{arith}
 use lib.Dec.{T}
-use lib.Ieee.{binary64, fits}
+use lib.Ieee.{binary64, fits, toBits}
 use denote.Ref.{now}
 use Rattle.scalar.proofs.Positive.{positive-no-nan}
 use Rattle.costs.proofs.Logs.{found, stored}
 use Prim.Native.Nat.{_<_, _%_}
-use lib.Ieee.{toBits}
 use Rattle.costs.proofs.cost.log_of.Statement.{statement}
 use Rattle.costs.proofs.cost.log_of.Tie as tie
 

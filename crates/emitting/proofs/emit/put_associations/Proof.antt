@@ -100,7 +100,7 @@ loop-again c = let s = c .before .before .before .before .before .before .before
     let words = c .before .before .before .before .before .before .before .before .before .before .loop .words in
     let said =
     c .before .before .before .before .before .association-words .ensures
-    ∙ ap (λ (a : Association). associationWords a (c .before .before .before .before .before .before .id-at .result)) (c .before .before .before .before .before .before .before .association .ensures (c .before .before .before .before .before .before .before .before .before .before .before .before .before .pre .0))
+    ∙ ap (λ (a : Association). associationWords a (c .before .before .before .before .before .before .id-at .result)) (c .before .before .before .before .before .before .before .association .ensures .1 (c .before .before .before .before .before .before .before .before .before .before .before .before .before .pre .0))
     ∙ ap (associationWords (associationIn s j)) (c .before .before .before .before .before .before .id-at .ensures) in
     (omega (arith, c .before .before .before .before .before .before .before .before .before .association-count .ensures), next (c .before .before .before .before .before .before .before .before .before .before .before .before .before .args .columns .now) (c .before .before .before .before .before .before .before .before .before .before .before .before .before .args .n .0) s o (omega (arith, c .before .before .before .before .before .before .before .before .before .association-count .ensures)) (c .before .before .before .before .before .before .before .before .before .before .before .before .before .pre .1) (c .before .before .before .before .before .before .before .before .before .before .loop .inv .1) (c .before .before .put-words .ensures ∙ ap (λ (l : List ℕ). over (o + 4 * j) l words) said))
 

@@ -53,7 +53,7 @@ loop-again c = let s = c .before .before .before .before .before .before .before
     writes-more _ _ _ (costNumber (noAssociation .cost)) _ (c .before .before .before .before .loop .inv)
     (omega (arith, costs-long (s .args .s .now), c .before .before .before .association-count .ensures))
     (c .cost-number .ensures
-    ∙ ap (λ (a : Association). costNumber (a .cost)) (c .before .association .ensures (s .pre .0))
+    ∙ ap (λ (a : Association). costNumber (a .cost)) (c .before .association .ensures .1 (s .pre .0))
     ∙ sym (List·getD-map (λ (a : Association). costNumber (a .cost)) l j noAssociation))
 
 same-length : tie.Need-same-length Inv-loop μ-loop

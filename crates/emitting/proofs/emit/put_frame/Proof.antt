@@ -21,7 +21,7 @@ passes c = rw (c .body-in .ensures) (c .before .before .before .pre .passes)
 
 -- the time that is read is that of the scan
 time-is : (c : tie.After-time-of) → toZ w64 (ofZ w64 (c .time-of .result)) ≡ frameOf narrow (now (c .before .body-in .result)) .time
-time-is c = passed-on (c .time-of .result) (c .time-of .ok) ∙ c .time-of .ensures (passes (c .before))
+time-is c = passed-on (c .time-of .result) (c .time-of .ok) ∙ c .time-of .ensures .1 (passes (c .before))
 
 -- at most 128 tracks are listed
 few : (c : tie.After-put-tracks) → c .put-tracks .result ≤ 128

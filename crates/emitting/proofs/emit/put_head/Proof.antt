@@ -34,7 +34,7 @@ same-length c = search needs
 
 returns : tie.Need-returns
 returns c = let at-time = c .before .before .before .before .before .before .before .before .before .before in
-    let time = at-time .time-of .ensures (at-time .before .before .before .pre .0) in
+    let time = at-time .time-of .ensures .1 (at-time .before .before .before .pre .0) in
     c .before .before .put-words .ensures
     ∙ rw (c .before .before .before .before .before .before .before .before .before .to-word .ensures, passed-on _ (at-time .time-of .ok), time, c .before .before .before .before .before .before .number .ensures, c .before .before .before .before .before .before .before .mode .ensures, c .before .before .before .before .before .before .before .before .association-count .ensures, c .before .before .before .before .before .sensor-count .ensures)
 

@@ -38,7 +38,7 @@ loop-less : tie.Need-loop-less Inv-loop μ-loop
 loop-less c = omega (arith, c .before .before .sensor-count .ensures)
 
 loop-again : tie.Need-loop-again Inv-loop μ-loop
-loop-again c = writes-more _ _ _ 0 _ (c .before .before .before .loop .inv) (omega (arith, sensors-long (c .before .before .before .before .before .before .args .s .now), c .before .before .sensor-count .ensures)) (c .sensor .ensures (c .before .before .before .before .before .before .pre .0))
+loop-again c = writes-more _ _ _ 0 _ (c .before .before .before .loop .inv) (omega (arith, sensors-long (c .before .before .before .before .before .before .args .s .now), c .before .before .sensor-count .ensures)) (c .sensor .ensures .1 (c .before .before .before .before .before .before .pre .0))
 
 same-length : tie.Need-same-length Inv-loop μ-loop
 same-length c = c .before .before .loop .inv .long

@@ -2,8 +2,6 @@
 use Prim.Native.Nat.{suc, _-_}
 use mathlib.Core.Path.{_≡_}
 use native.Mathlib.Omega.{arith}
-use mathlib.Core.Path.{_≡_}
-use Prim.Native.Nat.{suc}
 use borrow.Author.Needs.{needs}
 use Rattle.engine.proofs.body.associated_of.Statement.{statement}
 use Rattle.engine.proofs.body.associated_of.Tie as tie

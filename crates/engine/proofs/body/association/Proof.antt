@@ -1,9 +1,9 @@
 -- `engine::body::association` meets its contract. Assumes nothing.
-use mathlib.Core.Path.{sym, _∙_}
+use mathlib.Core.Path.{_∙_}
 use native.Mathlib.Omega.{arith}
-use Rattle.engine.specs.Body.{narrow, frameOf}
+use Rattle.engine.specs.Body.{narrow}
 use Rattle.engine.proofs.Bytes.{little-below}
-use Rattle.engine.proofs.Passing.{sized-body, row-at, row-past}
+use Rattle.engine.proofs.Reading.{and-where, read-past, read-short, read-there, association-passed}
 use Rattle.engine.proofs.body.association.Statement.{statement}
 use Rattle.engine.proofs.body.association.Tie as tie
 
@@ -14,8 +14,7 @@ no-association-requires : tie.Need-no-association-requires
 no-association-requires c κs = tt
 
 returns : tie.Need-returns
-unfolding frameOf
-returns c = λ e. c .no-association .ensures ∙ sym (row-past _ _ _ _ (rw (c .before .before .association-count .ensures) at (c .before .if1 .taken)))
+returns c = and-where (association-passed narrow _ _) (c .no-association .ensures ∙ read-past _ _ _ _ _ _ _ (rw (c .before .before .association-count .ensures) at (c .before .if1 .taken)))
 
 associations-from-requires : tie.Need-associations-from-requires
 associations-from-requires c κs = tt
@@ -33,14 +32,13 @@ no-association-requires-2 : tie.Need-no-association-requires-2
 no-association-requires-2 c κs = tt
 
 returns-2 : tie.Need-returns-2
-returns-2 c = λ e. absurd (omega (arith, sized-body narrow (c .before .before .before .before .before .before .args .s .now) e .exact, c .before .before .before .before .association-count .ensures, c .before .before .associations-from .ensures))
+returns-2 c = and-where (association-passed narrow _ _) (c .no-association2 .ensures ∙ read-short _ _ _ _ _ _ _ (rw (c .before .before .before .before .association-count .ensures) at (c .before .before .before .if1 .left)) (rw (c .before .before .associations-from .ensures) at (c .before .if2 .taken)))
 
 association-at-requires : tie.Need-association-at-requires
 association-at-requires c κs = omega arith
 
 returns-3 : tie.Need-returns-3
-unfolding frameOf
-returns-3 c = λ e. rw (c .before .before .associations-from .ensures) at (c .association-at .ensures) ∙ sym (row-at _ _ _ _ (rw (c .before .before .before .before .association-count .ensures) at (c .before .before .before .if1 .left)))
+returns-3 c = and-where (association-passed narrow _ _) (rw (c .before .before .associations-from .ensures) at (c .association-at .ensures) ∙ read-there _ _ _ _ _ _ _ (rw (c .before .before .before .before .association-count .ensures) at (c .before .before .before .if1 .left)) (rw (c .before .before .associations-from .ensures) at (c .before .if2 .left)))
 
 pub association-spec : {M : Type 1} → statement M
 association-spec =

@@ -1,9 +1,9 @@
 -- `engine::body::observation` meets its contract. Assumes nothing.
-use mathlib.Core.Path.{sym, _∙_}
+use mathlib.Core.Path.{_∙_}
 use native.Mathlib.Omega.{arith}
-use Rattle.engine.specs.Body.{narrow, frameOf}
+use Rattle.engine.specs.Body.{narrow}
 use Rattle.engine.proofs.Bytes.{little-below}
-use Rattle.engine.proofs.Passing.{sized-body, row-at, row-past}
+use Rattle.engine.proofs.Reading.{and-where, read-past, read-short, read-there, observation-passed}
 use Rattle.engine.proofs.body.observation.Statement.{statement}
 use Rattle.engine.proofs.body.observation.Tie as tie
 
@@ -14,8 +14,7 @@ no-observation-requires : tie.Need-no-observation-requires
 no-observation-requires c κs = tt
 
 returns : tie.Need-returns
-unfolding frameOf
-returns c = λ e. c .no-observation .ensures ∙ sym (row-past _ _ _ _ (rw (c .before .before .observation-count .ensures) at (c .before .if1 .taken)))
+returns c = and-where (observation-passed narrow _ _) (c .no-observation .ensures ∙ read-past _ _ _ _ _ _ _ (rw (c .before .before .observation-count .ensures) at (c .before .if1 .taken)))
 
 observations-from-requires : tie.Need-observations-from-requires
 observations-from-requires c κs = tt
@@ -33,14 +32,13 @@ no-observation-requires-2 : tie.Need-no-observation-requires-2
 no-observation-requires-2 c κs = tt
 
 returns-2 : tie.Need-returns-2
-returns-2 c = λ e. absurd (omega (arith, sized-body narrow (c .before .before .before .before .before .before .args .s .now) e .exact, c .before .before .before .before .observation-count .ensures, c .before .before .observations-from .ensures))
+returns-2 c = and-where (observation-passed narrow _ _) (c .no-observation2 .ensures ∙ read-short _ _ _ _ _ _ _ (rw (c .before .before .before .before .observation-count .ensures) at (c .before .before .before .if1 .left)) (rw (c .before .before .observations-from .ensures) at (c .before .if2 .taken)))
 
 observation-at-requires : tie.Need-observation-at-requires
 observation-at-requires c κs = omega arith
 
 returns-3 : tie.Need-returns-3
-unfolding frameOf
-returns-3 c = λ e. rw (c .before .before .observations-from .ensures) at (c .observation-at .ensures) ∙ sym (row-at _ _ _ _ (rw (c .before .before .before .before .observation-count .ensures) at (c .before .before .before .if1 .left)))
+returns-3 c = and-where (observation-passed narrow _ _) (rw (c .before .before .observations-from .ensures) at (c .observation-at .ensures) ∙ read-there _ _ _ _ _ _ _ (rw (c .before .before .before .before .observation-count .ensures) at (c .before .before .before .if1 .left)) (rw (c .before .before .observations-from .ensures) at (c .before .if2 .left)))
 
 pub observation-spec : {M : Type 1} → statement M
 observation-spec =

@@ -1,8 +1,8 @@
 -- `engine::body::sensor` meets its contract. Assumes nothing.
-use mathlib.Core.Path.{sym, _∙_}
+use mathlib.Core.Path.{_∙_}
 use native.Mathlib.Omega.{arith}
-use Rattle.engine.specs.Body.{narrow, frameOf}
-use Rattle.engine.proofs.Passing.{sized-body, row-at, row-past}
+use Rattle.engine.specs.Body.{narrow}
+use Rattle.engine.proofs.Reading.{and-where, read-past, read-short, read-there, sensor-passed}
 use Rattle.engine.proofs.body.sensor.Statement.{statement}
 use Rattle.engine.proofs.body.sensor.Tie as tie
 
@@ -10,8 +10,7 @@ sensor-count-requires : tie.Need-sensor-count-requires
 sensor-count-requires c κs = tt
 
 returns : tie.Need-returns
-unfolding frameOf
-returns c = λ e. sym (row-past _ _ _ _ (rw (c .before .sensor-count .ensures) at (c .if1 .taken)))
+returns c = and-where (sensor-passed narrow _ _) (read-past _ _ _ _ _ _ _ (rw (c .before .sensor-count .ensures) at (c .if1 .taken)))
 
 sensors-from-requires : tie.Need-sensors-from-requires
 sensors-from-requires c κs = tt
@@ -26,14 +25,13 @@ add-if2 : tie.Need-add-if2
 add-if2 c = record { fits = omega (arith, c .before .before .sensor-count .ensures, c .sensors-from .ensures, c .before .before .before .shared-slice-known .given 1 .fits, c .before .before .before .shared-slice-known .given 4 .fits) }
 
 returns-2 : tie.Need-returns-2
-returns-2 c = λ e. absurd (omega (arith, sized-body narrow (c .before .before .before .before .before .args .s .now) e .exact, c .before .before .before .sensor-count .ensures, c .before .sensors-from .ensures))
+returns-2 c = and-where (sensor-passed narrow _ _) (read-short _ _ _ _ _ _ _ (rw (c .before .before .before .sensor-count .ensures) at (c .before .before .if1 .left)) (rw (c .before .sensors-from .ensures) at (c .if2 .taken)))
 
 u32-at-requires : tie.Need-u32-at-requires
 u32-at-requires c κs = omega arith
 
 returns-3 : tie.Need-returns-3
-unfolding frameOf
-returns-3 c = λ e. rw (c .before .before .sensors-from .ensures) at (c .u32-at .ensures) ∙ sym (row-at _ _ _ _ (rw (c .before .before .before .before .sensor-count .ensures) at (c .before .before .before .if1 .left)))
+returns-3 c = and-where (sensor-passed narrow _ _) (rw (c .before .before .sensors-from .ensures) at (c .u32-at .ensures) ∙ read-there _ _ _ _ _ _ _ (rw (c .before .before .before .before .sensor-count .ensures) at (c .before .before .before .if1 .left)) (rw (c .before .before .sensors-from .ensures) at (c .before .if2 .left)))
 
 pub sensor-spec : {M : Type 1} → statement M
 sensor-spec =

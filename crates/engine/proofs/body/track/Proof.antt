@@ -1,8 +1,8 @@
 -- `engine::body::track` meets its contract. Assumes nothing.
-use mathlib.Core.Path.{sym, _∙_}
+use mathlib.Core.Path.{_∙_}
 use native.Mathlib.Omega.{arith}
-use Rattle.engine.specs.Body.{narrow, frameOf}
-use Rattle.engine.proofs.Passing.{sized-body, row-at, row-past}
+use Rattle.engine.specs.Body.{narrow}
+use Rattle.engine.proofs.Reading.{and-where, read-past, read-short, read-there, track-passed}
 use Rattle.engine.proofs.body.track.Statement.{statement}
 use Rattle.engine.proofs.body.track.Tie as tie
 
@@ -13,8 +13,7 @@ no-track-requires : tie.Need-no-track-requires
 no-track-requires c κs = tt
 
 returns : tie.Need-returns
-unfolding frameOf
-returns c = λ e. c .no-track .ensures ∙ sym (row-past _ _ _ _ (rw (c .before .before .track-count .ensures) at (c .before .if1 .taken)))
+returns c = and-where (track-passed narrow _ _) (c .no-track .ensures ∙ read-past _ _ _ _ _ _ _ (rw (c .before .before .track-count .ensures) at (c .before .if1 .taken)))
 
 mul-o : tie.Need-mul-o
 mul-o c = record { fits = omega (arith, c .before .track-count .ensures, c .before .before .shared-slice-known .given 1 .fits) }
@@ -29,14 +28,13 @@ no-track-requires-2 : tie.Need-no-track-requires-2
 no-track-requires-2 c κs = tt
 
 returns-2 : tie.Need-returns-2
-returns-2 c = λ e. absurd (omega (arith, sized-body narrow (c .before .before .before .before .before .args .s .now) e .exact, c .before .before .before .track-count .ensures))
+returns-2 c = and-where (track-passed narrow _ _) (c .no-track2 .ensures ∙ read-short _ _ _ _ _ _ _ (rw (c .before .before .before .track-count .ensures) at (c .before .before .if1 .left)) (c .before .if2 .taken))
 
 track-at-requires : tie.Need-track-at-requires
 track-at-requires c κs = omega arith
 
 returns-3 : tie.Need-returns-3
-unfolding frameOf
-returns-3 c = λ e. c .track-at .ensures ∙ sym (row-at _ _ _ _ (rw (c .before .before .before .track-count .ensures) at (c .before .before .if1 .left)))
+returns-3 c = and-where (track-passed narrow _ _) (c .track-at .ensures ∙ read-there _ _ _ _ _ _ _ (rw (c .before .before .before .track-count .ensures) at (c .before .before .if1 .left)) (c .before .if2 .left))
 
 pub track-spec : {M : Type 1} → statement M
 track-spec =

@@ -1,7 +1,8 @@
 -- `fgo::refiner::counters` meets its contract. Assumes nothing.
 use borrow.Author.Needs.{needs}
-use mathlib.Core.Path.{sym, _∙_}
 use borrow.Author.Tests.{not-true, not-false}
+use Rattle.memory.specs.Memory.{memory}
+use Rattle.fgo.proofs.Answering.{sound-is}
 use Rattle.fgo.proofs.refiner.counters.Statement.{statement}
 use Rattle.fgo.proofs.refiner.counters.Tie as tie
 
@@ -9,10 +10,14 @@ is-sound-requires : tie.Need-is-sound-requires
 is-sound-requires c κs = search needs
 
 returns : tie.Need-returns
-returns c = rw (sym (c .before .is-sound .ensures) ∙ not-true _ (c .if1 .taken))
+returns c = λ fs.
+    let g = c .before .before .args in
+    rw (sound-is (g .r) (memory (g .bodies .now) (g .columns .now) (g .owners .now) (g .tracks .now) fs) (c .before .is-sound .ensures) (not-true _ (c .if1 .taken)))
 
 returns-2 : tie.Need-returns-2
-returns-2 c = rw (sym (c .before .before .is-sound .ensures) ∙ not-false _ (c .before .if1 .left))
+returns-2 c = λ fs.
+    let g = c .before .before .before .args in
+    rw (sound-is (g .r) (memory (g .bodies .now) (g .columns .now) (g .owners .now) (g .tracks .now) fs) (c .before .before .is-sound .ensures) (not-false _ (c .before .if1 .left)))
 
 pub counters-spec : {M : Type 1} → statement M
 counters-spec = tie.close (tie.spec is-sound-requires returns returns-2)

@@ -27,7 +27,7 @@ sub-held c = c .before .before .before .before .before .before .before .before .
 forget-requires : tie.Need-forget-requires
 forget-requires c κs =
     let pre = c .before .before .before .before .before .before .before .before .before .before .before .before .before .before .before .before .before .before .before .before .before .before .pre in
-    forgets _ _ (pre .0) (pre .2) _ _ _ (c .before .before .before .before .before .before .before .before .before .before .before .before .before .before .before .freeze-scan .ensures) (time-is _ _ (pre .0) (pre .2) (c .before .before .before .before .before .body-in .ensures) (c .before .before .before .before .time-of .ensures))
+    forgets _ _ (pre .0) (pre .2) _ _ _ (c .before .before .before .before .before .before .before .before .before .before .before .before .before .before .before .freeze-scan .ensures) (time-is _ _ (pre .0) (pre .2) (c .before .before .before .before .before .body-in .ensures) (c .before .before .before .before .time-of .ensures .1))
 
 keep-owners-requires : tie.Need-keep-owners-requires
 keep-owners-requires c κs =
@@ -36,7 +36,7 @@ keep-owners-requires c κs =
     let long : length (a .owners .now) ≡ 512 = search needs in
     let froze = c .before .before .before .before .before .before .before .before .before .before .before .before .before .before .before .before .before .before .freeze-scan in
     let forgot = c .before .before .forget in
-    keeps _ _ (pre .0) (pre .2) (froze .last .1 .1 .1 .1 .0) (froze .last .1 .1 .1 .1 .1 .0) (froze .result) (froze .ensures) (forgot .last .1 .1 .1 .1 .1 .1 .0) (forgot .last .1 .1 .1 .1 .1 .1 .1 .0) (forgot .result) (time-is _ _ (pre .0) (pre .2) (c .before .before .before .before .before .before .before .before .body-in .ensures) (c .before .before .before .before .before .before .before .time-of .ensures)) (forgot .ensures) (a .owners .now) long
+    keeps _ _ (pre .0) (pre .2) (froze .last .1 .1 .1 .1 .0) (froze .last .1 .1 .1 .1 .1 .0) (froze .result) (froze .ensures) (forgot .last .1 .1 .1 .1 .1 .1 .0) (forgot .last .1 .1 .1 .1 .1 .1 .1 .0) (forgot .result) (time-is _ _ (pre .0) (pre .2) (c .before .before .before .before .before .before .before .before .body-in .ensures) (c .before .before .before .before .before .before .before .time-of .ensures .1)) (forgot .ensures) (a .owners .now) long
 
 same-length : tie.Need-same-length
 same-length c = search needs
@@ -49,7 +49,7 @@ returns c =
     let pre = c .before .before .before .before .before .before .before .before .before .before .before .before .before .before .before .before .before .before .before .before .before .before .before .before .before .before .before .before .pre in
     let froze = c .before .before .before .before .before .before .before .before .before .before .before .before .before .before .before .before .before .before .before .before .before .freeze-scan in
     let forgot = c .before .before .before .before .before .forget in
-    release-ends _ _ (pre .0) (pre .2) (froze .last .1 .1 .1 .1 .0) (froze .last .1 .1 .1 .1 .1 .0) (froze .result) (froze .ensures) (forgot .last .1 .1 .1 .1 .1 .1 .0) (forgot .last .1 .1 .1 .1 .1 .1 .1 .0) (forgot .result) (time-is _ _ (pre .0) (pre .2) (c .before .before .before .before .before .before .before .before .before .before .before .body-in .ensures) (c .before .before .before .before .before .before .before .before .before .before .time-of .ensures)) (forgot .ensures) _ _ (c .before .before .keep-owners .ensures) (c .before .before .before .before .before .before .before .before .before .before .before .before .before .before .before .before .put-frame .ensures)
+    release-ends _ _ (pre .0) (pre .2) (froze .last .1 .1 .1 .1 .0) (froze .last .1 .1 .1 .1 .1 .0) (froze .result) (froze .ensures) (forgot .last .1 .1 .1 .1 .1 .1 .0) (forgot .last .1 .1 .1 .1 .1 .1 .1 .0) (forgot .result) (time-is _ _ (pre .0) (pre .2) (c .before .before .before .before .before .before .before .before .before .before .before .body-in .ensures) (c .before .before .before .before .before .before .before .before .before .before .time-of .ensures .1)) (forgot .ensures) _ _ (c .before .before .keep-owners .ensures) (c .before .before .before .before .before .before .before .before .before .before .before .before .before .before .before .before .put-frame .ensures)
 
 pub release-spec : {M : Type 1} → statement M
 release-spec =

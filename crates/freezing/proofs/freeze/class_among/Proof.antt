@@ -40,7 +40,7 @@ returns c = λ h.
     let l = frameOf narrow (a .s .now) .tracks in
     let n : i < length l = omega (arith, tracks-long (a .s .now), c .before .before .before .before .before .before .loop .inv .0) in
     let z : suc i ≡ c .before .before .before .before .before .before .loop .i = omega arith in
-    sym (class-here (a .e .0) Unknown l i n (c .before .before .before .before .track .ensures h) (c .if1 .taken)) ∙ ap (λ n. classAmong (a .e .0) Unknown (take n l)) z ∙ c .before .before .before .before .before .before .loop .inv .1 h
+    sym (class-here (a .e .0) Unknown l i n (c .before .before .before .before .track .ensures .1 h) (c .if1 .taken)) ∙ ap (λ n. classAmong (a .e .0) Unknown (take n l)) z ∙ c .before .before .before .before .before .before .loop .inv .1 h
 
 loop-less : tie.Need-loop-less Inv-loop μ-loop
 loop-less c = omega arith
@@ -52,7 +52,7 @@ loop-again c =
     let l = frameOf narrow (a .s .now) .tracks in
     let n : i < length l = omega (arith, tracks-long (a .s .now), c .before .before .before .before .before .before .loop .inv .0) in
     let z : suc i ≡ c .before .before .before .before .before .before .loop .i = omega arith in
-    (omega (arith, c .before .before .before .before .before .before .loop .inv .0), λ h. sym (class-past (a .e .0) Unknown l i n (c .before .before .before .before .track .ensures h) (c .if1 .left)) ∙ ap (λ n. classAmong (a .e .0) Unknown (take n l)) z ∙ c .before .before .before .before .before .before .loop .inv .1 h)
+    (omega (arith, c .before .before .before .before .before .before .loop .inv .0), λ h. sym (class-past (a .e .0) Unknown l i n (c .before .before .before .before .track .ensures .1 h) (c .if1 .left)) ∙ ap (λ n. classAmong (a .e .0) Unknown (take n l)) z ∙ c .before .before .before .before .before .before .loop .inv .1 h)
 
 returns-2 : tie.Need-returns-2 Inv-loop μ-loop
 unfolding classAmong

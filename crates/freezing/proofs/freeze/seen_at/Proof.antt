@@ -24,8 +24,8 @@ time-of-requires c κs = search needs
 returns : tie.Need-returns
 unfolding dotOf
 returns c = λ h.
-    let e : toZ w64 (ofZ w64 (c .time-of .result)) ≡ frameOf narrow (c .before .before .before .before .before .before .args .s .now) .time = toZ-ofZ (record { sfits = c .time-of .ok }) ∙ c .time-of .ensures h in
-    rw (e, c .before .class-for .ensures h, c .before .before .observation .ensures h, c .before .before .before .before .association .ensures h)
+    let e : toZ w64 (ofZ w64 (c .time-of .result)) ≡ frameOf narrow (c .before .before .before .before .before .before .args .s .now) .time = toZ-ofZ (record { sfits = c .time-of .ok }) ∙ c .time-of .ensures .1 h in
+    rw (e, c .before .class-for .ensures h, c .before .before .observation .ensures .1 h, c .before .before .before .before .association .ensures .1 h)
 
 pub seen-at-spec : {M : Type 1} → statement M
 seen-at-spec =

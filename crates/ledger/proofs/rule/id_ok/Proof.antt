@@ -74,7 +74,7 @@ returns-3 c =
     fits _ _ _ _ _
     (⊎-elim (λ w. inr (sym (stood 0 _ _ _ _ (c .before .before .before .before .id-at .ensures) (w .1 .ensures) (w .2 .ensures)) ∙ w .3 .left)) (λ w. inl (sym (c .before .before .before .before .id-at .ensures) ∙ w .left)) (c .before .before .before .if1 .came))
     (omega (arith, c .before .before .if3 .left, c .before .before .before .before .id-at .ensures))
-    (c .loose-ok .ensures ∙ ap (λ (a : Association). looseOk (a .track) (c .before .before .before .before .id-at .result)) (c .before .association .ensures (c .before .before .before .before .before .before .pre .0)) ∙ ap (looseOk (associationIn ((c .before .before .before .before .before .before .args .s .now)) (c .before .before .before .before .before .before .args .j) .track)) (c .before .before .before .before .id-at .ensures))
+    (c .loose-ok .ensures ∙ ap (λ (a : Association). looseOk (a .track) (c .before .before .before .before .id-at .result)) (c .before .association .ensures .1 (c .before .before .before .before .before .before .pre .0)) ∙ ap (looseOk (associationIn ((c .before .before .before .before .before .before .args .s .now)) (c .before .before .before .before .before .before .args .j) .track)) (c .before .before .before .before .id-at .ensures))
 
 pub id-ok-spec : {M : Type 1} → statement M
 id-ok-spec =

@@ -1,8 +1,9 @@
 -- `memory::gather::engine_of` meets its contract. Assumes nothing.
+use Prim.Native.Nat.{ℕ}
 use mathlib.Core.Path.{ap, _∙_}
 use borrow.Author.Needs.{needs}
+use Rattle.engine.specs.Frame.{engineOf}
 use Rattle.engine.specs.declared.types.Association.{Association}
-use Rattle.memory.specs.Gathering.{engineOf}
 use Rattle.memory.proofs.gather.engine_of.Statement.{statement}
 use Rattle.memory.proofs.gather.engine_of.Tie as tie
 
@@ -13,7 +14,9 @@ engine-in-requires : tie.Need-engine-in-requires
 engine-in-requires c κs = search needs
 
 returns : tie.Need-returns
-returns c = λ h. c .engine-in .ensures ∙ ap (λ (a : Association). engineOf (a .track)) (c .before .association .ensures h)
+returns c =
+    let id : Association → ℕ = λ a. engineOf (a .track) in
+    (c .engine-in .ensures ∙ ap id (c .before .association .ensures .0), λ h. c .engine-in .ensures ∙ ap id (c .before .association .ensures .1 h))
 
 pub engine-of-spec : {M : Type 1} → statement M
 engine-of-spec = tie.close (tie.spec association-requires engine-in-requires returns)

@@ -96,7 +96,7 @@ loop-again c =
     let few : v .j < associationCount narrow (t .args .s .now) = omega arith in
     let i = c .before .id-at .ensures in
     ⊎-elim
-    (λ w. gathers-held _ _ _ _ _ _ (t .pre) (v .inv) few i (w .0 .taken) (w .1 .ensures (t .pre .passes)) (w .2) (w .3) (w .4))
+    (λ w. gathers-held _ _ _ _ _ _ (t .pre) (v .inv) few i (w .0 .taken) (w .1 .ensures .1 (t .pre .passes)) (w .2) (w .3) (w .4))
     (λ w. gathers-clutter _ _ _ _ _ _ (t .pre) (v .inv) few i (omega (arith, w .0 .left)) (w .1) (w .2) (w .3))
     (c .if2 .came)
 

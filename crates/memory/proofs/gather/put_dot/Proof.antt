@@ -42,8 +42,8 @@ returns c =
     let t = c .before .before .before .before .before .before .before .before .before .before .before .before .before in
     let f = frameOf narrow (t .args .s .now) in
     let h = t .pre .0 in
-    let e : c .before .before .before .before .before .before .before .before .observation .result ≡ getD (f .observations) (associationIn (t .args .s .now) (t .args .j) .index .0) noObservation = c .before .before .before .before .before .before .before .before .observation .ensures h ∙ ap (λ (a : Association). getD (f .observations) (a .index .0) noObservation) (c .before .before .before .before .before .before .before .before .before .before .association .ensures h) in
-    let u : c .before .before .before .before .before .before .seconds .result ≡ secondsOf (f .time) = c .before .before .before .before .before .before .seconds .ensures ∙ ap secondsOf (toZ-ofZ (record { sfits = c .before .before .before .before .before .before .before .time-of .ok }) ∙ c .before .before .before .before .before .before .before .time-of .ensures h) in
+    let e : c .before .before .before .before .before .before .before .before .observation .result ≡ getD (f .observations) (associationIn (t .args .s .now) (t .args .j) .index .0) noObservation = c .before .before .before .before .before .before .before .before .observation .ensures .1 h ∙ ap (λ (a : Association). getD (f .observations) (a .index .0) noObservation) (c .before .before .before .before .before .before .before .before .before .before .association .ensures .1 h) in
+    let u : c .before .before .before .before .before .before .seconds .result ≡ secondsOf (f .time) = c .before .before .before .before .before .before .seconds .ensures ∙ ap secondsOf (toZ-ofZ (record { sfits = c .before .before .before .before .before .before .before .time-of .ok }) ∙ c .before .before .before .before .before .before .before .time-of .ensures .1 h) in
     c .before .before .put-numbers .ensures ∙ rw (e, u)
 
 pub put-dot-spec : {M : Type 1} → statement M

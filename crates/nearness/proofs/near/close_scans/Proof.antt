@@ -14,8 +14,9 @@ use lib.Ieee.{Float, nan, inf, fin, binary64, add, sub, mul, neg, lt}
 use borrow.Author.Count.{below-more}
 use Rattle.costs.specs.Cost.{dotAt}
 use Rattle.model.specs.Lists.{any}
+use Rattle.model.specs.Searching.{square}
 use Rattle.nearness.specs.declared.near.Point.{Point}
-use Rattle.nearness.specs.Near.{square, nearSlots, closeSlots, closeAt, closeScans, anyClose, pointAt, nearPoints, closePoints, CloseWithin}
+use Rattle.nearness.specs.Near.{nearSlots, closeSlots, closeAt, closeScans, anyClose, pointAt, nearPoints, closePoints, CloseWithin}
 use Rattle.windows.proofs.Filled.{map-up-length, map-up-at}
 use Rattle.nearness.proofs.near.close_scans.Statement.{statement}
 use Rattle.nearness.proofs.near.close_scans.Tie as tie

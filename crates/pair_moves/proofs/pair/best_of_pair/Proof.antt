@@ -4,7 +4,8 @@ use mathlib.Core.Path.{sym, ap, _∙_}
 use Rattle.merging.specs.declared.merge.Overlap.{Overlap}
 use Rattle.merging.specs.Merge.{betterMerge, aloneRows}
 use Rattle.pair_moves.specs.Pair.{bestPairRow}
-use Rattle.pricing.specs.Price.{_⊕_, viewIn}
+use Rattle.model.specs.Searching.{_⊕_}
+use Rattle.pricing.specs.Price.{viewIn}
 use Rattle.pricing.proofs.Heads.{ends-at, ends-later}
 use Rattle.merging.proofs.Merged.{shared-turned}
 use Rattle.pair_moves.proofs.pair.best_of_pair.Statement.{statement}

@@ -15,10 +15,10 @@ use Rattle.costs.specs.declared.cost.Fold.{Fold}
 use Rattle.costs.specs.Cost.{View, Kept, dets, run, cost, foldIn}
 use Rattle.model.specs.declared.moves.PairMove.{PairMove}
 use Rattle.model.specs.declared.moves.PairMove.the-variants.{Stay, Swap}
-use Rattle.model.specs.Searching.{pairGain, betterPair}
+use Rattle.model.specs.Searching.{_⊕_, _⊖_, pairGain, betterPair}
 use Rattle.model.proofs.NoGain.{nought, nothing-wins, best-below, start}
 use Rattle.pair_moves.specs.Pair.{cutAt, cutsOf, trySwapRow, firstSwap, bestSwapRow, Swaps}
-use Rattle.pricing.specs.Price.{_⊕_, _⊖_, rowCost, onTo, scanAt, viewIn, Ends}
+use Rattle.pricing.specs.Price.{rowCost, onTo, scanAt, viewIn, Ends}
 use Rattle.pricing.proofs.Left.{bestFrom, best-yes, best-no, best-stays}
 use Rattle.pricing.proofs.Heads.{Along, begins, passes, on-to, taken-on, until, crossed-cost, few-on, ends-same}
 use Rattle.pair_moves.proofs.pair.best_swap.Statement.{statement}

@@ -72,7 +72,7 @@ loop-again c =
     ∙ placed-more (f .next .0) (frameOf narrow (f .s .now) .associations) (l .j) (begins (f .owners .now) (f .owned) (f .next .0)) (rw (associations-long (f .s .now)) (omega arith)) in (
       omega arith,
       omega arith,
-      rw (step, ← c .before .before .before .association .ensures (c .before .before .before .before .before .before .before .before .pre .0)) (c .place-one .ensures .1 _ (v .2)),
+      rw (step, ← c .before .before .before .association .ensures .1 (c .before .before .before .before .before .before .before .before .pre .0)) (c .place-one .ensures .1 _ (v .2)),
     )
 
 returns : tie.Need-returns Inv-loop μ-loop

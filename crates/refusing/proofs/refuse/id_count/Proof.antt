@@ -66,7 +66,7 @@ loop-again c = let s = c .before .before .before .before .before .before .before
     let j = c .before .before .before .before .before .loop .j in
     let v = c .before .before .before .before .before .loop .inv in
     let h : j < associationCount narrow s = omega (arith, c .before .before .before .if1 .taken, c .before .before .before .before .association-count .ensures) in
-    let said = ap (λ (a : Association). hasId (a .track)) (sym (c .before .before .association .ensures (c .before .before .before .before .before .before .before .pre))) ∙ sym (c .before .has-id .ensures) in
+    let said = ap (λ (a : Association). hasId (a .track)) (sym (c .before .before .association .ensures .1 (c .before .before .before .before .before .before .before .pre))) ∙ sym (c .before .has-id .ensures) in
     ⊎-elim
     (λ w. (omega arith, omega (arith, w .1, v .1), w .1 ∙ ap (λ (k : ℕ). k + 1) (v .2) ∙ add-one (counted s j) ∙ sym (more s j _ h (said ∙ w .0 .taken))))
     (λ w. (omega arith, omega (arith, w .1, v .1), w .1 ∙ v .2 ∙ sym (more s j _ h (said ∙ w .0 .left))))

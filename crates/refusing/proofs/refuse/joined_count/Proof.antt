@@ -52,7 +52,7 @@ loop-less : tie.Need-loop-less Inv-loop μ-loop
 loop-less c = omega (arith, c .before .before .before .loop-test .taken)
 
 loop-again : tie.Need-loop-again Inv-loop μ-loop
-loop-again c = joins-more _ _ _ (c .before .before .before .before .loop .inv) (c .before .before .before .loop-test .taken) (ap (λ (a : Association). a .track) (c .before .before .association .ensures (c .before .before .before .before .before .before .before .before .before .pre .1))) (c .join-one .ensures .0) (c .join-one .ensures .1) (c .join-one .ensures .2)
+loop-again c = joins-more _ _ _ (c .before .before .before .before .loop .inv) (c .before .before .before .loop-test .taken) (ap (λ (a : Association). a .track) (c .before .before .association .ensures .1 (c .before .before .before .before .before .before .before .before .before .pre .1))) (c .join-one .ensures .0) (c .join-one .ensures .1) (c .join-one .ensures .2)
 
 returns : tie.Need-returns Inv-loop μ-loop
 returns c = joins-all _ _ _ (c .before .loop .inv) (c .loop-test .left)

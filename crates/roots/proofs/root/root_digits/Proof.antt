@@ -1,4 +1,4 @@
--- `root::root_digits` meets its contract. Assumes nothing.
+-- `roots::root::root_digits` meets its contract. Assumes nothing.
 use Prim.Native.Nat.{_-_}
 use native.Mathlib.Omega.{arith}
 use native.Mathlib.Nat.{lt-of-lt-of-le}

@@ -1,4 +1,4 @@
--- `scalar::root::root_guess` meets its contract. Assumes nothing.
+-- `roots::root::root_guess` meets its contract. Assumes nothing.
 use borrow.Author.Needs.{needs}
 use native.Mathlib.Omega.{arith}
 use Rattle.scalar.proofs.Positive.{positive-no-nan}

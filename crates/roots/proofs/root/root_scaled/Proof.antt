@@ -1,12 +1,11 @@
--- `scalar::root::root_scaled` meets its contract. Assumes nothing.
+-- `roots::root::root_scaled` meets its contract. Assumes nothing.
 use borrow.Author.Needs.{needs}
 use native.Mathlib.Omega.{arith}
 use lib.Count.{leadingZeros, leading-le}
 use lib.Dec.{lit<}
-use native.Mathlib.Nat.{lt-of-le-of-lt}
+use native.Mathlib.Nat.{lt-of-le-of-lt, lt-trans}
 use Rattle.scalar.proofs.Positive.{Shift, shift}
 use Rattle.scalar.proofs.RootScale.{Found, scaled-lt, down-is, up-is, no-nan}
-use native.Mathlib.Nat.{lt-trans}
 use Rattle.roots.proofs.root.root_scaled.Statement.{statement}
 use Rattle.roots.proofs.root.root_scaled.Tie as tie
 

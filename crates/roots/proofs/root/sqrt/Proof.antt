@@ -1,4 +1,4 @@
--- `scalar::root::sqrt` meets its contract. Assumes nothing.
+-- `roots::root::sqrt` meets its contract. Assumes nothing.
 use borrow.Author.Needs.{needs}
 use mathlib.Core.Path.{sym, ap, _∙_, subst}
 use Rattle.scalar.specs.Digits.{Falls}

@@ -1,4 +1,4 @@
--- `scalar::root::whole_root` meets its contract. Assumes nothing.
+-- `roots::root::whole_root` meets its contract. Assumes nothing.
 use borrow.Author.Needs.{needs}
 use native.Mathlib.Omega.{arith}
 use Rattle.scalar.proofs.RootGuess.{Parts, parts, rest-is, next-is, next-lt}

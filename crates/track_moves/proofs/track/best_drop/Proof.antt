@@ -11,7 +11,8 @@ use lib.Ieee.{Float, nan}
 use Rattle.model.specs.declared.moves.TrackMove.{TrackMove}
 use Rattle.model.specs.declared.moves.TrackMove.the-variants.{Drop}
 use Rattle.model.specs.Searching.{betterTrack}
-use Rattle.track_moves.specs.Track.{marked, marks, bestDropBy}
+use Rattle.windows.specs.Moves.{hasSlot}
+use Rattle.track_moves.specs.Track.{marks, bestDropBy}
 use Rattle.pricing.specs.Price.{Ends}
 use Rattle.pricing.proofs.Left.{bestFrom, best-yes, best-no, best-over}
 use Rattle.track_moves.proofs.track.best_drop.Statement.{statement}
@@ -23,17 +24,17 @@ by first gains k = Drop (record { 0 = first + k }) (getD gains k nan)
 -- what is left from k on gives the best of all
 record Drops (first : ℕ) (gains : List Float) (r : List ℕ) (end : ℕ) (start best : TrackMove) (k : ℕ) : Type 0 where
   within : k ≤ end
-  left : bestFrom betterTrack (by first gains) (marked r) 17 k best ≡ bestDropBy first gains r start
+  left : bestFrom betterTrack (by first gains) (hasSlot r) 17 k best ≡ bestDropBy first gains r start
 
 module _ {first : ℕ} {gains : List Float} {r : List ℕ} {end : ℕ} {start best : TrackMove} {k : ℕ} (e : Ends end r) (s : Drops first gains r end start best k) where
-  tries : k < end → marked r k ≡ true → Drops first gains r end start (betterTrack best (by first gains k)) (k + 1)
-  tries g t = record { within = omega arith; left = best-yes betterTrack (by first gains) (marked r) 17 k best (omega (arith, e .within)) t ∙ s .left }
+  tries : k < end → hasSlot r k ≡ true → Drops first gains r end start (betterTrack best (by first gains k)) (k + 1)
+  tries g t = record { within = omega arith; left = best-yes betterTrack (by first gains) (hasSlot r) 17 k best (omega (arith, e .within)) t ∙ s .left }
 
-  skips : k < end → marked r k ≡ false → Drops first gains r end start best (k + 1)
-  skips g t = record { within = omega arith; left = best-no betterTrack (by first gains) (marked r) 17 k best (omega (arith, e .within)) t ∙ s .left }
+  skips : k < end → hasSlot r k ≡ false → Drops first gains r end start best (k + 1)
+  skips g t = record { within = omega arith; left = best-no betterTrack (by first gains) (hasSlot r) 17 k best (omega (arith, e .within)) t ∙ s .left }
 
   ends : end ≤ k → best ≡ bestDropBy first gains r start
-  ends g = sym (best-over betterTrack (by first gains) (marked r) 17 k best (λ j h. le-ltb 0 (getD r j 0) (omega (arith, e .empty j (omega arith))))) ∙ s .left
+  ends g = sym (best-over betterTrack (by first gains) (hasSlot r) 17 k best (λ j h. le-ltb 0 (getD r j 0) (omega (arith, e .empty j (omega arith))))) ∙ s .left
 
 abbrev Inv-loop : tie.InvT-loop
 Inv-loop hall row end gains best₀ k₀ best k = Drops (hall .first .0) gains row end best₀ best k

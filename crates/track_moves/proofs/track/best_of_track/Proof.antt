@@ -20,7 +20,8 @@ use Rattle.model.specs.declared.moves.TrackMove.the-variants.{Drop}
 use Rattle.model.specs.Lists.{upFrom}
 use Rattle.model.specs.Searching.{betterTrack}
 use Rattle.model.proofs.Counting.{count-le}
-use Rattle.track_moves.specs.Track.{marked, marks, frozenOne, tryDropRow, bestSplitRow, bestDropRow, bestTrackRow, Dropped, bestDropBy}
+use Rattle.windows.specs.Moves.{hasSlot}
+use Rattle.track_moves.specs.Track.{marks, frozenOne, tryDropRow, bestSplitRow, bestDropRow, bestTrackRow, Dropped, bestDropBy}
 use Rattle.pricing.specs.Price.{scanAt, viewIn, Ends}
 use Rattle.pricing.proofs.Left.{kept-map}
 use Rattle.pricing.proofs.Heads.{ends-at}
@@ -29,7 +30,7 @@ use Rattle.track_moves.proofs.track.best_of_track.Tie as tie
 
 marks-few : (r : List ℕ) → length (marks r) ≤ 17
 unfolding marks upFrom
-marks-few r = count-le (marked r) (upFrom 0 17)
+marks-few r = count-le (hasSlot r) (upFrom 0 17)
 
 one-at-most : (p : Fold) → frozenOne p ≤ 1
 one-at-most Fresh = omega arith
@@ -38,7 +39,7 @@ one-at-most (Going s) = omega arith
 
 -- the drops by what was noted of each
 module _ {c : FgoConfig} {v : View} {p : Fold} {r : List ℕ} {base : Float} {end : ℕ} {gains : List Float} (e : Ends end r) (d : Dropped c v p r base end gains) where
-  each-drop : (k : ℕ) → marked r k ≡ true → Drop (scanAt v k) (getD gains k nan) ≡ tryDropRow c v p r base k
+  each-drop : (k : ℕ) → hasSlot r k ≡ true → Drop (scanAt v k) (getD gains k nan) ≡ tryDropRow c v p r base k
   unfolding tryDropRow
   each-drop k t =
       let x = sym (ap (closed c) (run-append c p (dets v 0 (take k r)) (dets v (suc k) (drop (suc k) r)))) in
@@ -50,7 +51,7 @@ module _ {c : FgoConfig} {v : View} {p : Fold} {r : List ℕ} {base : Float} {en
 
   drops-by : (best : TrackMove) → bestDropBy (v .first) gains r best ≡ bestDropRow c v p r base best
   unfolding bestDropBy bestDropRow marks
-  drops-by best = ap (foldl betterTrack best) (kept-map (marked r) (λ k. Drop (scanAt v k) (getD gains k nan)) (tryDropRow c v p r base) 0 17 each-drop)
+  drops-by best = ap (foldl betterTrack best) (kept-map (hasSlot r) (λ k. Drop (scanAt v k) (getD gains k nan)) (tryDropRow c v p r base) 0 17 each-drop)
 
 end-of-requires : tie.Need-end-of-requires
 end-of-requires c κs = search needs

@@ -18,7 +18,8 @@ use Rattle.costs.specs.Cost.{View, Kept, dets, cost, closed, foldIn}
 use Rattle.model.specs.declared.moves.TrackMove.{TrackMove}
 use Rattle.model.specs.declared.moves.TrackMove.the-variants.{Split}
 use Rattle.model.specs.Searching.{betterTrack}
-use Rattle.track_moves.specs.Track.{marked, marks, trySplitRow, bestSplitRow, betterSplit, dropGain, Dropped}
+use Rattle.windows.specs.Moves.{hasSlot}
+use Rattle.track_moves.specs.Track.{marks, trySplitRow, bestSplitRow, betterSplit, dropGain, Dropped}
 use Rattle.pricing.specs.Price.{headOf, onTo, scanAt, viewIn, Fit, Ends}
 use Rattle.pricing.proofs.Left.{left, left-yes, left-no, left-over}
 use Rattle.pricing.proofs.Heads.{Along, begins, passes, on-to, taken-on, until, few-on}
@@ -30,7 +31,7 @@ abbrev after : Bool → List ℕ → List ℕ
 after seen l = drop (cond seen 0 1) l
 
 abbrev bestAfter : FgoConfig → View → Fold → List ℕ → Float → Bool → ℕ → TrackMove → TrackMove
-bestAfter c v p r base seen k b = foldl betterTrack b (map (trySplitRow c v p r base) (after seen (left (marked r) 17 k)))
+bestAfter c v p r base seen k b = foldl betterTrack b (map (trySplitRow c v p r base) (after seen (left (hasSlot r) 17 k)))
 
 -- the fold stands at the last detection, and what is left from k on gives the best of all; the drops before k are noted
 record Splits (c : FgoConfig) (v : View) (p : Fold) (r : List ℕ) (base : Float) (end : ℕ) (gains : List Float) (best : TrackMove) (fold : Fold) (done : ℕ) (seen : Bool) (k : ℕ) : Type 0 where
@@ -46,25 +47,25 @@ module _ {c : FgoConfig} {v : View} {p : Fold} {r : List ℕ} {base : Float} {k 
       record {
         long = length-set gains k g ∙ d .long;
         each =
-            below-more (λ j. marked r j ≡ true → getD (set gains k g) j nan ≡ dropGain c v (headOf c v p r j) r j base) k
+            below-more (λ j. hasSlot r j ≡ true → getD (set gains k g) j nan ≡ dropGain c v (headOf c v p r j) r j base) k
             (λ j l t. getD-set-other gains k j g nan (λ (q : j ≡ k). omega arith) ∙ d .each j l t)
             (λ t. getD-set-same gains k g nan (omega (arith, d .long)) ∙ e);
       }
 
   -- there is none
-  passes-on : marked r k ≡ false → Dropped c v p r base (k + 1) gains
+  passes-on : hasSlot r k ≡ false → Dropped c v p r base (k + 1) gains
   passes-on t =
       record {
         long = d .long;
-        each = below-more (λ j. marked r j ≡ true → getD gains j nan ≡ dropGain c v (headOf c v p r j) r j base) k (d .each) (λ u. let n : _≡_ {A = ℕ} 0 1 = cc in absurd (omega arith));
+        each = below-more (λ j. hasSlot r j ≡ true → getD gains j nan ≡ dropGain c v (headOf c v p r j) r j base) k (d .each) (λ u. let n : _≡_ {A = ℕ} 0 1 = cc in absurd (omega arith));
       }
 
 module _ {c : FgoConfig} {v : View} {p : Fold} {r : List ℕ} {base : Float} {end : ℕ} {gains : List Float} {best : TrackMove} {fold : Fold} {done : ℕ} {seen : Bool} {k : ℕ} (e : Ends end r) (s : Splits c v p r base end gains best fold done seen k) where
-  at : (l : List ℕ) → left (marked r) 17 k ≡ l → foldl betterTrack best (map (trySplitRow c v p r base) (after seen l)) ≡ bestAfter c v p r base seen k best
+  at : (l : List ℕ) → left (hasSlot r) 17 k ≡ l → foldl betterTrack best (map (trySplitRow c v p r base) (after seen l)) ≡ bestAfter c v p r base seen k best
   at l q = ap (λ (m : List ℕ). foldl betterTrack best (map (trySplitRow c v p r base) (after seen m))) (sym q)
 
   -- a detection; there is no split before the first
-  tries : k < end → marked r k ≡ true → {f : Fold} {b : TrackMove} {g : Float} → f ≡ onTo c v done k r fold → b ≡ betterSplit c v best seen f r k base → g ≡ dropGain c v f r k base →
+  tries : k < end → hasSlot r k ≡ true → {f : Fold} {b : TrackMove} {g : Float} → f ≡ onTo c v done k r fold → b ≡ betterSplit c v best seen f r k base → g ≡ dropGain c v f r k base →
       Splits c v p r base end (set gains k g) b f k true (k + 1)
   tries g t {f} ef eb eg =
       let h : k < 17 = omega (arith, e .within) in
@@ -72,28 +73,28 @@ module _ {c : FgoConfig} {v : View} {p : Fold} {r : List ℕ} {base : Float} {en
       record {
         within = omega arith;
         along = rw ef (taken-on (s .along) (omega (arith, e .long)));
-        rest = ap (bestAfter c v p r base true (k + 1)) eb ∙ split seen q ∙ at (k ∷ left (marked r) 17 (k + 1)) (left-yes (marked r) 17 k h t) ∙ s .rest;
+        rest = ap (bestAfter c v p r base true (k + 1)) eb ∙ split seen q ∙ at (k ∷ left (hasSlot r) 17 (k + 1)) (left-yes (hasSlot r) 17 k h t) ∙ s .rest;
         drops = notes (s .drops) h (eg ∙ ap (λ (x : Fold). dropGain c v x r k base) q);
       }
     where
       split : (b : Bool) → f ≡ headOf c v p r k →
-          bestAfter c v p r base true (k + 1) (betterSplit c v best b f r k base) ≡ foldl betterTrack best (map (trySplitRow c v p r base) (after b (k ∷ left (marked r) 17 (k + 1))))
+          bestAfter c v p r base true (k + 1) (betterSplit c v best b f r k base) ≡ foldl betterTrack best (map (trySplitRow c v p r base) (after b (k ∷ left (hasSlot r) 17 (k + 1))))
       split true q =
           unfold trySplitRow in
           ap (λ (x : Fold). bestAfter c v p r base true (k + 1) (betterTrack best (Split (scanAt v k) (sub binary64 (add binary64 (closed c x) (cost c Fresh (dets v k (drop k r)))) base)))) q
       split false q = refl
 
-  skips : k < end → marked r k ≡ false → Splits c v p r base end gains best fold done seen (k + 1)
+  skips : k < end → hasSlot r k ≡ false → Splits c v p r base end gains best fold done seen (k + 1)
   skips g t =
       record {
         within = omega arith;
         along = passes (s .along);
-        rest = at (left (marked r) 17 (k + 1)) (left-no (marked r) 17 k (omega (arith, e .within)) t) ∙ s .rest;
+        rest = at (left (hasSlot r) 17 (k + 1)) (left-no (hasSlot r) 17 k (omega (arith, e .within)) t) ∙ s .rest;
         drops = passes-on (s .drops) t;
       }
 
   ends : end ≤ k → best ≡ bestSplitRow c v p r base
-  ends g = none seen ∙ at [] (left-over (marked r) 17 k (λ j h. le-ltb 0 (getD r j 0) (omega (arith, e .empty j (omega arith))))) ∙ s .rest
+  ends g = none seen ∙ at [] (left-over (hasSlot r) 17 k (λ j h. le-ltb 0 (getD r j 0) (omega (arith, e .empty j (omega arith))))) ∙ s .rest
     where
       none : (b : Bool) → best ≡ foldl betterTrack best (map (trySplitRow c v p r base) (after b []))
       none true = refl

@@ -6,13 +6,14 @@ use Prim.Native.Nat.{_+_, _-_, _≤_}
 use native.Mathlib.Nat.{zero-add}
 use native.Mathlib.Omega.{arith}
 use lib.ListN.{length}
-use Rattle.track_moves.specs.Track.{marked, marks}
+use Rattle.windows.specs.Moves.{hasSlot}
+use Rattle.track_moves.specs.Track.{marks}
 use Rattle.pricing.proofs.Left.{left, left-yes, left-no, left-none}
 use Rattle.track_moves.proofs.track.length_of.Statement.{statement}
 use Rattle.track_moves.proofs.track.length_of.Tie as tie
 
 abbrev Inv-loop : tie.InvT-loop
-Inv-loop row n₀ k₀ n k = (k ≤ 17) × (n ≤ k) × (n + length (left (marked row) 17 k) ≡ length (marks row))
+Inv-loop row n₀ k₀ n k = (k ≤ 17) × (n ≤ k) × (n + length (left (hasSlot row) 17 k) ≡ length (marks row))
 
 abbrev μ-loop : tie.MeasureT-loop
 μ-loop row n₀ k₀ n k = 17 - k
@@ -38,12 +39,12 @@ loop-less c = omega arith
 
 loop-again : tie.Need-loop-again Inv-loop μ-loop
 loop-again c = ⊎-elim
-    (λ w. let e = ap length (left-yes (marked (c .before .before .before .before .args .row .now)) 17 (c .before .before .before .loop .k) (omega arith) (lt-ltb _ _ (w .0 .taken))) in let q = w .1 in (omega arith, omega arith, omega arith))
-    (λ w. let e = ap length (left-no (marked (c .before .before .before .before .args .row .now)) 17 (c .before .before .before .loop .k) (omega arith) (le-ltb _ _ (w .0 .left))) in let q = w .1 in (omega arith, omega arith, omega arith))
+    (λ w. let e = ap length (left-yes (hasSlot (c .before .before .before .before .args .row .now)) 17 (c .before .before .before .loop .k) (omega arith) (lt-ltb _ _ (w .0 .taken))) in let q = w .1 in (omega arith, omega arith, omega arith))
+    (λ w. let e = ap length (left-no (hasSlot (c .before .before .before .before .args .row .now)) 17 (c .before .before .before .loop .k) (omega arith) (le-ltb _ _ (w .0 .left))) in let q = w .1 in (omega arith, omega arith, omega arith))
     (c .if1 .came)
 
 returns : tie.Need-returns Inv-loop μ-loop
-returns c = let e = ap length (left-none (marked (c .before .before .args .row .now)) 17 (c .before .loop .k) (omega arith)) in omega arith
+returns c = let e = ap length (left-none (hasSlot (c .before .before .args .row .now)) 17 (c .before .loop .k) (omega arith)) in omega arith
 
 pub length-of-spec : {M : Type 1} → statement M
 length-of-spec =

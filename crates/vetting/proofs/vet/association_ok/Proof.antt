@@ -1,15 +1,12 @@
 -- `vetting::vet::association_ok` meets its contract. Assumes nothing.
 use Prim.Native.Nat.{_+_}
-use mathlib.Core.Path.{_≡_}
+use mathlib.Core.Path.{_≡_, sym, _∙_}
 use Rattle.engine.specs.Little.{little}
-use mathlib.Core.Path.{sym, _∙_}
 use mathlib.Core.Bool.{true≢false}
-use Rattle.engine.proofs.Every.{never}
+use Rattle.engine.proofs.Every.{never, code-tested, present-tested}
 use Rattle.engine.proofs.Passing.{associates}
-use mathlib.Core.Path.{_∙_}
 use borrow.Author.Tests.{eq-eqb, ne-eqb}
 use Rattle.engine.specs.Body.{associationOk}
-use Rattle.engine.proofs.Every.{code-tested, present-tested}
 use native.Mathlib.Omega.{arith}
 use borrow.Author.Needs.{needs}
 use Rattle.vetting.proofs.vet.association_ok.Statement.{statement}

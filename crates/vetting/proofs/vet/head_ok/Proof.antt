@@ -1,17 +1,13 @@
 -- `vetting::vet::head_ok` meets its contract. Assumes nothing.
 use lib.ListN.{length}
-use Rattle.engine.specs.Body.{narrow, trackCount, observationCount, associationCount}
+use Rattle.engine.specs.Body.{narrow, trackCount, observationCount, associationCount, headOk}
 use mathlib.Core.Path.{sym, _∙_}
 use mathlib.Core.Bool.{true≢false}
 use native.Mathlib.Omega.{arith}
-use Rattle.engine.specs.Body.{narrow}
-use Rattle.engine.proofs.Every.{never}
+use Rattle.engine.proofs.Every.{never, code-tested}
 use Rattle.engine.proofs.Passing.{sized}
-use mathlib.Core.Path.{sym, _∙_}
 use borrow.Author.Tests.{eq-eqb, ne-eqb, le-leb, not-true, not-false}
-use Rattle.engine.specs.Body.{headOk}
 use Rattle.engine.proofs.Bytes.{signed-passed}
-use Rattle.engine.proofs.Every.{code-tested}
 use borrow.Author.Needs.{needs}
 use Rattle.vetting.proofs.vet.head_ok.Statement.{statement}
 use Rattle.vetting.proofs.vet.head_ok.Tie as tie
