@@ -1,10 +1,10 @@
 -- The search, and the owners told anew: the state is the one of the refiner as defined, and the oldest scan may leave. Assumes nothing.
-use Prim.Native.Nat.{ℕ, _+_, _*_, _≤_, _<_}
+use Prim.Native.Nat.{ℕ, _+_, _≤_, _<_}
 use native.Mathlib.Numerals.{add-one}
 use native.Mathlib.Omega.{arith}
 use mathlib.Core.Path.{_≡_, refl, sym, ap, subst, fun-ext, _∙_}
 use mathlib.Core.List.{List, map}
-use lib.ListN.{length, getD}
+use lib.ListN.{length}
 use Rattle.engine.specs.Frame.{Frame}
 use Rattle.engine.specs.Body.{narrow, frameOf}
 use Rattle.engine.proofs.Passing.{length-rows}
@@ -19,7 +19,7 @@ use Rattle.model.proofs.Counting.{count-le}
 use Rattle.model.proofs.Arrival.{arrived}
 use Rattle.windows.specs.declared.moves.Tally.{Tally}
 use Rattle.memory.specs.declared.state.FixedLagRefiner.{FixedLagRefiner}
-use Rattle.memory.specs.Memory.{Memory, memory, scansIn, entryIn, ownersIn, stateOf}
+use Rattle.memory.specs.Memory.{Memory, memory, scansIn, entryIn, ownerAt, ownersIn, stateOf}
 use Rattle.ledger.specs.Sound.{liveIn}
 use Rattle.placing.specs.Owning.{keptOwners}
 use Rattle.arrival.specs.Arriving.{Ready, Lent, Arrives, HeldBy, foundIn, Searched, Arrived}
@@ -43,7 +43,7 @@ after u k y =
     }
 
 owners-long : (owners : List ℕ) (n : ℕ) → length (ownersIn owners n) ≡ n
-owners-long owners n = length-rows (λ k. (getD owners (2 * k) 0, getD owners (2 * k + 1) 0)) 0 n
+owners-long owners n = length-rows (ownerAt owners) 0 n
 
 -- the entries that keep_owners leaves
 abbrev Keeps : FixedLagRefiner → Memory → List ℕ → List ℕ → List ℕ → ℕ → Type 0

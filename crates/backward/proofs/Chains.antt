@@ -12,11 +12,11 @@ use lib.Dec.{eqb}
 use lib.Seq.{getD-take}
 use lib.Ieee.{Float}
 use Rattle.rts.specs.Smoothing.{Estimate}
-use Rattle.backward.specs.declared.FixedLagSmoother.{FixedLagSmoother}
+use Rattle.ring.specs.declared.FixedLagSmoother.{FixedLagSmoother}
 use Rattle.backward.specs.declared.pass.Passed.{Passed}
 use Rattle.refined.specs.Frame.{SmootherFrame, time, trackCount, idWord, wordsLong}
-use Rattle.backward.specs.Pass.{backOne, chain, runBack, smoothedAt, lastAt, stateAt, stateOf}
-use Rattle.backward.specs.Window.{wordsIn, numbersIn, slotWords, frameIn, framesFrom, framesIn, estimateOf, passedOf}
+use Rattle.backward.specs.Pass.{backOne, chain, runBack, smoothedAt, lastAt, stateAt, stateOf, estimateOf, passedOf}
+use Rattle.ring.specs.Window.{wordsIn, numbersIn, slotWords, frameIn, framesFrom, framesIn}
 
 -- ---- the frames that are left from the k-th on
 

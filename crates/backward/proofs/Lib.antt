@@ -1,5 +1,2 @@
-pub mod Forms
-pub mod Slots
 pub mod Chains
 mod Writing
-pub mod Storing

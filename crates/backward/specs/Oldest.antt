@@ -3,9 +3,9 @@ use Prim.Native.Nat.{ℕ}
 use mathlib.Core.List.{List}
 use lib.Ieee.{Float}
 use Rattle.refined.specs.Frame.{SmootherFrame}
-use Rattle.backward.specs.declared.FixedLagSmoother.{FixedLagSmoother}
+use Rattle.ring.specs.declared.FixedLagSmoother.{FixedLagSmoother}
 use Rattle.backward.specs.Pass.{emitted}
-use Rattle.backward.specs.Window.{frameIn, framesIn}
+use Rattle.ring.specs.Window.{frameIn, framesIn}
 
 -- the oldest held frame, smoothed
 unfoldable pub oldest : FixedLagSmoother → List ℕ → List Float → SmootherFrame

@@ -9,6 +9,10 @@ use lib.IntN.{ℤ}
 use lib.Ieee.{Float, binary64, sub}
 use Rattle.scalar.specs.Scalar.{secondsOf}
 use Rattle.scalar.specs.F64.{f64}
+use Rattle.backward.specs.declared.pass.TrackState.{TrackState}
+use Rattle.backward.specs.declared.pass.Passed.{Passed}
+use Rattle.backward.specs.declared.pass.Found.{Found}
+use Rattle.backward.specs.declared.pass.Found.the-variants.{At, Nothing}
 use Rattle.rts.specs.Smoothing.{Estimate, Later, estimate, backFrom, backOver}
 use Rattle.refined.specs.Frame.{SmootherFrame, time, trackCount, idWord}
 
@@ -100,3 +104,18 @@ emitted lag q fs f =
       words = set (f .words) 5 (smoothedFlag lag);
       numbers = statesTo q fs f (trackCount (f .words)) ++ drop (42 * trackCount (f .words)) (f .numbers);
     }
+
+-- ---- what the code makes: a track's state, where an id stands, and what the pass gave
+
+-- a track's state by value, as the estimate that it is
+abbrev pub estimateOf : TrackState → Estimate Float
+estimateOf t = estimate (t .x) (t .p)
+
+-- the state that running back gave; nothing where a Cholesky failed
+abbrev pub passedOf : Passed → Option (Estimate Float)
+passedOf r = cond (r .ok) (some (estimateOf (r .state))) none
+
+-- where an id stands among the tracks of a frame; nothing where it does not
+abbrev pub foundOf : Found → Option ℕ
+foundOf (At i) = some i
+foundOf Nothing = none

@@ -1,10 +1,10 @@
 // The oldest held frame, smoothed, into the output buffers.
-use crate::FixedLagSmoother;
 use crate::pass::chosen;
-use crate::window::frame_numbers;
-use crate::window::frame_words;
 use buffers::put_numbers;
 use buffers::put_words;
+use ring::FixedLagSmoother;
+use ring::window::frame_numbers;
+use ring::window::frame_words;
 ghost use mathlib.Core.Path.{_≡_};
 ghost use mathlib.Core.List.{_++_};
 ghost use Prim.Native.Nat.{_+_, _*_, _<_, _≤_};
@@ -12,7 +12,7 @@ ghost use lib.ListN.{length, take, drop, set};
 ghost use Rattle.rts.specs.Smoothing.{estimate};
 ghost use Rattle.refined.specs.Frame.{trackCount};
 ghost use Rattle.backward.specs.Pass.{flat, statesTo, smoothedFlag};
-ghost use Rattle.backward.specs.Window.{wide, wordsIn, frameIn, framesIn, Fitting, Counted, AllCounted};
+ghost use Rattle.ring.specs.Window.{wide, wordsIn, frameIn, framesIn, Fitting, Counted, AllCounted};
 ghost use Rattle.buffers.specs.Buffers.{over};
 ghost use Rattle.backward.specs.Oldest.{oldest};
 

@@ -1,14 +1,3 @@
-// What a fixed-lag smoother holds and gives: the ring of held frames in lent window buffers, the backward pass over it, and the oldest frame written out.
+// What a fixed-lag smoother gives: the backward pass over the frames that it holds, and the oldest one written out.
 pub mod emit;
 mod pass;
-pub mod window;
-
-// What is kept between calls, beside the window: most is C, the most tracks of a frame; first is the slot of the oldest frame, counted round the window's lag + 1
-// slots; held is how many frames there are.
-pub struct FixedLagSmoother {
-    pub lag: usize,
-    pub density: f64,
-    pub most: usize,
-    pub first: usize,
-    pub held: usize,
-}

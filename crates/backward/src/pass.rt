@@ -1,9 +1,9 @@
 // The backward pass over held frames.
-use crate::FixedLagSmoother;
-use crate::window::frame_numbers;
-use crate::window::frame_words;
 use refined::copy::numbers6;
 use refined::copy::numbers36;
+use ring::FixedLagSmoother;
+use ring::window::frame_numbers;
+use ring::window::frame_words;
 use rts::Step;
 use scalar::bits;
 ghost use mathlib.Core.Path.{_≡_};
@@ -12,8 +12,8 @@ ghost use Prim.Native.Nat.{_+_, _-_, _*_, _<_, _≤_};
 ghost use lib.ListN.{length};
 ghost use Rattle.scalar.specs.Scalar.{secondsOf, signed};
 ghost use Rattle.refined.specs.Frame.{trackCount};
-ghost use Rattle.backward.specs.Pass.{backOne, chain, runBack, smoothedAt, lastAt, stateAt};
-ghost use Rattle.backward.specs.Window.{wordsIn, frameIn, framesFrom, framesIn, Fitting, AllCounted, estimateOf, passedOf, foundOf};
+ghost use Rattle.backward.specs.Pass.{backOne, chain, runBack, smoothedAt, lastAt, stateAt, estimateOf, passedOf, foundOf};
+ghost use Rattle.ring.specs.Window.{wordsIn, frameIn, framesFrom, framesIn, Fitting, AllCounted};
 
 // Position and velocity, and their covariance by rows.
 pub struct TrackState {

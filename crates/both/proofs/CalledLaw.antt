@@ -21,7 +21,7 @@ use Rattle.fgo.specs.Sent as refiner
 use Rattle.fgo.specs.Sent.{inWords}
 use Rattle.fgo.proofs.SentLaw as refiner-law
 use Rattle.refined.specs.Frame.{SmootherFrame, frame, wellFormed}
-use Rattle.backward.specs.declared.FixedLagSmoother.{FixedLagSmoother}
+use Rattle.ring.specs.declared.FixedLagSmoother.{FixedLagSmoother}
 use Rattle.buffers.specs.Buffers.{over}
 use Rattle.smoother.specs.declared.Answer as declared
 use Rattle.smoother.specs.declared.Answer.the-variants.{Refused, Held, Frame}

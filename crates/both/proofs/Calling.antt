@@ -14,8 +14,8 @@ use Rattle.engine.proofs.Every.{both}
 use Rattle.refined.specs.Frame.{SmootherFrame, wellFormed}
 use Rattle.backward.specs.Pass.{emitted}
 use Rattle.smoother.specs.Smoother.{State, new, holding, held, Lent, Answer, refused, waits, gives, bounded, windowFits, ruleOk, outFits, laterRefusal, settle, settleBy, release, pushFormed, pushBy, push, takesBy, takes}
-use Rattle.backward.specs.Window.{allFormed}
-use Rattle.backward.proofs.Forms.{formed-more}
+use Rattle.ring.specs.Window.{allFormed}
+use Rattle.ring.proofs.Forms.{formed-more}
 use Rattle.model.proofs.All.{mem-All, foldl-keeps}
 use Rattle.both.specs.Smoothed.{Call, pushed, taken, Smoothing, acceptedBy, givenBy, answer, step, begin, smoothing}
 

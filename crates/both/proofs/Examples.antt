@@ -37,7 +37,7 @@ use Rattle.model.proofs.Examples.{lagging}
 use Rattle.refined.specs.Frame.{SmootherFrame, headOk as formHead, trackOk as formTrack, associationOk as formAssociation, sensorOk, exact, rowsOk, wellFormed}
 use Rattle.backward.specs.Pass.{chain, runBack, smoothedAt, statesTo, emitted, stateAt, lastAt, stateOf}
 use Rattle.smoother.specs.Smoother.{Lent, bounded, windowFits, ruleOk, outFits, laterRefusal, settle as settleFrame, release as releaseFrame, push as pushSmoother, takes as takeSmoother}
-use Rattle.backward.specs.Window.{allFormed}
+use Rattle.ring.specs.Window.{allFormed}
 use Rattle.both.specs.Smoothed.{handed, Call, pushed as handOver, taken, step as callStep, smoothing}
 
 -- a dot at (x, 2, 0.5) at time t, of engine id 7

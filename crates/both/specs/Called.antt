@@ -12,7 +12,7 @@ use Rattle.model.specs.History.{run}
 use Rattle.fgo.specs.Promise.{roomy}
 use Rattle.fgo.specs.Sent as refiner
 use Rattle.refined.specs.Frame.{SmootherFrame, frame, wellFormed}
-use Rattle.backward.specs.declared.FixedLagSmoother.{FixedLagSmoother}
+use Rattle.ring.specs.declared.FixedLagSmoother.{FixedLagSmoother}
 use Rattle.buffers.specs.Buffers.{over}
 use Rattle.smoother.specs.declared.Opened.the-variants.{Ready}
 use Rattle.smoother.specs.declared.Answer.{Answer}

@@ -10,8 +10,8 @@ use Rattle.engine.specs.declared.config.FgoConfig.{FgoConfig}
 use Rattle.engine.specs.Body.{narrow, associationCount, sensorCount, frameOf}
 use Rattle.model.specs.Emitting.{Listed, Emitted, listing, trackWords, trackNumbers, wordsOf, numbersOf}
 use Rattle.buffers.specs.Buffers.{over}
-use Rattle.memory.specs.Memory.{bodyAt, idAt, scanIn, tableIn}
-use Rattle.emitting.specs.Writing.{idsIn, associationsIn, costsIn, headIn, PutTracks, frameIn, PutFrame}
+use Rattle.memory.specs.Memory.{bodyAt, idAt, idsIn, scanIn, tableIn}
+use Rattle.emitting.specs.Writing.{associationsIn, costsIn, headIn, PutTracks, frameIn, PutFrame}
 use Rattle.engine.proofs.Passing.{length-rows}
 use Rattle.memory.proofs.Counts.{sensors-long, associations-long}
 use Rattle.emitting.proofs.Associations.{costs-long, associations-size}

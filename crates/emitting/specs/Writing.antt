@@ -5,17 +5,16 @@ use mathlib.Core.Bool.{true}
 use mathlib.Core.List.{List, [], _∷_, map, flatMap}
 use lib.ListN.{length}
 use lib.IntN.{ℤ}
-use lib.Ieee.{Float, binary64, ofBits}
+use lib.Ieee.{Float}
 use Rattle.scalar.specs.Scalar.{word}
 use Rattle.engine.specs.declared.config.FgoConfig.{FgoConfig}
 use Rattle.engine.specs.Frame.{modeNumber}
-use Rattle.engine.specs.Body.{narrow, timeOk, associationCount, sensorCount, refusal, frameOf, rows}
-use Rattle.kf.specs.declared.filter.Kf.{Kf}
-use Rattle.model.specs.Emitting.{Listed, Emitted, report, listing, trackWords, covariance, trackNumbers, associationsWords, costNumber, wordsOf, numbersOf}
+use Rattle.engine.specs.Body.{narrow, timeOk, associationCount, sensorCount, refusal, frameOf}
+use Rattle.model.specs.Emitting.{Listed, Emitted, report, listing, trackWords, trackNumbers, associationsWords, costNumber, wordsOf, numbersOf}
 use Rattle.memory.specs.declared.state.Prefix.{Prefix}
 use Rattle.emitting.specs.declared.emit.Size.{Size}
 use Rattle.buffers.specs.Buffers.{over}
-use Rattle.memory.specs.Memory.{keyIn, prefixIn, entryIn, tableIn, bodyAt, idAt, scanIn}
+use Rattle.memory.specs.Memory.{keyIn, prefixIn, entryIn, tableIn, bodyAt, idsIn, scanIn}
 use Rattle.freezing.specs.Frozen.{PartOk, PartsOk}
 
 -- a frozen part by value that can be listed at a time
@@ -25,10 +24,6 @@ pub record Lists (time : ℤ) (p : Prefix) : Type 0 where
   pub last : timeOk (p .«last_ns») ≡ true
 
 -- ---- tracks
-
--- the numbers of a listed track, of its filter, its height and its variance
-abbrev pub rowOf : Kf → Float → Float → List Float
-rowOf k height r = k .x ∷ k .y ∷ height ∷ k .vx ∷ k .vy ∷ ofBits binary64 0 ∷ covariance k r
 
 -- frozen part k, as it is listed at a time
 abbrev pub reportIn : FgoConfig → ℤ → List ℕ → List Float → ℕ → Listed
@@ -59,10 +54,6 @@ pub record PutTracks (ls : List Listed) (n : ℕ) (ws : List ℕ) (ns : List Flo
   pub numbers : ns′ ≡ over 0 (flatMap trackNumbers ls) ns
 
 -- ---- associations
-
--- the ids of scan n, of which the body is s
-abbrev pub idsIn : List ℕ → ℕ → List ℕ → List ℕ
-idsIn columns n s = rows (idAt columns n) 0 (associationCount narrow s)
 
 -- the words of the associations of a body that says scan n
 abbrev pub associationsIn : List ℕ → ℕ → List ℕ → List ℕ

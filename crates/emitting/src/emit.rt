@@ -29,7 +29,7 @@ ghost use Rattle.model.specs.Emitting as model;
 ghost use Rattle.buffers.specs.Buffers.{over};
 ghost use Rattle.memory.specs.Memory.{cells, partOf, tableIn, lastIn};
 ghost use Rattle.freezing.specs.Frozen.{PartsOk};
-ghost use Rattle.emitting.specs.Writing.{Lists, rowOf, reportIn, PutsTrack, PutTrack, Roomy, PutTracks, associationsIn, costsIn, frameIn, PutsFrame, PutFrame, headIn};
+ghost use Rattle.emitting.specs.Writing.{Lists, reportIn, PutsTrack, PutTrack, Roomy, PutTracks, associationsIn, costsIn, frameIn, PutsFrame, PutFrame, headIn};
 
 // The length of an emitted frame in words and in numbers.
 pub struct Size {
@@ -83,7 +83,7 @@ fn track_words(c: FgoConfig, time: i64, id: RefinedId, p: Prefix) -> [u64; 6]
 
 // The numbers of a listed track: position, velocity and covariance.
 fn row_of(k: Kf, height: f64, r: f64) -> [f64; 42]
-    ensures { λ l. ⌜ l ≡ rowOf k height r ⌝ }
+    ensures { λ l. ⌜ l ≡ model.stateNumbers k height r ⌝ }
 {
     let mut l = [0.0; 42];
     l[0] = k.x;

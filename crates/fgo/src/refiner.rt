@@ -99,39 +99,19 @@ fn release<'a, 'b, 'c, 'd, 'e, 'f>(
     requires { ⌜ Ready r (memory (now bodies) (now columns) (now owners) (now tracks) (now filters)) × Roomy (now words) (now numbers) × (1 ≤ r .held) ⌝ }
     ensures { λ p. ⌜ Ends (releaseOf r (memory (now (bodies .entry)) (now (columns .entry)) (now (owners .entry)) (now (tracks .entry)) (now (filters .entry)))) r (memory (now (bodies .entry)) (now (columns .entry)) (now (owners .entry)) (now (tracks .entry)) (now (filters .entry))) (now (words .entry)) (now (numbers .entry)) p (memory (now (bodies .entry)) (now (columns .entry)) (now (owners .exit)) (now (tracks .exit)) (now (filters .exit))) (now (words .exit)) (now (numbers .exit)) ⌝ }
 {
-    let config = r.config;
+    let c = r.config;
     let n = r.first;
-    let frozen = freeze::freeze_scan(config, bodies, columns, n, tracks, filters, r.frozen);
-    let z = emit::put_frame(
-        config,
-        bodies,
-        columns,
-        n,
-        tracks,
-        filters,
-        frozen,
-        words,
-        numbers,
-    );
+    let many = freeze::freeze_scan(c, bodies, columns, n, tracks, filters, r.frozen);
+    let z = emit::put_frame(c, bodies, columns, n, tracks, filters, many, words, numbers);
     let time = body::time_of(state::body_in(bodies, columns, n));
     let first = ScanIndex(n.0 + 1);
     let held = r.held - 1;
-    let kept = freeze::forget(
-        config,
-        time,
-        bodies,
-        columns,
-        first,
-        held,
-        tracks,
-        filters,
-        frozen,
-    );
+    let kept = freeze::forget(c, time, bodies, columns, first, held, tracks, filters, many);
     let owned = own::keep_owners(bodies, columns, first, held, tracks, kept, owners, r.owned);
     let next = r.next;
     let counters = r.counters;
     let refiner = FixedLagRefiner {
-        config,
+        config: c,
         first,
         held,
         frozen: kept,

@@ -3,7 +3,7 @@ use Prim.Native.Nat.{ℕ, suc, _+_, _<_, _≤_}
 use mathlib.Core.Path.{_≡_}
 use mathlib.Core.Bool.{Bool, true, cond, _||_}
 use mathlib.Core.List.{List, [], _∷_}
-use lib.ListN.{length, getD}
+use lib.ListN.{length}
 use lib.Dec.{ltb}
 use lib.IntN.{ℤ, _-ℤ_}
 use lib.Signed.{leZ}
@@ -11,14 +11,13 @@ use lib.Ieee.{Float}
 use Rattle.engine.specs.declared.config.FgoConfig.{FgoConfig}
 use Rattle.engine.specs.Config.{forgetAfter}
 use Rattle.engine.specs.Body.{narrow, timeOk, refusal, frameOf}
-use Rattle.engine.specs.Frame.{noAssociation}
 use Rattle.model.specs.Lists.{find, put}
 use Rattle.model.specs.Windows as windows
 use Rattle.model.specs.Windows.{Scan, Dot, dotOf, inWindows}
 use Rattle.model.specs.Freezing.{freeze}
 use Rattle.memory.specs.declared.state.Prefix.{Prefix}
 use Rattle.freezing.specs.declared.freeze.Sighting.{Sighting}
-use Rattle.memory.specs.Memory.{keyIn, lastIn, entryIn, tableIn, bodyAt, scanIn, inWindow}
+use Rattle.memory.specs.Memory.{keyIn, lastIn, entryIn, tableIn, bodyAt, associationIn, scanIn, inWindow}
 
 -- an observation by value, as the dot that it is
 abbrev pub dotBy : Sighting → Dot
@@ -26,7 +25,7 @@ dotBy d = record { scan = d .scan .0; time = d .time; x = d .x; y = d .y; z = d 
 
 -- association j of a body that says scan n, as a dot
 abbrev pub seenIn : ℕ → List ℕ → ℕ → Dot
-seenIn n s j = let f = frameOf narrow s in dotOf n f (getD (f .associations) j noAssociation)
+seenIn n s j = dotOf n (frameOf narrow s) (associationIn s j)
 
 -- how many heights there are after one more
 abbrev pub heightCount : ℕ → ℕ

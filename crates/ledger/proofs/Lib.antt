@@ -4,5 +4,4 @@ pub mod AllOf
 pub mod Scans
 pub mod HeldGathered
 pub mod SoundLaw
-pub mod Owners
 pub mod OwnedGathered

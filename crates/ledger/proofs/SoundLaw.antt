@@ -19,7 +19,7 @@ use Rattle.model.specs.Windows.{Scan, present, live, detections}
 use Rattle.model.specs.Rule as rules
 use Rattle.model.specs.Rule.{allOf, prefixOk, risesOk, apartOk, looseOk, clutterOk, columnOk, distinctOk, ruleOk}
 use Rattle.memory.specs.declared.state.FixedLagRefiner.{FixedLagRefiner}
-use Rattle.memory.specs.Memory.{Memory, bodyAt, idAt, scanIn, scansIn, heightsIn, keyIn, prefixIn, entryIn, tableIn, ownersIn, stateOf, keysIn, lastIn, associationIn}
+use Rattle.memory.specs.Memory.{Memory, bodyAt, idAt, scanIn, scansIn, heightsIn, keyIn, prefixIn, entryIn, tableIn, ownerAt, ownersIn, stateOf, keysIn, lastIn, associationIn}
 use Rattle.ledger.specs.Sound.{bodiesOk, countsOk, idOk, columnIn, columnsOk, keyBefore, partOk, partsOk, ownedOk, engineIn, distinctAt, liveIn, entryOk, entriesOk, soundIn, soundOk}
 use Rattle.memory.proofs.Present.{present-has}
 use Rattle.ledger.proofs.Conjunctions.{passed}
@@ -121,7 +121,7 @@ distinct-from owners owned o (suc m) e =
     ∙ ap (λ b. not (has (engineIn owners o) (rows (engineIn owners) (suc o) m)) && b) (distinct-from owners owned (suc o) m (omega arith))
 
 distinct-rule : (owners : List ℕ) (owned : ℕ) → all (distinctAt owners owned) owned ≡ distinctOk (map (λ o. o .0) (ownersIn owners owned))
-distinct-rule owners owned = all-numbers (distinctAt owners owned) owned ∙ distinct-from owners owned 0 owned (omega arith) ∙ ap distinctOk (sym (map-rows (λ o. o .0) (λ k. (getD owners (2 * k) 0, getD owners (2 * k + 1) 0)) 0 owned))
+distinct-rule owners owned = all-numbers (distinctAt owners owned) owned ∙ distinct-from owners owned 0 owned (omega arith) ∙ ap distinctOk (sym (map-rows (λ o. o .0) (ownerAt owners) 0 owned))
 
 -- a key is found where it stands
 found-has : {A : Type 0} (x : ℕ) (g : ℕ → ℕ × A) (o n : ℕ) → isSome (find x (rows g o n)) ≡ has x (rows (λ k. g k .0) o n)
@@ -197,7 +197,7 @@ module _ (r : FixedLagRefiner) (m : Memory) where
       ≡ (distinctOk (map (λ o. o .0) (ownersIn (m .owners) (r .owned))) && allOf lives (ownersIn (m .owners) (r .owned)))
   unfolding entriesOk entryOk
   entries-rule =
-      let entry : ℕ → ℕ × ℕ = λ k. (getD (m .owners) (2 * k) 0, getD (m .owners) (2 * k + 1) 0) in
+      let entry : ℕ → ℕ × ℕ = ownerAt (m .owners) in
       all-both (distinctAt (m .owners) (r .owned)) (λ k. liveIn (m .bodies) (m .columns) (r .first .0) (r .held) (m .tracks) (r .frozen) (entry k .1)) (r .owned)
       ∙ ap (λ b. b && all (λ k. liveIn (m .bodies) (m .columns) (r .first .0) (r .held) (m .tracks) (r .frozen) (entry k .1)) (r .owned)) (distinct-rule (m .owners) (r .owned))
       ∙ ap (λ b. distinctOk (map (λ o. o .0) (ownersIn (m .owners) (r .owned))) && b)
@@ -211,7 +211,7 @@ module _ (r : FixedLagRefiner) (m : Memory) where
       let os = ownersIn (m .owners) (r .owned) in
       let held : length scans ≡ r .held = length-rows (scanIn (m .bodies) (m .columns)) (r .first .0) (r .held) in
       let frozen : length (tableIn (m .tracks) (m .filters) (r .frozen)) ≡ r .frozen = length-rows (entryIn (m .tracks) (m .filters)) 0 (r .frozen) in
-      let entries : length os ≡ r .owned = length-rows (λ k. (getD (m .owners) (2 * k) 0, getD (m .owners) (2 * k + 1) 0)) 0 (r .owned) in
+      let entries : length os ≡ r .owned = length-rows (ownerAt (m .owners)) 0 (r .owned) in
       rw (held, frozen, entries)
       (rw (columns-rule (r .next .0) (m .bodies) (m .columns) (r .first .0) (r .held), parts-rule (r .first .0) (r .next .0) (m .tracks) (m .filters) (r .frozen), entries-rule)
       (in-order (legal (r .config)) (leb (r .held) (lag (r .config))) (leb (r .first .0 + r .held) 4294967295) (ltb 0 (r .next .0)) (leb (r .frozen) 128) (leb (r .owned) 256)

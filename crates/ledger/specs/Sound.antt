@@ -13,7 +13,7 @@ use Rattle.model.specs.Windows.{detections}
 use Rattle.model.specs.Rule as rules
 use Rattle.model.specs.Rule.{allOf, looseOk, ruleOk}
 use Rattle.memory.specs.declared.state.FixedLagRefiner.{FixedLagRefiner}
-use Rattle.memory.specs.Memory.{Memory, bodyAt, idAt, keyIn, scansIn, inWindow, ownersIn, stateOf, keysIn, lastIn, associationIn}
+use Rattle.memory.specs.Memory.{Memory, bodyAt, idAt, keyIn, scansIn, inWindow, ownerAt, ownersIn, stateOf, keysIn, lastIn, associationIn}
 use Rattle.memory.specs.Gathering.{Held, latestOf}
 
 -- ---- the rule
@@ -95,7 +95,7 @@ ownedAll ids engines starts held owners owned n = all (ownedAt ids engines start
 
 -- the engine id of owner entry k
 abbrev pub engineIn : List ℕ → ℕ → ℕ
-engineIn owners k = getD owners (2 * k) 0
+engineIn owners k = ownerAt owners k .0
 
 -- "owner entries have distinct engine ids": entry k and those after it
 unfoldable pub distinctAt : List ℕ → ℕ → ℕ → Bool

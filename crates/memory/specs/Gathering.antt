@@ -9,13 +9,13 @@ use lib.Ieee.{Float}
 use Rattle.scalar.specs.Scalar.{secondsOf}
 use Rattle.engine.specs.declared.config.FgoConfig.{FgoConfig}
 use Rattle.engine.specs.declared.types.Association.{Association}
-use Rattle.engine.specs.Frame.{Frame, noAssociation, engineOf}
-use Rattle.engine.specs.Body.{narrow, associationCount, refusal, frameOf, rows}
+use Rattle.engine.specs.Frame.{Frame, engineOf}
+use Rattle.engine.specs.Body.{narrow, refusal, frameOf, rows}
 use Rattle.model.specs.Windows.{Scan, Dot, inWindows, detections, dotOf, noise}
 use Rattle.model.specs.Owning.{orElse}
 use Rattle.windows.specs.Columns.{spread}
 use Rattle.buffers.specs.Buffers.{over}
-use Rattle.memory.specs.Memory.{slotAt, bodyAt, idAt, scansIn}
+use Rattle.memory.specs.Memory.{slotAt, bodyAt, idAt, associationIn, scanBy, scansIn}
 
 -- a detection in a window: its engine id, its refined id, and its observation
 pub record Gathered : Type 0 where
@@ -48,24 +48,21 @@ idsOf gs = map (λ g. g .id) gs
 abbrev pub enginesOf : List Gathered → List ℕ
 enginesOf gs = map (λ g. g .engine) gs
 
--- x, y, the variance and the time in seconds of each
+-- x, y, the variance and the time in seconds of a dot
+abbrev pub dotNumbers : FgoConfig → Dot → List Float
+dotNumbers c d = d .x ∷ d .y ∷ noise c d ∷ secondsOf (d .time) ∷ []
+
+-- those of each
 abbrev pub numbersFor : FgoConfig → Gathered → List Float
-numbersFor c g = let d = g .dot in d .x ∷ d .y ∷ noise c d ∷ secondsOf (d .time) ∷ []
+numbersFor c g = dotNumbers c (g .dot)
 
 -- those of all, one after the other
 abbrev pub dotsOf : FgoConfig → List Gathered → List Float
 dotsOf c gs = flatMap (numbersFor c) gs
 
--- association j of a body that says a scan
+-- those of association j of a body that says a scan
 abbrev pub dotIn : FgoConfig → List ℕ → ℕ → List Float
-dotIn c s j =
-    let f = frameOf narrow s in
-    let d = dotOf 0 f (getD (f .associations) j noAssociation) in
-    d .x ∷ d .y ∷ noise c d ∷ secondsOf (d .time) ∷ []
-
--- the scan n of a body, with the ids of its column
-abbrev pub scanBy : List ℕ → ℕ → List ℕ → Scan
-scanBy columns n s = record { frame = frameOf narrow s; ids = rows (idAt columns n) 0 (associationCount narrow s) }
+dotIn c s j = dotNumbers c (dotOf 0 (frameOf narrow s) (associationIn s j))
 
 -- the detections in windows of scan n, of which the body is s
 abbrev pub foundIn : List ℕ → ℕ → List ℕ → List Gathered

@@ -64,11 +64,17 @@ idAt columns n j = cond (ltb j 32) (getD columns (33 * slotAt n + (1 + j)) 0) 0
 abbrev pub associationIn : List ℕ → ℕ → Association
 associationIn s j = getD (frameOf narrow s .associations) j noAssociation
 
--- a held scan: what its body says, and an id for each association
+-- the ids of the scan n, of which the body is s: one for each association
+abbrev pub idsIn : List ℕ → ℕ → List ℕ → List ℕ
+idsIn columns n s = rows (idAt columns n) 0 (associationCount narrow s)
+
+-- the scan n of the body s: what it says, and the ids
+abbrev pub scanBy : List ℕ → ℕ → List ℕ → Scan
+scanBy columns n s = record { frame = frameOf narrow s; ids = idsIn columns n s }
+
+-- a held scan
 unfoldable pub scanIn : List ℕ → List ℕ → ℕ → Scan
-scanIn bodies columns n =
-    let s = bodyAt bodies columns n in
-    record { frame = frameOf narrow s; ids = rows (idAt columns n) 0 (associationCount narrow s) }
+scanIn bodies columns n = scanBy columns n (bodyAt bodies columns n)
 
 -- the scans held, from the number first on
 abbrev pub scansIn : List ℕ → List ℕ → ℕ → ℕ → List Scan
@@ -145,9 +151,13 @@ partNumbers p =
 
 -- ---- owners: pairs of an engine id and a refined id
 
+-- owner entry k
+abbrev pub ownerAt : List ℕ → ℕ → ℕ × ℕ
+ownerAt owners k = (getD owners (2 * k) 0, getD owners (2 * k + 1) 0)
+
 -- the first n owner entries
 abbrev pub ownersIn : List ℕ → ℕ → List (ℕ × ℕ)
-ownersIn owners n = rows (λ k. (getD owners (2 * k) 0, getD owners (2 * k + 1) 0)) 0 n
+ownersIn owners n = rows (ownerAt owners) 0 n
 
 -- ---- the state
 

@@ -122,11 +122,13 @@ covariance k r =
     ∷ o ∷ o ∷ o ∷ o ∷ o ∷ r
     ∷ []
 
--- "the speed of the height is 0"
+-- those of a filter, a height and a variance: "the speed of the height is 0"
+abbrev pub stateNumbers : Kf → Float → Float → List Float
+stateNumbers k height r = k .x ∷ k .y ∷ height ∷ k .vx ∷ k .vy ∷ ofBits binary64 0 ∷ covariance k r
+
+-- those of a listed track
 abbrev pub trackNumbers : Listed → List Float
-trackNumbers l =
-    let k = l .kf in
-    k .x ∷ k .y ∷ l .height ∷ k .vx ∷ k .vy ∷ ofBits binary64 0 ∷ covariance k (l .r)
+trackNumbers l = stateNumbers (l .kf) (l .height) (l .r)
 
 -- "one cost per association"; 0.0 where there is none
 abbrev pub costNumber : Cost → Float

@@ -9,9 +9,8 @@ use lib.Seq.{getD-set-same, getD-set-other}
 use Rattle.engine.specs.Body.{rows}
 use Rattle.model.specs.Lists.{consIf, keep}
 use Rattle.model.proofs.Counting.{keep-append}
-use Rattle.memory.specs.Memory.{ownersIn}
+use Rattle.memory.specs.Memory.{ownerAt, ownersIn}
 use Rattle.memory.proofs.Rows.{front-more, rows-same}
-use Rattle.ledger.proofs.Owners.{ownerAt}
 
 pair-same : {a a′ b b′ : ℕ} → a ≡ a′ → b ≡ b′ → _≡_ {A = ℕ × ℕ} (a, b) (a′, b′)
 pair-same e f = rw (e, f)

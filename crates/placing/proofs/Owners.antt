@@ -9,11 +9,10 @@ use lib.Seq.{getD-set-same, getD-set-other}
 use borrow.Author.Tests.{eq-eqb, ne-eqb, le-leb, lt-leb}
 use Rattle.engine.specs.Body.{rows}
 use Rattle.model.specs.Lists.{assign}
-use Rattle.memory.specs.Memory.{ownersIn}
+use Rattle.memory.specs.Memory.{ownerAt, ownersIn}
 use Rattle.placing.specs.Placing.{assignedIn}
 use Rattle.engine.proofs.Passing.{length-rows}
 use Rattle.memory.proofs.Rows.{front-more, rows-parts, rows-same, rows-step, rows-end}
-use Rattle.ledger.proofs.Owners.{ownerAt}
 
 -- the entries before k, and those from k on
 in-parts : {A : Type 0} (g : ℕ → A) (n k : ℕ) → k ≤ n → rows g 0 n ≡ rows g 0 k ++ rows g k (n - k)

@@ -2,10 +2,10 @@
 //
 // A frame that the refiner emits stands at the front of fw and fx. A smoother has its window in window and values, which are empty where there is none, and
 // writes its frames to words and numbers.
-use backward::FixedLagSmoother;
 use fgo::refiner::Answer;
 use lines::ROOM;
 use printing::print;
+use ring::FixedLagSmoother;
 
 // The words and numbers of the longest frame.
 pub const WORDS: usize = 910;

@@ -1,11 +1,11 @@
 -- The refusal that the code finds is the one of the refiner as defined, and a push is what that refusal leaves. Assumes nothing.
-use Prim.Native.Nat.{ℕ, zero, suc, _+_, _*_, _^_}
+use Prim.Native.Nat.{ℕ, zero, suc, _+_, _^_}
 use native.Mathlib.Omega.{arith}
 use mathlib.Core.Path.{_≡_, refl, ap, _∙_}
 use mathlib.Core.Bool.{Bool, true, false, _||_}
 use mathlib.Core.List.{List, foldr}
 use mathlib.Core.Option.{Option, none}
-use lib.ListN.{length, getD}
+use lib.ListN.{length}
 use lib.Dec.{leb, ltb}
 use Rattle.engine.specs.declared.config.FgoConfig.{FgoConfig}
 use Rattle.engine.specs.Frame.{Frame}
@@ -15,7 +15,7 @@ use Rattle.model.specs.Windows.{detections}
 use Rattle.model.specs.Refiner as model
 use Rattle.model.specs.Refiner.{State, refused, full8, full9, full10, idCount, join, firstOf, pushBy, pushRead, pushFrame}
 use Rattle.memory.specs.declared.state.FixedLagRefiner.{FixedLagRefiner}
-use Rattle.memory.specs.Memory.{Memory, scanIn, scansIn, entryIn, stateOf}
+use Rattle.memory.specs.Memory.{Memory, scanIn, scansIn, entryIn, ownerAt, stateOf}
 use Rattle.ledger.specs.Sound.{orNone}
 use Rattle.refusing.specs.Refusing.{fullIn, joinedIn, refusedBy, pushRefusal}
 use Rattle.ledger.proofs.SoundLaw.{map-rows}
@@ -52,7 +52,7 @@ module _ (r : FixedLagRefiner) (m : Memory) (s : List ℕ) where
   unfolding full10 joinedIn stateOf
   ten =
       ap (λ (l : List ℕ). ltb 256 (length (foldr (λ a. join (a .track)) l (f .associations))))
-      (map-rows (λ o. o .0) (λ k. (getD (m .owners) (2 * k) 0, getD (m .owners) (2 * k + 1) 0)) 0 (r .owned))
+      (map-rows (λ o. o .0) (ownerAt (m .owners)) 0 (r .owned))
 
   pub found-same : firstOf (full8 t) (full9 t f) (full10 t f) ≡ found
   found-same = ap (λ b. firstOf b (full9 t f) (full10 t f)) eight ∙ ap (λ b. firstOf (fullIn r) b (full10 t f)) nine ∙ ap (firstOf (fullIn r) _) ten

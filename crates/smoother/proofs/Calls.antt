@@ -7,19 +7,19 @@ use native.Mathlib.Omega.{arith}
 use native.Mathlib.Nat.{sub-zero}
 use lib.Ieee.{Float}
 use borrow.Author.Tests.{lt-ltb, le-ltb}
-use Rattle.backward.specs.declared.FixedLagSmoother.{FixedLagSmoother}
+use Rattle.ring.specs.declared.FixedLagSmoother.{FixedLagSmoother}
 use Rattle.smoother.specs.declared.Answer.the-variants.{Refused}
 use Rattle.smoother.specs.declared.Told.{Told}
 use Rattle.refined.specs.Frame.{SmootherFrame, wellFormed}
 use Rattle.backward.specs.Pass.{emitted}
 use Rattle.smoother.specs.Smoother.{State, Lent, unopened, opensBy, refused, waits, gives, held, laterRefusal, release, settle, pushBy, push, takesBy, takes}
-use Rattle.backward.specs.Window.{frameIn, framesFrom, framesIn, allFormed, fewer, more, Fitting, AllCounted, Stored}
+use Rattle.ring.specs.Window.{frameIn, framesFrom, framesIn, allFormed, fewer, more, Fitting, AllCounted, Stored}
 use Rattle.smoother.specs.Promise.{stateIn, Buffers, buffers, lengths, answerOf, Released, Promised}
 use Rattle.buffers.specs.Buffers.{over}
 use Rattle.backward.specs.Oldest.{oldest}
-use Rattle.backward.proofs.Forms.{frames-long, formed-more}
+use Rattle.ring.proofs.Forms.{frames-long, formed-more}
 use Rattle.backward.proofs.Chains.{one-more}
-use Rattle.backward.proofs.Storing.{released}
+use Rattle.ring.proofs.Storing.{released}
 use Rattle.smoother.proofs.Refusals.{Passing, all-counted}
 
 -- ---- a refusal

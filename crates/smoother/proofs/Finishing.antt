@@ -12,7 +12,7 @@ use Rattle.engine.proofs.Every.{both}
 use Rattle.refined.specs.Frame.{SmootherFrame, wellFormed}
 use Rattle.backward.specs.Pass.{emitted}
 use Rattle.smoother.specs.Smoother.{State, Lent, Answer, refused, gives, holding, bounded, windowFits, ruleOk, outFits, laterRefusal, release, takes, finish}
-use Rattle.backward.specs.Window.{allFormed}
+use Rattle.ring.specs.Window.{allFormed}
 use Rattle.smoother.proofs.Refusals.{none-of}
 use Rattle.smoother.proofs.Calls.{take-passed}
 

@@ -11,12 +11,12 @@ use lib.Dec.{leb}
 use borrow.Author.Tests.{leb-true, eqb-true}
 use Rattle.scalar.specs.Scalar.{finite}
 use Rattle.engine.proofs.Every.{both, all-at}
-use Rattle.backward.specs.declared.FixedLagSmoother.{FixedLagSmoother}
+use Rattle.ring.specs.declared.FixedLagSmoother.{FixedLagSmoother}
 use Rattle.smoother.specs.Smoother.{bounded, windowFits, ruleOk, outFits, laterRefusal}
-use Rattle.backward.specs.Window.{slotOf, wide, slotWords, framesIn, allFormed, Fitting, AllCounted}
+use Rattle.ring.specs.Window.{slotOf, wide, slotWords, framesIn, allFormed, Fitting, AllCounted}
 use Rattle.smoother.specs.Promise.{stateIn, Buffers, lengths}
-use Rattle.backward.proofs.Forms.{all-held, counted, frames-long}
-use Rattle.backward.proofs.Slots.{slot-within, room}
+use Rattle.ring.proofs.Forms.{all-held, counted, frames-long}
+use Rattle.ring.proofs.Slots.{slot-within, room}
 
 pub bounds : (lag most : ℕ) → bounded lag most ≡ true → (lag ≤ 16) × (most ≤ 128)
 unfolding bounded

@@ -4,7 +4,7 @@ use mathlib.Core.Path.{_≡_}
 use mathlib.Core.List.{List, []}
 use lib.ListN.{length}
 use lib.Ieee.{Float}
-use Rattle.backward.specs.declared.FixedLagSmoother.{FixedLagSmoother}
+use Rattle.ring.specs.declared.FixedLagSmoother.{FixedLagSmoother}
 use Rattle.smoother.specs.declared.Opened.{Opened}
 use Rattle.smoother.specs.declared.Opened.the-variants.{Refused as NotOpened, Ready}
 use Rattle.smoother.specs.declared.Answer.{Answer}
@@ -12,7 +12,7 @@ use Rattle.smoother.specs.declared.Answer.the-variants.{Refused, Held, F
 use Rattle.smoother.specs.declared.Told.{Told}
 use Rattle.smoother.specs.Smoother as Smoother
 use Rattle.smoother.specs.Smoother.{State, Lent, Opening, opened, unopened, refused, waits, gives}
-use Rattle.backward.specs.Window.{framesIn, fewer}
+use Rattle.ring.specs.Window.{framesIn, fewer}
 use Rattle.buffers.specs.Buffers.{over}
 use Rattle.backward.specs.Oldest.{oldest}
 

@@ -8,7 +8,7 @@ use lib.Ieee.{Float}
 use Rattle.scalar.specs.Scalar.{finite}
 use Rattle.refined.specs.Frame.{SmootherFrame, wellFormed}
 use Rattle.backward.specs.Pass.{emitted}
-use Rattle.backward.specs.Window.{slotWide, slotDeep, allFormed}
+use Rattle.ring.specs.Window.{slotWide, slotDeep, allFormed}
 
 -- what a smoother keeps: its settings, most being C, and the held frames, oldest first
 pub record State : Type 0 where

@@ -1,11 +1,11 @@
 // Fixed-lag smoothing of refined frames, over window buffers that the caller lends: open, push and take, and what they refuse.
-use backward::FixedLagSmoother;
 use backward::emit::emit_numbers;
 use backward::emit::emit_words;
-use backward::window::all_formed;
-use backward::window::dropped;
-use backward::window::store;
 use refined::frame;
+use ring::FixedLagSmoother;
+use ring::window::all_formed;
+use ring::window::dropped;
+use ring::window::store;
 use scalar::bits;
 ghost use mathlib.Core.Path.{_≡_};
 ghost use Prim.Native.Nat.{_+_, _<_, _≤_};
@@ -13,7 +13,7 @@ ghost use lib.ListN.{length};
 ghost use Rattle.refined.specs.Frame.{frame as frameOf};
 ghost use Rattle.smoother.specs.Smoother as Smoother;
 ghost use Rattle.smoother.specs.Smoother.{openRefusal, laterRefusal};
-ghost use Rattle.backward.specs.Window.{Fitting, AllCounted};
+ghost use Rattle.ring.specs.Window.{Fitting, AllCounted};
 ghost use Rattle.smoother.specs.Promise.{stateIn, buffers, lengths, openingOf, Released, Promised};
 
 // What opening answers: refusal 1 or 2, or a smoother that holds nothing.

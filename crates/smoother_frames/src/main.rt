@@ -4,10 +4,10 @@
 // The input is of 64-bit words, little-endian: lag, density, C; then one call after the other: 0 takes; 1, a number of words, a number of numbers, those
 // words and those numbers push a frame. It ends with the input, or with anything else. In `stdin` there are ids that stand twice, dense and broken
 // covariances, NaN and infinities, times that are equal or go back, takes in between, and frames malformed in each way.
-use backward::FixedLagSmoother;
 use engine::little;
 use libc::STDIN_FILENO;
 use lines::ROOM;
+use ring::FixedLagSmoother;
 use scalar::bits;
 use smoother::Answer;
 use smoother::Opened;

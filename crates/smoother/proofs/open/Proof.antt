@@ -1,7 +1,7 @@
 -- `smoother::open` meets its contract. Assumes nothing.
 use mathlib.Core.Path.{sym, ap, _∙_}
 use Rattle.smoother.specs.Smoother.{new, opensBy, opens}
-use Rattle.backward.specs.Window.{framesFrom}
+use Rattle.ring.specs.Window.{framesFrom}
 use Rattle.smoother.specs.Promise.{stateIn}
 use Rattle.smoother.proofs.Calls.{open-refused}
 use borrow.Author.Needs.{needs}

@@ -3,7 +3,7 @@ use mathlib.Core.Path.{sym, _∙_}
 use borrow.Author.Tests.{le-leb, lt-leb, not-true, not-false}
 use Rattle.smoother.specs.Smoother as Smoother
 use Rattle.smoother.specs.Promise.{stateIn}
-use Rattle.backward.proofs.Forms.{frames-long}
+use Rattle.ring.proofs.Forms.{frames-long}
 use borrow.Author.Needs.{needs}
 use Rattle.smoother.proofs.rule_ok.Statement.{statement}
 use Rattle.smoother.proofs.rule_ok.Tie as tie

@@ -8,7 +8,7 @@ use lib.Seq.{length-take-le}
 use Rattle.buffers.specs.Buffers.{over}
 use Rattle.refined.specs.Frame.{trackCount}
 use Rattle.backward.specs.Pass.{statesTo, emitted}
-use Rattle.backward.specs.Window.{wordsIn, numbersIn, frameIn, framesIn}
+use Rattle.ring.specs.Window.{wordsIn, numbersIn, frameIn, framesIn}
 use Rattle.backward.specs.Oldest.{oldest}
 use Rattle.backward.proofs.Chains.{tracks-of}
 use Rattle.backward.proofs.Writing.{costs}

@@ -4,7 +4,8 @@ use mathlib.Core.Path.{_≡_, ap}
 use native.Mathlib.Omega.{arith}
 use lib.ListN.{length}
 use Rattle.refined.specs.Frame.{trackCount}
-use Rattle.backward.specs.Window.{wordsIn, frameIn, framesIn, estimateOf}
+use Rattle.backward.specs.Pass.{estimateOf}
+use Rattle.ring.specs.Window.{wordsIn, frameIn, framesIn}
 use Rattle.backward.proofs.Chains.{tracks-of}
 use Rattle.backward.proofs.Writing.{Stated, none-stated, one-stated}
 use Rattle.backward.proofs.emit.put_states.Statement.{statement}

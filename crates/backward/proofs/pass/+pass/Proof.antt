@@ -6,8 +6,8 @@ use mathlib.Core.Option.{some}
 use native.Mathlib.Omega.{arith}
 use borrow.Author.Needs.{needs}
 use Rattle.refined.specs.Frame.{time}
-use Rattle.backward.specs.Pass.{backOne, chain, runBack, stateAt}
-use Rattle.backward.specs.Window.{wordsIn, frameIn, foundOf}
+use Rattle.backward.specs.Pass.{backOne, chain, runBack, stateAt, foundOf}
+use Rattle.ring.specs.Window.{wordsIn, frameIn}
 use Rattle.backward.proofs.Chains.{one-more, no-more, last-below, tracks-of, enough, found, last-one, goes-on, lacks, none-left}
 use borrow.Fn.Kinds.{In}
 use borrow.Fn.PlainCycle.{Measures, is, falls, and}
@@ -17,8 +17,8 @@ use Rattle.backward.proofs.pass.+pass.Lts-pass as pass-lts
 use Rattle.backward.proofs.pass.find.Reads as find-reads
 use Rattle.backward.proofs.pass.joined.Reads as joined-reads
 use Rattle.backward.proofs.pass.state_at.Reads as state-at-reads
-use Rattle.backward.proofs.window.frame_numbers.Reads as frame-numbers-reads
-use Rattle.backward.proofs.window.frame_words.Reads as frame-words-reads
+use Rattle.ring.proofs.window.frame_numbers.Reads as frame-numbers-reads
+use Rattle.ring.proofs.window.frame_words.Reads as frame-words-reads
 use Rattle.backward.proofs.pass.+pass.{statement}
 use Rattle.backward.proofs.pass.+pass.Tie.{close}
 

@@ -2,8 +2,7 @@
 use mathlib.Core.Path.{sym, ap, _∙_}
 use native.Mathlib.Omega.{arith}
 use Rattle.refined.specs.Frame.{idWord}
-use Rattle.backward.specs.Pass.{stateAt}
-use Rattle.backward.specs.Window.{foundOf}
+use Rattle.backward.specs.Pass.{stateAt, foundOf}
 use Rattle.backward.proofs.Chains.{tracks-of, enough, found, gave, failed, absent}
 use borrow.Author.Needs.{needs}
 use Rattle.backward.proofs.pass.chosen.Statement.{statement}

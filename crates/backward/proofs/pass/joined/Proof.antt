@@ -10,8 +10,7 @@ use Rattle.rts.specs.declared.Step.{Step}
 use Rattle.rts.specs.declared.Step.the-variants.{Smoothed, Skipped, Failed}
 use Rattle.rts.specs.Smoothing.{Estimate, answer, leftBy, left, back}
 use Rattle.backward.specs.declared.pass.Passed.{Passed}
-use Rattle.backward.specs.Pass.{backOne}
-use Rattle.backward.specs.Window.{estimateOf, passedOf}
+use Rattle.backward.specs.Pass.{backOne, estimateOf, passedOf}
 use borrow.Author.Needs.{needs}
 use Rattle.backward.proofs.pass.joined.Statement.{statement}
 use Rattle.backward.proofs.pass.joined.Tie as tie

@@ -13,8 +13,8 @@ use Rattle.engine.specs.Body.{narrow, associationCount, frameOf}
 use Rattle.engine.proofs.Passing.{row-at, length-rows}
 use Rattle.model.specs.Emitting.{associationWords, associationsWords}
 use Rattle.buffers.specs.Buffers.{over}
-use Rattle.memory.specs.Memory.{idAt, associationIn}
-use Rattle.emitting.specs.Writing.{idsIn, associationsIn}
+use Rattle.memory.specs.Memory.{idAt, idsIn, associationIn}
+use Rattle.emitting.specs.Writing.{associationsIn}
 use Rattle.memory.proofs.Counts.{associations-long}
 use Rattle.emitting.proofs.Associations.{associations-more, associations-size}
 use Rattle.memory.proofs.Writes.{Written, written-none, written-more, written-same}

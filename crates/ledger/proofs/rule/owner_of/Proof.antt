@@ -6,11 +6,10 @@ use mathlib.Core.Path.{_≡_, refl, sym, ap, _∙_}
 use mathlib.Core.List.{List}
 use Rattle.engine.specs.Body.{rows}
 use Rattle.model.specs.Lists.{find}
-use Rattle.memory.specs.Memory.{ownersIn}
+use Rattle.memory.specs.Memory.{ownerAt, ownersIn}
 use Rattle.ledger.specs.Sound.{orNone}
 use Rattle.model.proofs.Tables.{found-here, found-past}
 use Rattle.memory.proofs.Rows.{rows-step, rows-end}
-use Rattle.ledger.proofs.Owners.{ownerAt}
 use Rattle.ledger.proofs.rule.owner_of.Statement.{statement}
 use Rattle.ledger.proofs.rule.owner_of.Tie as tie
 

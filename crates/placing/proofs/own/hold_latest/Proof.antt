@@ -8,12 +8,11 @@ use mathlib.Core.List.{List}
 use lib.ListN.{length, length-set, getD, set}
 use lib.Seq.{getD-set-same, getD-set-other}
 use Rattle.model.specs.Owning.{orElse}
-use Rattle.memory.specs.Memory.{ownersIn}
+use Rattle.memory.specs.Memory.{ownerAt, ownersIn}
 use Rattle.memory.specs.Gathering.{latestOf, heldLatest}
 use Rattle.model.proofs.Latest.{or-some, or-none}
 use Rattle.memory.proofs.Rows.{rows-same}
 use Rattle.ledger.proofs.SoundLaw.{map-rows}
-use Rattle.ledger.proofs.Owners.{ownerAt}
 use Rattle.placing.proofs.Owners.{other-owner}
 use Rattle.placing.proofs.own.hold_latest.Statement.{statement}
 use Rattle.placing.proofs.own.hold_latest.Tie as tie

@@ -1,0 +1,16 @@
+-- `ring::window::dropped` meets its contract. Assumes nothing.
+use Prim.Native.Nat.{_-_}
+use borrow.Author.Needs.{needs}
+use Rattle.ring.proofs.window.dropped.Statement.{statement}
+use Rattle.ring.proofs.window.dropped.Tie as tie
+
+returns : tie.Need-returns
+returns c = let g = c .before .before .args .s in let e = c .before .slot .ensures .0 in λ i. record { lag = g .lag; density = g .density; most = g .most; first = e i; held = g .held - 1 }
+
+pub dropped-spec : {M : Type 1} → statement M
+dropped-spec =
+    tie.close
+    (tie.spec
+    (λ c κs. search needs)
+    (λ c. search needs)
+    returns)
