@@ -1,1 +1,4 @@
 pub mod Over
+pub mod Running
+pub mod Writes
+pub mod Checking

@@ -1,10 +1,34 @@
-// Words and numbers put into a buffer. What is put must fit there: the buffer has to reach as far as its last place. Every other place stays as it was.
+// The buffers that a caller lends for a frame: words and numbers put into one, when both are long enough, and the answer that says how much of them a frame
+// takes. Refiner and smoother answer alike.
+use bounds::NUMBERS;
+use bounds::WORDS;
 ghost use mathlib.Core.Path.{_≡_};
 ghost use Prim.Native.Nat.{_+_, _≤_};
 ghost use lib.ListN.{length};
 ghost use Rattle.buffers.specs.Buffers.{over};
+ghost use Rattle.buffers.specs.Answer.{roomy};
 
-// Words over others, from place o on; they must fit.
+// What push and take answer.
+pub enum Answer {
+    // A refusal's number.
+    Refused(u8),
+    // The frame is held, and nothing was written.
+    Held,
+    // A frame stands at the front of the output buffers: so many words and numbers.
+    Frame { words: usize, numbers: usize },
+}
+
+// Output buffers of these lengths have room for any frame; 4 where they have not.
+pub fn is_roomy(words: usize, numbers: usize) -> bool
+    ensures { λ r. ⌜ r ≡ roomy words numbers ⌝ }
+{
+    if words < WORDS {
+        return false;
+    }
+    NUMBERS <= numbers
+}
+
+// Words over others, from place o on; they must fit. Every other place stays as it was.
 pub fn put_words<'a, 'b>(out: &'a mut [u64], o: usize, src: &'b [u64])
     requires { ⌜ o + length (now src) ≤ length (now out) ⌝ }
     ensures { λ _. ⌜ now (out .exit) ≡ over o (now (src .entry)) (now (out .entry)) ⌝ }

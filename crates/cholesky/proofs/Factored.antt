@@ -6,7 +6,7 @@ use Prim.Native.Nat.{ℕ}
 use Rattle.scalar.specs.Num.{Num}
 use Rattle.linalg.specs.Grown.{grown, tabulate}
 use Rattle.linalg.specs.Matrix.{matrix}
-use Rattle.linalg.specs.Cholesky.{low, reduced, divided, column, columns, cholesky, above6, positive}
+use Rattle.linalg.specs.Cholesky.{low, reduced, divided, factorColumn, columns, cholesky, above6, positive}
 use Rattle.linalg.proofs.Grown.{grows}
 
 -- columns 0, .., 5, each divided by the number on its diagonal
@@ -37,9 +37,9 @@ module _ (N : Num) (a : List (N .F)) (r0 r1 r2 r3 r4 r5 : N .F) where
       (e4 : r4 ≡ N .root (reduced N a by3 4 4))
       (e5 : r5 ≡ N .root (reduced N a by4 5 5)) where
     rooted : by5 ≡ columns N a
-    unfolding columns column grown tabulate
+    unfolding columns factorColumn grown tabulate
     rooted =
-        let f : ℕ → List (List (N .F)) → List (N .F) = λ j cs. column N a cs j in
+        let f : ℕ → List (List (N .F)) → List (N .F) = λ j cs. factorColumn N a cs j in
         grows f 5
         (grows f 4
         (grows f 3

@@ -32,32 +32,32 @@ pub fn cholesky6(a: &[f64; 36], l: &mut [f64; 36]) -> bool
     ensures { λ r. ⌜ (r ≡ Cholesky.positive f64 (now (a .entry))) × (now (l .exit) ≡ Cholesky.cholesky f64 (now (a .entry))) ⌝ }
 {
     let d0 = a[0];
-    let l00 = roots::root::sqrt(d0);
+    let l00 = sqrt::sqrt(d0);
     let l10 = a[6] / l00;
     let l20 = a[12] / l00;
     let l30 = a[18] / l00;
     let l40 = a[24] / l00;
     let l50 = a[30] / l00;
     let d1 = a[7] - l10 * l10;
-    let l11 = roots::root::sqrt(d1);
+    let l11 = sqrt::sqrt(d1);
     let l21 = (a[13] - l10 * l20) / l11;
     let l31 = (a[19] - l10 * l30) / l11;
     let l41 = (a[25] - l10 * l40) / l11;
     let l51 = (a[31] - l10 * l50) / l11;
     let d2 = a[14] - l20 * l20 - l21 * l21;
-    let l22 = roots::root::sqrt(d2);
+    let l22 = sqrt::sqrt(d2);
     let l32 = (a[20] - l20 * l30 - l21 * l31) / l22;
     let l42 = (a[26] - l20 * l40 - l21 * l41) / l22;
     let l52 = (a[32] - l20 * l50 - l21 * l51) / l22;
     let d3 = a[21] - l30 * l30 - l31 * l31 - l32 * l32;
-    let l33 = roots::root::sqrt(d3);
+    let l33 = sqrt::sqrt(d3);
     let l43 = (a[27] - l30 * l40 - l31 * l41 - l32 * l42) / l33;
     let l53 = (a[33] - l30 * l50 - l31 * l51 - l32 * l52) / l33;
     let d4 = a[28] - l40 * l40 - l41 * l41 - l42 * l42 - l43 * l43;
-    let l44 = roots::root::sqrt(d4);
+    let l44 = sqrt::sqrt(d4);
     let l54 = (a[34] - l40 * l50 - l41 * l51 - l42 * l52 - l43 * l53) / l44;
     let d5 = a[35] - l50 * l50 - l51 * l51 - l52 * l52 - l53 * l53 - l54 * l54;
-    let l55 = roots::root::sqrt(d5);
+    let l55 = sqrt::sqrt(d5);
     *l = [
         l00, 0.0, 0.0, 0.0, 0.0, 0.0,
         l10, l11, 0.0, 0.0, 0.0, 0.0,
@@ -86,8 +86,8 @@ fn less_row(r: &mut [f64; 6], s: f64, w: &[f64; 36], i: usize)
 }
 
 // The row divided by d.
-fn over(r: &[f64; 6], d: f64) -> [f64; 6]
-    ensures { λ v. ⌜ v ≡ Rows.over f64 (now (r .entry)) d ⌝ }
+fn divide_row(r: &[f64; 6], d: f64) -> [f64; 6]
+    ensures { λ v. ⌜ v ≡ Rows.dividedBy f64 (now (r .entry)) d ⌝ }
 {
     [r[0] / d, r[1] / d, r[2] / d, r[3] / d, r[4] / d, r[5] / d]
 }
@@ -120,7 +120,7 @@ fn solve_row(l: &[f64; 36], w: &mut [f64; 36], i: usize, p: usize, s: usize, q: 
     ensures { λ _. ⌜ now (w .exit) ≡ Rows.putRow f64 (now (w .entry)) i (Rows.solvedRow f64 (now (l .entry)) (now (w .entry)) i p s q n) ⌝ }
 {
     let r = less_rows(l, w, i, p, s, q, n);
-    let v = over(&r, l[i * 6 + i]);
+    let v = divide_row(&r, l[i * 6 + i]);
     put_row(w, i, &v);
 }
 

@@ -12,20 +12,20 @@ use Rattle.engine.specs.Body.{rows}
 use Rattle.engine.specs.Encode.{bytesOf, laid}
 use Rattle.engine.proofs.Passing.{length-rows, row-at}
 
--- b stands in s from place o on
-abbrev pub Stands : List ℕ → ℕ → List ℕ → Type 0
-Stands s o b = (i : ℕ) → i < length b → getD s (o + i) 0 ≡ getD b i 0
+-- b lies in s from place o on
+abbrev pub Lies : List ℕ → ℕ → List ℕ → Type 0
+Lies s o b = (i : ℕ) → i < length b → getD s (o + i) 0 ≡ getD b i 0
 
-module _ (s : List ℕ) (o : ℕ) (a b : List ℕ) (h : Stands s o (a ++ b)) where
-  pub stands-left : Stands s o a
-  stands-left i g = h i (simp length-append (omega arith)) ∙ List·getD-append a b 0 i g
+module _ (s : List ℕ) (o : ℕ) (a b : List ℕ) (h : Lies s o (a ++ b)) where
+  pub lies-left : Lies s o a
+  lies-left i g = h i (simp length-append (omega arith)) ∙ List·getD-append a b 0 i g
 
-  pub stands-right : Stands s (o + length a) b
-  stands-right i g = rw add-assoc (h (length a + i) (simp length-append (omega arith)) ∙ getD-append-add a b i 0)
+  pub lies-right : Lies s (o + length a) b
+  lies-right i g = rw add-assoc (h (length a + i) (simp length-append (omega arith)) ∙ getD-append-add a b i 0)
 
 -- ---- a number
 
-pub read-bytes : (w n : ℕ) (s : List ℕ) (o : ℕ) → n < 256 ^ w → Stands s o (bytesOf w n) → little w s o ≡ n
+pub read-bytes : (w n : ℕ) (s : List ℕ) (o : ℕ) → n < 256 ^ w → Lies s o (bytesOf w n) → little w s o ≡ n
 unfolding little bytesOf
 read-bytes zero n s o f h = omega arith
 read-bytes (suc w) n s o f h =
@@ -60,12 +60,12 @@ unfolding laid
 length-laid [] = refl
 length-laid (x ∷ l) = let ih = length-laid l in simp (length-append, length-bytes, ih)
 
-pub read-fields : (s : List ℕ) (o a : ℕ) (l : List (ℕ × ℕ)) → Fit l → Stands s (o + a) (laid l) → Reads s o a l
+pub read-fields : (s : List ℕ) (o a : ℕ) (l : List (ℕ × ℕ)) → Fit l → Lies s (o + a) (laid l) → Reads s o a l
 unfolding laid
 read-fields s o a [] f h = tt
 read-fields s o a (x ∷ l) f h = (
-  read-bytes (x .0) (x .1) s (o + a) (f .0) (stands-left s (o + a) (bytesOf (x .0) (x .1)) (laid l) h),
-  read-fields s o (a + x .0) l (f .1) (rw (length-bytes, add-assoc) at (stands-right s (o + a) (bytesOf (x .0) (x .1)) (laid l) h)),
+  read-bytes (x .0) (x .1) s (o + a) (f .0) (lies-left s (o + a) (bytesOf (x .0) (x .1)) (laid l) h),
+  read-fields s o (a + x .0) l (f .1) (rw (length-bytes, add-assoc) at (lies-right s (o + a) (bytesOf (x .0) (x .1)) (laid l) h)),
 )
 
 -- ---- rows
@@ -77,17 +77,17 @@ length-flat g k sized (x ∷ l) = let ih = length-flat g k sized l in simp (leng
 
 module _ {A : Type 0} (g : A → List ℕ) (k : ℕ) (sized : (x : A) → length (g x) ≡ k) where
   -- row j of rows of k bytes
-  pub stands-row : (s : List ℕ) (o : ℕ) (l : List A) (d : A) → Stands s o (flatMap g l) → (j : ℕ) → j < length l → Stands s (o + k * j) (g (getD l j d))
+  pub lies-row : (s : List ℕ) (o : ℕ) (l : List A) (d : A) → Lies s o (flatMap g l) → (j : ℕ) → j < length l → Lies s (o + k * j) (g (getD l j d))
   unfolding flatMap
-  stands-row s o [] d h j f = absurd (omega arith)
-  stands-row s o (x ∷ l) d h zero f = rw (mul-zero, add-zero) (stands-left s o (g x) (flatMap g l) h)
-  stands-row s o (x ∷ l) d h (suc j) f =
+  lies-row s o [] d h j f = absurd (omega arith)
+  lies-row s o (x ∷ l) d h zero f = rw (mul-zero, add-zero) (lies-left s o (g x) (flatMap g l) h)
+  lies-row s o (x ∷ l) d h (suc j) f =
       let e : o + length (g x) + k * j ≡ o + k * suc j = rw (sized x, mul-suc) (omega arith) in
-      rw (← e) (stands-row s (o + length (g x)) l d (stands-right s o (g x) (flatMap g l) h) j (omega arith))
+      rw (← e) (lies-row s (o + length (g x)) l d (lies-right s o (g x) (flatMap g l) h) j (omega arith))
 
   -- what stands after the rows
-  pub stands-after : (s : List ℕ) (o : ℕ) (l : List A) (b : List ℕ) → Stands s o (flatMap g l ++ b) → Stands s (o + k * length l) b
-  stands-after s o l b h = rw (length-flat g k sized l) at (stands-right s o (flatMap g l) b h)
+  pub lies-after : (s : List ℕ) (o : ℕ) (l : List A) (b : List ℕ) → Lies s o (flatMap g l ++ b) → Lies s (o + k * length l) b
+  lies-after s o l b h = rw (length-flat g k sized l) at (lies-right s o (flatMap g l) b h)
 
 pub rows-back : {A : Type 0} (h : ℕ → A) (d : A) (l : List A) → ((j : ℕ) → j < length l → h j ≡ getD l j d) → rows h 0 (length l) ≡ l
 rows-back h d l e =

@@ -9,18 +9,19 @@ use lib.ListN.{length, getD, List·getD-eq-default}
 use lib.Dec.{eqb}
 use borrow.Author.Tests.{eqb-true, leb-true}
 use Rattle.engine.specs.Little.{little}
-use Rattle.engine.specs.Body.{Layout, codeOk, presentOk, associationOk, timeOk, zeroBytes, trackCount, sensorCount, observationCount, associationCount, size, time, headOk, tracksOk, associationsOk, observationsOk, indicesOk, refusal, rows}
+use Rattle.bounds.specs.Bounds.{ENGINES, SENSORS}
+use Rattle.engine.specs.Body.{Layout, codeOk, presentOk, associationOk, timeOk, zeroBytes, zerosOk, trackCount, sensorCount, observationCount, associationCount, size, time, headOk, tracksOk, associationsOk, observationsOk, indicesOk, refusal, rows}
 use Rattle.engine.proofs.Every.{both}
 
 -- what the header's test tells
 pub record Sized (k : Layout) (s : List ℕ) : Type 0 where
   pub long : k .head ≤ length s
   pub mode : codeOk (getD s 0 0) ≡ true
-  pub tracks : trackCount k s ≤ 32
-  pub observations : observationCount k s ≤ k .most
-  pub associations : associationCount k s ≤ k .most
-  pub sensors : sensorCount k s ≤ cond (eqb (trackCount k s) 0) 0 8
-  pub zeros : little (k .zeros) s (k .zerosAt) ≡ 0
+  pub tracks : trackCount k s ≤ ENGINES
+  pub observations : observationCount k s ≤ k .observations
+  pub associations : associationCount k s ≤ k .associations
+  pub sensors : sensorCount k s ≤ cond (eqb (trackCount k s) 0) 0 SENSORS
+  pub zeros : zerosOk (k .zeros) s ≡ true
   pub time : timeOk (time k s) ≡ true
   pub exact : length s ≡ size k s
 
@@ -33,7 +34,7 @@ sized k s h =
     let h4 = both _ _ (h3 .1) in
     let h5 = both _ _ (h4 .1) in
     let h6 = both _ _ (h5 .1) in
-    let h7 = both (zeroBytes (k .zeros) s (k .zerosAt)) (timeOk (time k s) && eqb (length s) (size k s)) (h6 .1) in
+    let h7 = both (zerosOk (k .zeros) s) (timeOk (time k s) && eqb (length s) (size k s)) (h6 .1) in
     let h8 = both (timeOk (time k s)) (eqb (length s) (size k s)) (h7 .1) in
     record {
       long = leb-true _ _ (h1 .0);
@@ -42,16 +43,16 @@ sized k s h =
       observations = leb-true _ _ (h4 .0);
       associations = leb-true _ _ (h5 .0);
       sensors = leb-true _ _ (h6 .0);
-      zeros = eqb-true _ _ (h7 .0);
+      zeros = h7 .0;
       time = h8 .0;
       exact = eqb-true _ _ (h8 .1);
     }
 
--- no more than 8 sensors, with tracks or without
-pub few-sensors : {k : Layout} {s : List ℕ} → Sized k s → sensorCount k s ≤ 8
+-- no more sensors than there may be, with tracks or without
+pub few-sensors : {k : Layout} {s : List ℕ} → Sized k s → sensorCount k s ≤ SENSORS
 few-sensors {k} {s} h = go (eqb (trackCount k s) 0) (h .sensors)
   where
-    go : (t : Bool) → sensorCount k s ≤ cond t 0 8 → sensorCount k s ≤ 8
+    go : (t : Bool) → sensorCount k s ≤ cond t 0 SENSORS → sensorCount k s ≤ SENSORS
     go true l = omega arith
     go false l = l
 

@@ -10,11 +10,14 @@ use lib.IntN.{ℤ, pos, negsuc}
 use lib.Ieee.{Float, binary64, ofBits, fits}
 use lib.Ieee.Bits.{ofBits-toBits, toBits-lt}
 use lib.ListN.{length, getD, length-append}
-use borrow.Author.Tests.{ltb-true, lt-ltb, le-leb, eq-eqb, ne-eqb}
+use borrow.Author.Tests.{leb-true, lt-ltb, le-leb, eq-eqb, ne-eqb}
 use mir.Syntax.{w64}
 use mir.Val.{SFits}
 use mir.Facts.{toZ-ofZ, fits-ofZ}
+use Rattle.bounds.specs.Bounds.{TIME, ENGINES, SENSORS, ENGINE, SENSOR, OBSERVATION, ASSOCIATION}
 use Rattle.scalar.specs.Scalar.{bitsOf, signed}
+use Rattle.engine.specs.declared.types.BodyKind.{BodyKind}
+use Rattle.engine.specs.declared.types.BodyKind.the-variants.{Narrow}
 use Rattle.engine.specs.declared.types.TrackingMode.{TrackingMode}
 use Rattle.engine.specs.declared.types.TrackingMode.the-variants.{LidarOnly, CameraAssociated, CameraAssisted}
 use Rattle.engine.specs.declared.types.Outcome.{Outcome}
@@ -30,11 +33,12 @@ use Rattle.engine.specs.declared.types.Observation.{Observation}
 use Rattle.engine.specs.declared.types.Association.{Association}
 use Rattle.engine.specs.Little.{little}
 use Rattle.engine.specs.Frame.{Frame, modeNumber, modeOf, outcomeNumber, outcomeOf, associatedOf, classOf, costOf, engineOf, noTrack, noObservation, noAssociation}
-use Rattle.engine.specs.Body.{Layout, narrow, all, codeOk, presentOk, timeOk, trackOk, associationOk, observationOk, indexAt, indexOk, trackCount, sensorCount, observationCount, associationCount, sensorsFrom, observationsFrom, associationsFrom, size, headOk, tracksOk, associationsOk, observationsOk, indicesOk, refusal, rows, trackAt, observationAt, associationAt, frameOf, read, decode}
-use Rattle.engine.specs.Encode.{laid, classPresent, classValue, idPresent, costPresent, costValue, trackFields, sensorFields, observationFields, associationFields, trackBytes, sensorBytes, observationBytes, associationBytes, rowBytes, headFields, encode, Held, HeldCost, TrackOk, ObservationOk, AssociationOk, FrameOk, ReadBack, OneFrame}
+use Rattle.engine.specs.Body.{Layout, narrow, layoutOf, all, codeOk, presentOk, timeOk, zerosOk, trackOk, associationOk, observationOk, indexAt, indexOk, trackCount, sensorCount, observationCount, associationCount, sensorsFrom, observationsFrom, associationsFrom, size, headOk, tracksOk, associationsOk, observationsOk, indicesOk, refusal, rows, trackAt, observationAt, associationAt, frameOf, read, decode}
+use Rattle.engine.specs.Encode.{laid, classPresent, classValue, idPresent, costPresent, costValue, trackFields, sensorFields, observationFields, associationFields, trackBytes, sensorBytes, observationBytes, associationBytes, rowBytes, headFields, encode, Binary64, HeldCost, TrackOk, ObservationOk, AssociationOk, FrameOk, ReadBack, OneFrame}
 use Rattle.engine.proofs.Bytes.{little-one}
 use Rattle.engine.proofs.Every.{all-true}
-use Rattle.engine.proofs.Laid.{Stands, stands-left, stands-right, Fit, Reads, length-laid, read-fields, length-flat, stands-row, stands-after, rows-back}
+use Rattle.engine.proofs.Layouts.{within}
+use Rattle.engine.proofs.Laid.{Lies, lies-left, lies-right, Fit, Reads, length-laid, read-fields, length-flat, lies-row, lies-after, rows-back}
 
 -- ---- codes and present bytes
 
@@ -76,10 +80,10 @@ unfolding presentOk
 id-present Nobody = (lit< tt, refl)
 id-present (Track x) = (lit< tt, refl)
 
-float-back : (x : Float) → Held x → ofBits binary64 (bitsOf x) ≡ x
+float-back : (x : Float) → Binary64 x → ofBits binary64 (bitsOf x) ≡ x
 float-back x h = ofBits-toBits binary64 x (subst T (sym h) tt)
 
-float-fits : (x : Float) → Held x → bitsOf x < 2 ^ 64
+float-fits : (x : Float) → Binary64 x → bitsOf x < 2 ^ 64
 float-fits x h = toBits-lt binary64 x (subst T (sym h) tt)
 
 cost-back : (c : Cost) → HeldCost c → costOf (costPresent c) (ofBits binary64 (costValue c)) ≡ c
@@ -97,8 +101,8 @@ cost-present (Paid x) = (lit< tt, refl)
 
 pub time-fits : (t : ℤ) → timeOk t ≡ true → SFits w64 t
 unfolding timeOk
-time-fits (pos n) h = record { sfits = omega (arith, ltb-true n 4611686018427387904 h) }
-time-fits (negsuc n) h = record { sfits = omega (arith, ltb-true (suc n) 4611686018427387904 h) }
+time-fits (pos n) h = record { sfits = omega (arith, leb-true n TIME h) }
+time-fits (negsuc n) h = record { sfits = omega (arith, leb-true (suc n) TIME h) }
 
 -- ---- one row
 
@@ -106,7 +110,7 @@ byte : (s : List ℕ) (o n : ℕ) → little 1 s o ≡ n → getD s o 0 ≡ n
 byte s o n e = sym (little-one s o) ∙ e
 
 module _ (s : List ℕ) (o : ℕ) where
-  track-said : (t : EngineTrack) → TrackOk t → Stands s o (laid (trackFields t)) → (trackOk s o ≡ true) × (trackAt s o ≡ t)
+  track-said : (t : EngineTrack) → TrackOk t → Lies s o (laid (trackFields t)) → (trackOk s o ≡ true) × (trackAt s o ≡ t)
   unfolding trackOk trackAt
   track-said t ok h =
       let p = class-present (t .class) in
@@ -117,7 +121,7 @@ module _ (s : List ℕ) (o : ℕ) where
       let e = r .1 .1 .1 .0 in
       (rw (b, d, p .1, e), rw (a, b, d, class-back (t .class)))
 
-  observation-said : (q : Observation) → ObservationOk q → Stands s o (laid (observationFields q)) → (observationOk s o ≡ true) × (observationAt s o ≡ q)
+  observation-said : (q : Observation) → ObservationOk q → Lies s o (laid (observationFields q)) → (observationOk s o ≡ true) × (observationAt s o ≡ q)
   unfolding observationOk observationAt
   observation-said q ok h =
       let fits : Fit (observationFields q) = (float-fits (q .x) (ok .x .0), (float-fits (q .y) (ok .y .0), (float-fits (q .z) (ok .z .0), tt))) in
@@ -131,7 +135,7 @@ module _ (s : List ℕ) (o : ℕ) where
       (rw (a, b, d, x, y, z, ok .x .1, ok .y .1, ok .z .1), rw (a, b, d, x, y, z))
 
   -- with an index of w bytes
-  association-said : (w n : ℕ) (c : Association) → w ≤ 5 → n ≤ 256 ^ w → AssociationOk n c → Stands s o (laid (associationFields w c))
+  association-said : (w n : ℕ) (c : Association) → w ≤ 5 → n ≤ 256 ^ w → AssociationOk n c → Lies s o (laid (associationFields w c))
       → (associationOk w s o ≡ true) × (associationAt w s o ≡ c)
   unfolding associationOk associationAt codeOk
   association-said w n c f g ok h =
@@ -157,61 +161,65 @@ module _ (s : List ℕ) (o : ℕ) where
 
 -- ---- a whole body, of any layout
 
-sized-association : (w : ℕ) → w ≤ 5 → (c : Association) → length (laid (associationFields w c)) ≡ 24
-sized-association w f c = length-laid (associationFields w c) ∙ (let e : w + (1 + (1 + (1 + (5 - w + 16)))) ≡ 24 = omega arith in e)
+sized-association : (w : ℕ) → w ≤ 5 → (c : Association) → length (laid (associationFields w c)) ≡ ASSOCIATION
+sized-association w f c = length-laid (associationFields w c) ∙ (let e : w + (1 + (1 + (1 + (5 - w + 16)))) ≡ ASSOCIATION = omega arith in e)
 
 -- each row passes its test and is read as a row of the list: so all pass, and the list is read
 each : {A : Type 0} (p : ℕ → Bool) (h : ℕ → A) (d : A) (l : List A) (n : ℕ) → n ≡ length l → ((j : ℕ) → j < length l → (p j ≡ true) × (h j ≡ getD l j d))
     → (all p n ≡ true) × (rows h 0 n ≡ l)
 each p h d l n e r = rw e (all-true p (length l) (λ j g. r j g .0), rows-back h d l (λ j g. r j g .1))
 
--- s has the counts of f in its header, and after it the rows of f
+-- s has what a header says of f, and after it the rows of f
 pub record Says (k : Layout) (f : Frame) (s : List ℕ) : Type 0 where
+  pub mode : getD s 0 0 ≡ modeNumber (f .mode)
   pub tracks : trackCount k s ≡ length (f .tracks)
   pub sensors : sensorCount k s ≡ length (f .sensors)
   pub observations : observationCount k s ≡ length (f .observations)
   pub associations : associationCount k s ≡ length (f .associations)
-  pub stands : Stands s (k .head) (rowBytes (k .width) f)
+  pub zeros : zerosOk (k .zeros) s ≡ true
+  pub time : signed (little 8 s 8) ≡ f .time
+  pub lies : Lies s (k .head) (rowBytes (k .width) f)
+  pub long : length s ≡ k .head + length (rowBytes (k .width) f)
 
-module _ (k : Layout) (slim : k .width ≤ 5) (room : k .most ≤ 256 ^ k .width) (f : Frame) (ok : FrameOk k f) (s : List ℕ) (says : Says k f s) where
+module _ (k : Layout) (slim : k .width ≤ 5) (room : k .observations ≤ 256 ^ k .width) (f : Frame) (ok : FrameOk k f) (s : List ℕ) (says : Says k f s) where
   abbrev w : ℕ
   w = k .width
 
-  tracks-said : (tracksOk k s ≡ true) × (rows (λ i. trackAt s (k .head + 16 * i)) 0 (trackCount k s) ≡ f .tracks)
+  tracks-said : (tracksOk k s ≡ true) × (rows (λ i. trackAt s (k .head + ENGINE * i)) 0 (trackCount k s) ≡ f .tracks)
   unfolding tracksOk
   tracks-said =
-      let h = stands-left s (k .head) (trackBytes f) (sensorBytes f ++ (observationBytes f ++ associationBytes w f)) (says .stands) in
+      let h = lies-left s (k .head) (trackBytes f) (sensorBytes f ++ (observationBytes f ++ associationBytes w f)) (says .lies) in
       each _ _ noTrack (f .tracks) _ (says .tracks)
-      (λ j g. track-said s (k .head + 16 * j) _ (ok .tracks j g) (stands-row _ 16 (λ t. length-laid (trackFields t)) s (k .head) (f .tracks) noTrack h j g))
+      (λ j g. track-said s (k .head + ENGINE * j) _ (ok .tracks j g) (lies-row _ ENGINE (λ t. length-laid (trackFields t)) s (k .head) (f .tracks) noTrack h j g))
 
-  after-tracks : Stands s (sensorsFrom k s) (sensorBytes f ++ (observationBytes f ++ associationBytes w f))
-  after-tracks = rw (says .tracks) (stands-after _ 16 (λ t. length-laid (trackFields t)) s (k .head) (f .tracks) _ (says .stands))
+  after-tracks : Lies s (sensorsFrom k s) (sensorBytes f ++ (observationBytes f ++ associationBytes w f))
+  after-tracks = rw (says .tracks) (lies-after _ ENGINE (λ t. length-laid (trackFields t)) s (k .head) (f .tracks) _ (says .lies))
 
-  sensors-said : rows (λ i. little 4 s (sensorsFrom k s + 4 * i)) 0 (sensorCount k s) ≡ f .sensors
+  sensors-said : rows (λ i. little SENSOR s (sensorsFrom k s + SENSOR * i)) 0 (sensorCount k s) ≡ f .sensors
   sensors-said =
-      let h = stands-left s (sensorsFrom k s) (sensorBytes f) (observationBytes f ++ associationBytes w f) after-tracks in
+      let h = lies-left s (sensorsFrom k s) (sensorBytes f) (observationBytes f ++ associationBytes w f) after-tracks in
       rw (says .sensors) (rows-back _ 0 (f .sensors)
-      (λ j g. rw add-zero at (read-fields s (sensorsFrom k s + 4 * j) 0 (sensorFields (getD (f .sensors) j 0)) (ok .sensors j g, tt)
-      (rw add-zero (stands-row _ 4 (λ v. length-laid (sensorFields v)) s (sensorsFrom k s) (f .sensors) 0 h j g)) .0)))
+      (λ j g. rw add-zero at (read-fields s (sensorsFrom k s + SENSOR * j) 0 (sensorFields (getD (f .sensors) j 0)) (ok .sensors j g, tt)
+      (rw add-zero (lies-row _ SENSOR (λ v. length-laid (sensorFields v)) s (sensorsFrom k s) (f .sensors) 0 h j g)) .0)))
 
-  after-sensors : Stands s (observationsFrom k s) (observationBytes f ++ associationBytes w f)
-  after-sensors = rw (says .sensors) (stands-after _ 4 (λ v. length-laid (sensorFields v)) s (sensorsFrom k s) (f .sensors) _ after-tracks)
+  after-sensors : Lies s (observationsFrom k s) (observationBytes f ++ associationBytes w f)
+  after-sensors = rw (says .sensors) (lies-after _ SENSOR (λ v. length-laid (sensorFields v)) s (sensorsFrom k s) (f .sensors) _ after-tracks)
 
-  observations-said : (observationsOk k s ≡ true) × (rows (λ i. observationAt s (observationsFrom k s + 24 * i)) 0 (observationCount k s) ≡ f .observations)
+  observations-said : (observationsOk k s ≡ true) × (rows (λ i. observationAt s (observationsFrom k s + OBSERVATION * i)) 0 (observationCount k s) ≡ f .observations)
   unfolding observationsOk
   observations-said =
-      let h = stands-left s (observationsFrom k s) (observationBytes f) (associationBytes w f) after-sensors in
+      let h = lies-left s (observationsFrom k s) (observationBytes f) (associationBytes w f) after-sensors in
       each _ _ noObservation (f .observations) _ (says .observations)
-      (λ j g. observation-said s (observationsFrom k s + 24 * j) _ (ok .observations j g) (stands-row _ 24 (λ p. length-laid (observationFields p)) s (observationsFrom k s) (f .observations) noObservation h j g))
+      (λ j g. observation-said s (observationsFrom k s + OBSERVATION * j) _ (ok .observations j g) (lies-row _ OBSERVATION (λ p. length-laid (observationFields p)) s (observationsFrom k s) (f .observations) noObservation h j g))
 
   association-row : (j : ℕ) → j < length (f .associations)
-      → (associationOk w s (associationsFrom k s + 24 * j) ≡ true) × (associationAt w s (associationsFrom k s + 24 * j) ≡ getD (f .associations) j noAssociation)
+      → (associationOk w s (associationsFrom k s + ASSOCIATION * j) ≡ true) × (associationAt w s (associationsFrom k s + ASSOCIATION * j) ≡ getD (f .associations) j noAssociation)
   association-row j g =
-      let h : Stands s (associationsFrom k s) (associationBytes w f) = rw (says .observations) (stands-after _ 24 (λ p. length-laid (observationFields p)) s (observationsFrom k s) (f .observations) _ after-sensors) in
-      association-said s (associationsFrom k s + 24 * j) w (length (f .observations)) _ slim (omega (arith, ok .few-observations)) (ok .associations j g)
-      (stands-row _ 24 (sized-association w slim) s (associationsFrom k s) (f .associations) noAssociation h j g)
+      let h : Lies s (associationsFrom k s) (associationBytes w f) = rw (says .observations) (lies-after _ OBSERVATION (λ p. length-laid (observationFields p)) s (observationsFrom k s) (f .observations) _ after-sensors) in
+      association-said s (associationsFrom k s + ASSOCIATION * j) w (length (f .observations)) _ slim (omega (arith, ok .few-observations)) (ok .associations j g)
+      (lies-row _ ASSOCIATION (sized-association w slim) s (associationsFrom k s) (f .associations) noAssociation h j g)
 
-  associations-said : (associationsOk k s ≡ true) × (rows (λ j. associationAt w s (associationsFrom k s + 24 * j)) 0 (associationCount k s) ≡ f .associations)
+  associations-said : (associationsOk k s ≡ true) × (rows (λ j. associationAt w s (associationsFrom k s + ASSOCIATION * j)) 0 (associationCount k s) ≡ f .associations)
   unfolding associationsOk
   associations-said = each _ _ noAssociation (f .associations) _ (says .associations) association-row
 
@@ -230,88 +238,97 @@ module _ (k : Layout) (slim : k .width ≤ 5) (room : k .most ≤ 256 ^ k .width
       all-true _ j (λ i h. let q = ne-eqb _ _ (λ z. ok .once i j h g′ (sym (index-said i (omega arith)) ∙ z ∙ e)) in rw q) in
       rw (b, e, says .observations, a))
 
-  length-rows-said : length (rowBytes w f) ≡ 16 * trackCount k s + (4 * sensorCount k s + (24 * observationCount k s + 24 * associationCount k s))
+  length-rows-said : length (rowBytes w f) ≡ ENGINE * trackCount k s + (SENSOR * sensorCount k s + (OBSERVATION * observationCount k s + ASSOCIATION * associationCount k s))
   length-rows-said =
       simp (
         length-append,
-        length-flat (λ t. laid (trackFields t)) 16 (λ t. length-laid (trackFields t)),
-        length-flat (λ v. laid (sensorFields v)) 4 (λ v. length-laid (sensorFields v)),
-        length-flat (λ p. laid (observationFields p)) 24 (λ p. length-laid (observationFields p)),
-        length-flat (λ a. laid (associationFields w a)) 24 (sized-association w slim),
+        length-flat (λ t. laid (trackFields t)) ENGINE (λ t. length-laid (trackFields t)),
+        length-flat (λ v. laid (sensorFields v)) SENSOR (λ v. length-laid (sensorFields v)),
+        length-flat (λ p. laid (observationFields p)) OBSERVATION (λ p. length-laid (observationFields p)),
+        length-flat (λ a. laid (associationFields w a)) ASSOCIATION (sized-association w slim),
         says .tracks,
         says .sensors,
         says .observations,
         says .associations,
       )
 
--- ---- the narrow body
+  exact : length s ≡ size k s
+  exact = omega (arith, says .long, length-rows-said)
 
+  head-said : headOk k s ≡ true
+  unfolding headOk codeOk
+  head-said =
+      rw (
+        le-leb (k .head) (length s) (omega (arith, exact)),
+        eq-eqb (length s) (size k s) exact,
+        says .mode,
+        le-leb _ 2 (mode-code (f .mode)),
+        says .tracks,
+        le-leb _ ENGINES (ok .few-tracks),
+        says .observations,
+        le-leb _ (k .observations) (ok .few-observations),
+        says .associations,
+        le-leb _ (k .associations) (ok .few-associations),
+        says .sensors,
+        le-leb _ _ (ok .few-sensors),
+        says .zeros,
+        says .time,
+        ok .time,
+      )
+
+  read-said : decode k s ≡ read f
+  unfolding decode refusal frameOf
+  read-said =
+      let t = tracks-said in
+      let v = sensors-said in
+      let o = observations-said in
+      let a = associations-said in
+      rw (head-said, t .0, a .0, o .0, indices-said, says .mode, mode-back (f .mode), says .time, t .1, v, o .1, a .1)
+
+-- ---- the header of each kind of body
+
+-- the narrow one
 module _ (f : Frame) (ok : FrameOk narrow f) where
   abbrev s : List ℕ
-  s = encode f
+  s = encode Narrow f
 
-  few : (t : Bool) {n : ℕ} → n ≤ cond t 0 8 → n < 256
+  few : (t : Bool) {n : ℕ} → n ≤ cond t 0 SENSORS → n < 256
   few true h = omega arith
   few false h = omega arith
 
-  whole : Stands s 0 (laid (headFields f) ++ rowBytes 1 f)
+  whole : Lies s 0 (laid (headFields Narrow f) ++ rowBytes 1 f)
   unfolding encode
   whole i h = rw zero-add
 
-  head : Reads s 0 0 (headFields f)
+  head : Reads s 0 0 (headFields Narrow f)
   head =
-      read-fields s 0 0 (headFields f)
+      read-fields s 0 0 (headFields Narrow f)
       (omega (arith, mode-code (f .mode)), (omega (arith, ok .few-tracks), (omega (arith, ok .few-observations), (omega (arith, ok .few-associations), (few (eqb (length (f .tracks)) 0) (ok .few-sensors), (lit< tt, (fits-ofZ (time-fits (f .time) (ok .time)) .fits, tt)))))))
-      (stands-left s 0 (laid (headFields f)) (rowBytes 1 f) whole)
+      (lies-left s 0 (laid (headFields Narrow f)) (rowBytes 1 f) whole)
 
-  says : Says narrow f s
-  says =
+  narrow-says : Says narrow f s
+  unfolding encode zerosOk
+  narrow-says =
       record {
+        mode = byte s 0 _ (head .0);
         tracks = byte s 1 _ (head .1 .0);
         sensors = byte s 4 _ (head .1 .1 .1 .1 .0);
         observations = head .1 .1 .0;
         associations = head .1 .1 .1 .0;
-        stands = rw length-laid at (stands-right s 0 (laid (headFields f)) (rowBytes 1 f) whole);
+        zeros = rw (head .1 .1 .1 .1 .1 .0);
+        time = rw (head .1 .1 .1 .1 .1 .1 .0) (toZ-ofZ (time-fits (f .time) (ok .time)));
+        lies = rw length-laid at (lies-right s 0 (laid (headFields Narrow f)) (rowBytes 1 f) whole);
+        long = rw (length-append, length-laid);
       }
 
-  time-said : signed (little 8 s 8) ≡ f .time
-  time-said = rw (head .1 .1 .1 .1 .1 .1 .0) (toZ-ofZ (time-fits (f .time) (ok .time)))
+says : (b : BodyKind) (f : Frame) → FrameOk (layoutOf b) f → Says (layoutOf b) f (encode b f)
+says Narrow f ok = narrow-says f ok
 
-  exact : length s ≡ size narrow s
-  unfolding encode
-  exact = rw (length-append, length-laid) (omega (arith, length-rows-said narrow (lit≤ tt) (lit≤ tt) f ok s says))
-
-  head-said : headOk narrow s ≡ true
-  unfolding headOk codeOk
-  head-said =
-      rw (
-        le-leb 16 (length s) (omega (arith, exact)),
-        eq-eqb (length s) (size narrow s) exact,
-        byte s 0 _ (head .0),
-        le-leb _ 2 (mode-code (f .mode)),
-        says .tracks,
-        le-leb _ 32 (ok .few-tracks),
-        says .observations,
-        le-leb _ 32 (ok .few-observations),
-        says .associations,
-        le-leb _ 32 (ok .few-associations),
-        says .sensors,
-        le-leb _ _ (ok .few-sensors),
-        head .1 .1 .1 .1 .1 .0,
-        time-said,
-        ok .time,
-      )
+-- ---- the laws
 
 pub read-back : ReadBack
-unfolding decode refusal frameOf
-read-back f ok =
-    let said = says f ok in
-    let t = tracks-said narrow (lit≤ tt) (lit≤ tt) f ok (encode f) said in
-    let v = sensors-said narrow (lit≤ tt) (lit≤ tt) f ok (encode f) said in
-    let o = observations-said narrow (lit≤ tt) (lit≤ tt) f ok (encode f) said in
-    let a = associations-said narrow (lit≤ tt) (lit≤ tt) f ok (encode f) said in
-    let i = indices-said narrow (lit≤ tt) (lit≤ tt) f ok (encode f) said in
-    rw (head-said f ok, t .0, a .0, o .0, i, byte (encode f) 0 _ (head f ok .0), mode-back (f .mode), time-said f ok, t .1, v, o .1, a .1)
+read-back b f ok = read-said (layoutOf b) (within b .width) (within b .indices) f ok (encode b f) (says b f ok)
 
 pub one-frame : OneFrame
-one-frame f g ok ok′ e = let h : read f ≡ read g = sym (read-back f ok) ∙ ap (decode narrow) e ∙ read-back g ok′ in cc
+one-frame b f g ok ok′ e =
+    let h : read f ≡ read g = sym (read-back b f ok) ∙ ap (decode (layoutOf b)) e ∙ read-back b g ok′ in cc

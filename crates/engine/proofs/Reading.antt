@@ -8,6 +8,7 @@ use native.Mathlib.Nat.{mul-suc, mul-le-mul-left}
 use lib.ListN.{length, getD}
 use lib.Dec.{leb}
 use borrow.Author.Tests.{leb-true, leb-false, le-leb, lt-leb, lt-ltb, le-ltb}
+use Rattle.bounds.specs.Bounds.{ENGINE, SENSOR, OBSERVATION, ASSOCIATION}
 use Rattle.engine.specs.Frame.{noTrack, noObservation, noAssociation}
 use Rattle.engine.specs.Body.{Layout, refusal, rows, frameOf, rowRead, timeRead, sensorRead, trackRead, observationRead, associationRead}
 use Rattle.engine.proofs.Passing.{sized-body, row-at, row-past}
@@ -49,16 +50,16 @@ module _ (k : Layout) (s : List ℕ) where
 
   pub sensor-passed : (i : ℕ) → refusal k s ≡ 0 → sensorRead k s i ≡ getD (frameOf k s .sensors) i 0
   unfolding frameOf
-  sensor-passed i h = read-rows _ _ s 4 _ _ i (omega (arith, sized-body k s h .exact))
+  sensor-passed i h = read-rows _ _ s SENSOR _ _ i (omega (arith, sized-body k s h .exact))
 
   pub track-passed : (i : ℕ) → refusal k s ≡ 0 → trackRead k s i ≡ getD (frameOf k s .tracks) i noTrack
   unfolding frameOf
-  track-passed i h = read-rows _ _ s 16 _ _ i (omega (arith, sized-body k s h .exact))
+  track-passed i h = read-rows _ _ s ENGINE _ _ i (omega (arith, sized-body k s h .exact))
 
   pub observation-passed : (i : ℕ) → refusal k s ≡ 0 → observationRead k s i ≡ getD (frameOf k s .observations) i noObservation
   unfolding frameOf
-  observation-passed i h = read-rows _ _ s 24 _ _ i (omega (arith, sized-body k s h .exact))
+  observation-passed i h = read-rows _ _ s OBSERVATION _ _ i (omega (arith, sized-body k s h .exact))
 
   pub association-passed : (j : ℕ) → refusal k s ≡ 0 → associationRead k s j ≡ getD (frameOf k s .associations) j noAssociation
   unfolding frameOf
-  association-passed j h = read-rows _ _ s 24 _ _ j (omega (arith, sized-body k s h .exact))
+  association-passed j h = read-rows _ _ s ASSOCIATION _ _ j (omega (arith, sized-body k s h .exact))

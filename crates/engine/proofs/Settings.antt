@@ -3,14 +3,15 @@ use Prim.Native.Nat.{_≤_}
 use mathlib.Core.Path.{_≡_}
 use mathlib.Core.Bool.{true}
 use borrow.Author.Tests.{leb-true}
+use Rattle.bounds.specs.Bounds.{LAG, PASSES}
 use Rattle.scalar.specs.Scalar.{finite}
 use Rattle.engine.specs.declared.config.FgoConfig.{FgoConfig}
 use Rattle.engine.specs.Config.{legal, lag, radius, birth, miss, clutter, density, sigma, variance, maxPasses}
 use Rattle.engine.proofs.Every.{both}
 
 pub record Legal (c : FgoConfig) : Type 0 where
-  pub lag : lag c ≤ 16
-  pub passes : maxPasses c ≤ 1000
+  pub lag : lag c ≤ LAG
+  pub passes : maxPasses c ≤ PASSES
   pub radius : finite (radius c) ≡ true
   pub birth : finite (birth c) ≡ true
   pub miss : finite (miss c) ≡ true

@@ -6,7 +6,10 @@ use lib.ListN.{length, getD}
 use lib.Dec.{leb, ltb, eqb}
 use lib.IntN.{ℤ, pos, natAbs}
 use lib.Ieee.{binary64, ofBits}
+use Rattle.bounds.specs.Bounds.{TIME, ENGINES, SENSORS, OBSERVATIONS, ASSOCIATIONS, HEADER, ENGINE, SENSOR, OBSERVATION, ASSOCIATION}
 use Rattle.scalar.specs.Scalar.{finite, signed}
+use Rattle.engine.specs.declared.types.BodyKind.{BodyKind}
+use Rattle.engine.specs.declared.types.BodyKind.the-variants.{Narrow}
 use Rattle.engine.specs.declared.types.EngineTrack.{EngineTrack}
 use Rattle.engine.specs.declared.types.Observation.{Observation}
 use Rattle.engine.specs.declared.types.Association.{Association}
@@ -20,20 +23,46 @@ pub record Layout : Type 0 where
   -- bytes of a count of observations or associations, and of an index
   pub width : ℕ
   -- the most observations, and the most associations
-  pub most : ℕ
+  pub observations : ℕ
+  pub associations : ℕ
   -- bytes of the header, and where in it each count stands
   pub head : ℕ
   pub sensorsAt : ℕ
   pub observationsAt : ℕ
   pub associationsAt : ℕ
-  -- the header's zeros: how many, and where
-  pub zeros : ℕ
-  pub zerosAt : ℕ
+  -- the header's runs of zeros: how many, and from where on
+  pub zeros : List (ℕ × ℕ)
 
 -- "bytes mode, engine tracks, observations, associations (each at most 32), sensors, three zeros; i64 time"
 abbrev pub narrow : Layout
 narrow =
-    record { width = 1; most = 32; head = 16; sensorsAt = 4; observationsAt = 2; associationsAt = 3; zeros = 3; zerosAt = 5 }
+    record {
+      width = 1;
+      observations = OBSERVATIONS;
+      associations = ASSOCIATIONS;
+      head = HEADER;
+      sensorsAt = 4;
+      observationsAt = 2;
+      associationsAt = 3;
+      zeros = (3, 5) ∷ [];
+    }
+
+-- the layout of a kind of body
+abbrev pub layoutOf : BodyKind → Layout
+layoutOf Narrow = narrow
+
+-- a body: its kind, and its bytes
+pub record Body : Type 0 where
+  pub kind : BodyKind
+  pub bytes : List ℕ
+
+-- the body of a kind that has some bytes
+abbrev pub body : BodyKind → List ℕ → Body
+body k s = record { kind = k; bytes = s }
+
+-- the layout of a body
+abbrev pub layout : Body → Layout
+layout b = layoutOf (b .kind)
 
 -- ---- tests
 
@@ -52,11 +81,16 @@ presentOk p v = cond (eqb p 0) (eqb v 0) (eqb p 1)
 
 -- "time, at most 2^62 − 1 in size"
 unfoldable pub timeOk : ℤ → Bool
-timeOk t = ltb (natAbs t) 4611686018427387904
+timeOk t = leb (natAbs t) TIME
 
 -- n zero bytes
 abbrev pub zeroBytes : ℕ → List ℕ → ℕ → Bool
 zeroBytes n s o = eqb (little n s o) 0
+
+-- the zeros of each run
+unfoldable pub zerosOk : List (ℕ × ℕ) → List ℕ → Bool
+zerosOk [] s = true
+zerosOk (z ∷ zs) s = zeroBytes (z .0) s (z .1) && zerosOk zs s
 
 -- "Tracks: u64 id, u32 class, byte class present, three zeros"
 unfoldable pub trackOk : List ℕ → ℕ → Bool
@@ -77,7 +111,7 @@ observationOk s o =
 
 -- the index of association j, of those that stand from place a on
 abbrev pub indexAt : ℕ → List ℕ → ℕ → ℕ → ℕ
-indexAt w s a j = little w s (a + 24 * j)
+indexAt w s a j = little w s (a + ASSOCIATION * j)
 
 -- 7: "an association's index is past the observations, or stands twice"
 unfoldable pub indexOk : ℕ → List ℕ → ℕ → ℕ → ℕ → Bool
@@ -102,19 +136,19 @@ module _ (k : Layout) (s : List ℕ) where
 
   -- where the sensors, the observations and the associations begin, and where the body ends
   abbrev pub sensorsFrom : ℕ
-  sensorsFrom = k .head + 16 * trackCount
+  sensorsFrom = k .head + ENGINE * trackCount
 
   -- where the observations begin
   abbrev pub observationsFrom : ℕ
-  observationsFrom = sensorsFrom + 4 * sensorCount
+  observationsFrom = sensorsFrom + SENSOR * sensorCount
 
   -- where the associations begin
   abbrev pub associationsFrom : ℕ
-  associationsFrom = observationsFrom + 24 * observationCount
+  associationsFrom = observationsFrom + OBSERVATION * observationCount
 
   -- how long the body is: "The length is exact"
   abbrev pub size : ℕ
-  size = associationsFrom + 24 * associationCount
+  size = associationsFrom + ASSOCIATION * associationCount
 
   -- "i64 time"
   abbrev pub time : ℤ
@@ -125,23 +159,23 @@ module _ (k : Layout) (s : List ℕ) where
   headOk =
       leb (k .head) (length s)
       && (codeOk (getD s 0 0)
-      && (leb trackCount 32
-      && (leb observationCount (k .most)
-      && (leb associationCount (k .most)
-      && (leb sensorCount (cond (eqb trackCount 0) 0 8)
-      && (zeroBytes (k .zeros) s (k .zerosAt) && (timeOk time && eqb (length s) size)))))))
+      && (leb trackCount ENGINES
+      && (leb observationCount (k .observations)
+      && (leb associationCount (k .associations)
+      && (leb sensorCount (cond (eqb trackCount 0) 0 SENSORS)
+      && (zerosOk (k .zeros) s && (timeOk time && eqb (length s) size)))))))
 
   -- each engine track is well formed
   unfoldable pub tracksOk : Bool
-  tracksOk = all (λ i. trackOk s (k .head + 16 * i)) trackCount
+  tracksOk = all (λ i. trackOk s (k .head + ENGINE * i)) trackCount
 
   -- each association is well formed
   unfoldable pub associationsOk : Bool
-  associationsOk = all (λ j. associationOk (k .width) s (associationsFrom + 24 * j)) associationCount
+  associationsOk = all (λ j. associationOk (k .width) s (associationsFrom + ASSOCIATION * j)) associationCount
 
   -- each observation passes 6
   unfoldable pub observationsOk : Bool
-  observationsOk = all (λ i. observationOk s (observationsFrom + 24 * i)) observationCount
+  observationsOk = all (λ i. observationOk s (observationsFrom + OBSERVATION * i)) observationCount
 
   -- each index passes 7
   unfoldable pub indicesOk : Bool
@@ -187,11 +221,33 @@ frameOf k s =
     record {
       mode = modeOf (getD s 0 0);
       time = time k s;
-      tracks = rows (λ i. trackAt s (k .head + 16 * i)) 0 (trackCount k s);
-      sensors = rows (λ i. little 4 s (sensorsFrom k s + 4 * i)) 0 (sensorCount k s);
-      observations = rows (λ i. observationAt s (observationsFrom k s + 24 * i)) 0 (observationCount k s);
-      associations = rows (λ j. associationAt (k .width) s (associationsFrom k s + 24 * j)) 0 (associationCount k s);
+      tracks = rows (λ i. trackAt s (k .head + ENGINE * i)) 0 (trackCount k s);
+      sensors = rows (λ i. little SENSOR s (sensorsFrom k s + SENSOR * i)) 0 (sensorCount k s);
+      observations = rows (λ i. observationAt s (observationsFrom k s + OBSERVATION * i)) 0 (observationCount k s);
+      associations = rows (λ j. associationAt (k .width) s (associationsFrom k s + ASSOCIATION * j)) 0 (associationCount k s);
     }
+
+-- ---- of a body
+
+-- what it says
+abbrev pub frameIn : Body → Frame
+frameIn b = frameOf (layout b) (b .bytes)
+
+-- the refusal that it gets, 0 for none
+abbrev pub bodyRefusal : Body → ℕ
+bodyRefusal b = refusal (layout b) (b .bytes)
+
+-- how many engine tracks, sensors and associations it says
+abbrev pub tracksIn : Body → ℕ
+tracksIn b = trackCount (layout b) (b .bytes)
+
+-- sensors
+abbrev pub sensorsIn : Body → ℕ
+sensorsIn b = sensorCount (layout b) (b .bytes)
+
+-- associations
+abbrev pub associationsIn : Body → ℕ
+associationsIn b = associationCount (layout b) (b .bytes)
 
 -- ---- what the readers answer on any bytes: the field where its bytes are all there, and else a value that stands for none
 
@@ -206,19 +262,19 @@ module _ (k : Layout) (s : List ℕ) where
 
   -- sensor i, 0 for none
   abbrev pub sensorRead : ℕ → ℕ
-  sensorRead i = rowRead 0 (little 4 s) s 4 (sensorCount k s) (sensorsFrom k s) i
+  sensorRead i = rowRead 0 (little SENSOR s) s SENSOR (sensorCount k s) (sensorsFrom k s) i
 
   -- engine track i
   abbrev pub trackRead : ℕ → EngineTrack
-  trackRead i = rowRead noTrack (trackAt s) s 16 (trackCount k s) (k .head) i
+  trackRead i = rowRead noTrack (trackAt s) s ENGINE (trackCount k s) (k .head) i
 
   -- observation i
   abbrev pub observationRead : ℕ → Observation
-  observationRead i = rowRead noObservation (observationAt s) s 24 (observationCount k s) (observationsFrom k s) i
+  observationRead i = rowRead noObservation (observationAt s) s OBSERVATION (observationCount k s) (observationsFrom k s) i
 
   -- association j
   abbrev pub associationRead : ℕ → Association
-  associationRead j = rowRead noAssociation (associationAt (k .width) s) s 24 (associationCount k s) (associationsFrom k s) j
+  associationRead j = rowRead noAssociation (associationAt (k .width) s) s ASSOCIATION (associationCount k s) (associationsFrom k s) j
 
 -- what a push makes of a body: a frame, or 5, 6 or 7
 pub data Decoded : Type 0 where

@@ -3,7 +3,8 @@ use Prim.Native.Nat.{ℕ}
 use mathlib.Core.Bool.{Bool, _&&_}
 use lib.Dec.{leb}
 use lib.IntN.{ℤ, pos}
-use lib.Ieee.{Float, binary64, ofBits}
+use lib.Ieee.{Float, binary64, ofBits, mul}
+use Rattle.bounds.specs.Bounds.{LAG, PASSES}
 use Rattle.scalar.specs.Scalar.{finite}
 use Rattle.engine.specs.declared.config.FgoConfig.{FgoConfig}
 
@@ -35,6 +36,10 @@ density c = c .«accel_spectral_density»
 abbrev pub sigma : FgoConfig → Float
 sigma c = c .«position_sigma_m»
 
+-- "r = sigma²": the variance of a position
+abbrev pub positionVariance : FgoConfig → Float
+positionVariance c = mul binary64 (sigma c) (sigma c)
+
 -- the variance of a new track's speed, "initial variance"
 abbrev pub variance : FgoConfig → Float
 variance c = c .«initial_velocity_variance»
@@ -54,8 +59,8 @@ maxPasses c = c .«max_passes»
 -- "lag_frames 0 to 16, max_passes 0 to 1,000, seven finite f64, two free i64"
 unfoldable pub legal : FgoConfig → Bool
 legal c =
-    leb (lag c) 16
-    && (leb (maxPasses c) 1000
+    leb (lag c) LAG
+    && (leb (maxPasses c) PASSES
     && (finite (radius c)
     && (finite (birth c)
     && (finite (miss c) && (finite (clutter c) && (finite (density c) && (finite (sigma c) && finite (variance c))))))))

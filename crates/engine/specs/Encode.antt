@@ -7,6 +7,9 @@ use lib.ListN.{length, getD}
 use lib.Dec.{eqb}
 use lib.Ieee.{Float, binary64, fits}
 use Rattle.scalar.specs.Scalar.{finite, bitsOf, word}
+use Rattle.bounds.specs.Bounds.{ENGINES, SENSORS, SENSOR}
+use Rattle.engine.specs.declared.types.BodyKind.{BodyKind}
+use Rattle.engine.specs.declared.types.BodyKind.the-variants.{Narrow}
 use Rattle.engine.specs.declared.types.Associated.{Associated}
 use Rattle.engine.specs.declared.types.Associated.the-variants.{Nobody, Track}
 use Rattle.engine.specs.declared.types.ClassLabel.{ClassLabel}
@@ -17,7 +20,7 @@ use Rattle.engine.specs.declared.types.EngineTrack.{EngineTrack}
 use Rattle.engine.specs.declared.types.Observation.{Observation}
 use Rattle.engine.specs.declared.types.Association.{Association}
 use Rattle.engine.specs.Frame.{Frame, modeNumber, outcomeNumber, engineOf, noTrack, noObservation, noAssociation}
-use Rattle.engine.specs.Body.{Layout, narrow, timeOk, read, decode}
+use Rattle.engine.specs.Body.{Layout, layoutOf, timeOk, read, decode}
 
 -- ---- bytes
 
@@ -65,7 +68,7 @@ trackFields t = (8, t .id .0) ∷ (4, classValue (t .class)) ∷ (1, classPresen
 
 -- "Sensors of the first track: u32"
 abbrev pub sensorFields : ℕ → List (ℕ × ℕ)
-sensorFields v = (4, v) ∷ []
+sensorFields v = (SENSOR, v) ∷ []
 
 -- "Observations: three f64"
 abbrev pub observationFields : Observation → List (ℕ × ℕ)
@@ -104,8 +107,8 @@ abbrev pub rowBytes : ℕ → Frame → List ℕ
 rowBytes w f = trackBytes f ++ (sensorBytes f ++ (observationBytes f ++ associationBytes w f))
 
 -- the header: "mode", the numbers of "engine tracks, observations, associations" and "sensors", "three zeros; i64 time"
-abbrev pub headFields : Frame → List (ℕ × ℕ)
-headFields f =
+abbrev pub headFields : BodyKind → Frame → List (ℕ × ℕ)
+headFields Narrow f =
     (1, modeNumber (f .mode))
     ∷ (1, length (f .tracks))
     ∷ (1, length (f .observations))
@@ -115,20 +118,20 @@ headFields f =
     ∷ (8, word (f .time))
     ∷ []
 
--- the body that says a frame
-unfoldable pub encode : Frame → List ℕ
-encode f = laid (headFields f) ++ rowBytes 1 f
+-- the body of a kind that says a frame
+unfoldable pub encode : BodyKind → Frame → List ℕ
+encode b f = laid (headFields b f) ++ rowBytes (layoutOf b .width) f
 
 -- ---- which frames a body of a layout can say
 
 -- a float of the format, as `lib.Ieee` writes it
-abbrev pub Held : Float → Type 0
-Held x = fits binary64 x ≡ true
+abbrev pub Binary64 : Float → Type 0
+Binary64 x = fits binary64 x ≡ true
 
 -- a cost that is there is a float of the format
 abbrev pub HeldCost : Cost → Type 0
 HeldCost Absent = Unit
-HeldCost (Paid x) = Held x
+HeldCost (Paid x) = Binary64 x
 
 -- an engine track whose numbers have room
 pub record TrackOk (t : EngineTrack) : Type 0 where
@@ -137,9 +140,9 @@ pub record TrackOk (t : EngineTrack) : Type 0 where
 
 -- an observation that 6 does not refuse
 pub record ObservationOk (p : Observation) : Type 0 where
-  pub x : Held (p .x) × (finite (p .x) ≡ true)
-  pub y : Held (p .y) × (finite (p .y) ≡ true)
-  pub z : Held (p .z) × (finite (p .z) ≡ true)
+  pub x : Binary64 (p .x) × (finite (p .x) ≡ true)
+  pub y : Binary64 (p .y) × (finite (p .y) ≡ true)
+  pub z : Binary64 (p .z) × (finite (p .z) ≡ true)
 
 -- of an association in a frame with n observations
 pub record AssociationOk (n : ℕ) (a : Association) : Type 0 where
@@ -149,10 +152,10 @@ pub record AssociationOk (n : ℕ) (a : Association) : Type 0 where
 
 -- a frame that a body of the layout can say
 pub record FrameOk (k : Layout) (f : Frame) : Type 0 where
-  pub few-tracks : length (f .tracks) ≤ 32
-  pub few-sensors : length (f .sensors) ≤ cond (eqb (length (f .tracks)) 0) 0 8
-  pub few-observations : length (f .observations) ≤ k .most
-  pub few-associations : length (f .associations) ≤ k .most
+  pub few-tracks : length (f .tracks) ≤ ENGINES
+  pub few-sensors : length (f .sensors) ≤ cond (eqb (length (f .tracks)) 0) 0 SENSORS
+  pub few-observations : length (f .observations) ≤ k .observations
+  pub few-associations : length (f .associations) ≤ k .associations
   pub time : timeOk (f .time) ≡ true
   pub tracks : (i : ℕ) → i < length (f .tracks) → TrackOk (getD (f .tracks) i noTrack)
   pub sensors : (i : ℕ) → i < length (f .sensors) → getD (f .sensors) i 0 < 2 ^ 32
@@ -166,8 +169,8 @@ pub record FrameOk (k : Layout) (f : Frame) : Type 0 where
 
 -- a body that says a frame is read as that frame
 abbrev pub ReadBack : Type 0
-ReadBack = (f : Frame) → FrameOk narrow f → decode narrow (encode f) ≡ read f
+ReadBack = (b : BodyKind) (f : Frame) → FrameOk (layoutOf b) f → decode (layoutOf b) (encode b f) ≡ read f
 
--- so no body says two frames
+-- so no body of a kind says two frames
 abbrev pub OneFrame : Type 0
-OneFrame = (f g : Frame) → FrameOk narrow f → FrameOk narrow g → encode f ≡ encode g → f ≡ g
+OneFrame = (b : BodyKind) (f g : Frame) → FrameOk (layoutOf b) f → FrameOk (layoutOf b) g → encode b f ≡ encode b g → f ≡ g

@@ -2,6 +2,7 @@
 use crate::little;
 use crate::types::Associated;
 use crate::types::Association;
+use crate::types::BodyKind;
 use crate::types::ClassLabel;
 use crate::types::Cost;
 use crate::types::EngineId;
@@ -10,11 +11,17 @@ use crate::types::Observation;
 use crate::types::ObservationIndex;
 use crate::types::Outcome;
 use crate::types::TrackingMode;
+use bounds::ASSOCIATION;
+use bounds::ENGINE;
+use bounds::HEADER;
+use bounds::OBSERVATION;
+use bounds::SENSOR;
 ghost use mathlib.Core.Path.{_≡_};
 ghost use Prim.Native.Nat.{_+_, _≤_};
 ghost use lib.ListN.{length, getD};
 ghost use Rattle.engine.specs.Frame.{modeOf, outcomeOf, associatedOf, classOf, costOf, noTrack, noObservation, noAssociation};
-ghost use Rattle.engine.specs.Body.{narrow, trackCount, sensorCount, observationCount, associationCount, sensorsFrom, observationsFrom, associationsFrom, refusal, frameOf, trackAt, observationAt, associationAt, timeRead, sensorRead, trackRead, observationRead, associationRead};
+ghost use Rattle.bounds.specs.Bounds.{ENGINE, OBSERVATION, ASSOCIATION};
+ghost use Rattle.engine.specs.Body.{layoutOf, trackCount, sensorCount, observationCount, associationCount, sensorsFrom, observationsFrom, associationsFrom, refusal, frameOf, trackAt, observationAt, associationAt, timeRead, sensorRead, trackRead, observationRead, associationRead};
 
 // ---- the header
 
@@ -25,46 +32,63 @@ fn count_at(s: &[u8], o: usize) -> usize
     if o < s.len() { s[o] as usize } else { 0 }
 }
 
-pub fn track_count(s: &[u8]) -> usize
-    ensures { λ r. ⌜ r ≡ trackCount narrow (now (s .entry)) ⌝ }
+// The bytes of the header.
+pub fn header_size(kind: BodyKind) -> usize
+    ensures { λ r. ⌜ r ≡ layoutOf kind .head ⌝ }
 {
-    count_at(s, 1)
+    match kind {
+        BodyKind::Narrow => HEADER,
+    }
 }
 
-pub fn sensor_count(s: &[u8]) -> usize
-    ensures { λ r. ⌜ r ≡ sensorCount narrow (now (s .entry)) ⌝ }
+pub fn track_count(kind: BodyKind, s: &[u8]) -> usize
+    ensures { λ r. ⌜ r ≡ trackCount (layoutOf kind) (now (s .entry)) ⌝ }
 {
-    count_at(s, 4)
+    match kind {
+        BodyKind::Narrow => count_at(s, 1),
+    }
 }
 
-pub fn observation_count(s: &[u8]) -> usize
-    ensures { λ r. ⌜ r ≡ observationCount narrow (now (s .entry)) ⌝ }
+pub fn sensor_count(kind: BodyKind, s: &[u8]) -> usize
+    ensures { λ r. ⌜ r ≡ sensorCount (layoutOf kind) (now (s .entry)) ⌝ }
 {
-    count_at(s, 2)
+    match kind {
+        BodyKind::Narrow => count_at(s, 4),
+    }
 }
 
-pub fn association_count(s: &[u8]) -> usize
-    ensures { λ r. ⌜ r ≡ associationCount narrow (now (s .entry)) ⌝ }
+pub fn observation_count(kind: BodyKind, s: &[u8]) -> usize
+    ensures { λ r. ⌜ r ≡ observationCount (layoutOf kind) (now (s .entry)) ⌝ }
 {
-    count_at(s, 3)
+    match kind {
+        BodyKind::Narrow => count_at(s, 2),
+    }
 }
 
-fn sensors_from(s: &[u8]) -> usize
-    ensures { λ r. ⌜ r ≡ sensorsFrom narrow (now (s .entry)) ⌝ }
+pub fn association_count(kind: BodyKind, s: &[u8]) -> usize
+    ensures { λ r. ⌜ r ≡ associationCount (layoutOf kind) (now (s .entry)) ⌝ }
 {
-    16 + 16 * track_count(s)
+    match kind {
+        BodyKind::Narrow => count_at(s, 3),
+    }
 }
 
-pub fn observations_from(s: &[u8]) -> usize
-    ensures { λ r. ⌜ r ≡ observationsFrom narrow (now (s .entry)) ⌝ }
+fn sensors_from(kind: BodyKind, s: &[u8]) -> usize
+    ensures { λ r. ⌜ r ≡ sensorsFrom (layoutOf kind) (now (s .entry)) ⌝ }
 {
-    sensors_from(s) + 4 * sensor_count(s)
+    header_size(kind) + ENGINE * track_count(kind, s)
 }
 
-pub fn associations_from(s: &[u8]) -> usize
-    ensures { λ r. ⌜ r ≡ associationsFrom narrow (now (s .entry)) ⌝ }
+pub fn observations_from(kind: BodyKind, s: &[u8]) -> usize
+    ensures { λ r. ⌜ r ≡ observationsFrom (layoutOf kind) (now (s .entry)) ⌝ }
 {
-    observations_from(s) + 24 * observation_count(s)
+    sensors_from(kind, s) + SENSOR * sensor_count(kind, s)
+}
+
+pub fn associations_from(kind: BodyKind, s: &[u8]) -> usize
+    ensures { λ r. ⌜ r ≡ associationsFrom (layoutOf kind) (now (s .entry)) ⌝ }
+{
+    observations_from(kind, s) + OBSERVATION * observation_count(kind, s)
 }
 
 // ---- the fields: each reader answers, on any bytes, the field where its bytes are all there, and else 0 or the value for none; for a body that passes this
@@ -80,8 +104,8 @@ fn mode_of(b: u8) -> TrackingMode
     }
 }
 
-pub fn mode(s: &[u8]) -> TrackingMode
-    ensures { λ r. ⌜ r ≡ frameOf narrow (now (s .entry)) .mode ⌝ }
+pub fn mode(kind: BodyKind, s: &[u8]) -> TrackingMode
+    ensures { λ r. ⌜ r ≡ frameOf (layoutOf kind) (now (s .entry)) .mode ⌝ }
 {
     if s.len() == 0 {
         return TrackingMode::LidarOnly;
@@ -89,24 +113,24 @@ pub fn mode(s: &[u8]) -> TrackingMode
     mode_of(s[0])
 }
 
-pub fn time_of(s: &[u8]) -> i64
-    ensures { λ r. ⌜ (r ≡ timeRead narrow (now (s .entry))) × (refusal narrow (now (s .entry)) ≡ 0 → r ≡ frameOf narrow (now (s .entry)) .time) ⌝ }
+pub fn time_of(kind: BodyKind, s: &[u8]) -> i64
+    ensures { λ r. ⌜ (r ≡ timeRead (layoutOf kind) (now (s .entry))) × (refusal (layoutOf kind) (now (s .entry)) ≡ 0 → r ≡ frameOf (layoutOf kind) (now (s .entry)) .time) ⌝ }
 {
-    if s.len() < 16 {
+    if s.len() < header_size(kind) {
         return 0;
     }
     little::i64_at(s, 8)
 }
 
 // The id of sensor i; 0 past the last.
-pub fn sensor(s: &[u8], i: usize) -> u64
-    ensures { λ r. ⌜ (r ≡ sensorRead narrow (now (s .entry)) i) × (refusal narrow (now (s .entry)) ≡ 0 → r ≡ getD (frameOf narrow (now (s .entry)) .sensors) i 0) ⌝ }
+pub fn sensor(kind: BodyKind, s: &[u8], i: usize) -> u64
+    ensures { λ r. ⌜ (r ≡ sensorRead (layoutOf kind) (now (s .entry)) i) × (refusal (layoutOf kind) (now (s .entry)) ≡ 0 → r ≡ getD (frameOf (layoutOf kind) (now (s .entry)) .sensors) i 0) ⌝ }
 {
-    if sensor_count(s) <= i {
+    if sensor_count(kind, s) <= i {
         return 0;
     }
-    let o = sensors_from(s) + 4 * i;
-    if s.len() < o + 4 {
+    let o = sensors_from(kind, s) + SENSOR * i;
+    if s.len() < o + SENSOR {
         return 0;
     }
     little::u32_at(s, o)
@@ -122,7 +146,7 @@ fn class_of(b: u8, v: u32) -> ClassLabel
 }
 
 fn track_at(s: &[u8], o: usize) -> EngineTrack
-    requires { ⌜ o + 16 ≤ length (now s) ⌝ }
+    requires { ⌜ o + ENGINE ≤ length (now s) ⌝ }
     ensures { λ r. ⌜ r ≡ trackAt (now (s .entry)) o ⌝ }
 {
     let id = EngineId(little::u64_at(s, o));
@@ -141,21 +165,21 @@ fn no_track() -> EngineTrack
 }
 
 // Engine track i.
-pub fn track(s: &[u8], i: usize) -> EngineTrack
-    ensures { λ r. ⌜ (r ≡ trackRead narrow (now (s .entry)) i) × (refusal narrow (now (s .entry)) ≡ 0 → r ≡ getD (frameOf narrow (now (s .entry)) .tracks) i noTrack) ⌝ }
+pub fn track(kind: BodyKind, s: &[u8], i: usize) -> EngineTrack
+    ensures { λ r. ⌜ (r ≡ trackRead (layoutOf kind) (now (s .entry)) i) × (refusal (layoutOf kind) (now (s .entry)) ≡ 0 → r ≡ getD (frameOf (layoutOf kind) (now (s .entry)) .tracks) i noTrack) ⌝ }
 {
-    if track_count(s) <= i {
+    if track_count(kind, s) <= i {
         return no_track();
     }
-    let o = 16 + 16 * i;
-    if s.len() < o + 16 {
+    let o = header_size(kind) + ENGINE * i;
+    if s.len() < o + ENGINE {
         return no_track();
     }
     track_at(s, o)
 }
 
 fn observation_at(s: &[u8], o: usize) -> Observation
-    requires { ⌜ o + 24 ≤ length (now s) ⌝ }
+    requires { ⌜ o + OBSERVATION ≤ length (now s) ⌝ }
     ensures { λ r. ⌜ r ≡ observationAt (now (s .entry)) o ⌝ }
 {
     let x = little::f64_at(s, o);
@@ -176,15 +200,15 @@ fn no_observation() -> Observation
 }
 
 // The observation at an index.
-pub fn observation(s: &[u8], index: ObservationIndex) -> Observation
-    ensures { λ r. ⌜ (r ≡ observationRead narrow (now (s .entry)) (index .0)) × (refusal narrow (now (s .entry)) ≡ 0 → r ≡ getD (frameOf narrow (now (s .entry)) .observations) (index .0) noObservation) ⌝ }
+pub fn observation(kind: BodyKind, s: &[u8], index: ObservationIndex) -> Observation
+    ensures { λ r. ⌜ (r ≡ observationRead (layoutOf kind) (now (s .entry)) (index .0)) × (refusal (layoutOf kind) (now (s .entry)) ≡ 0 → r ≡ getD (frameOf (layoutOf kind) (now (s .entry)) .observations) (index .0) noObservation) ⌝ }
 {
     let i = index.0;
-    if observation_count(s) <= i {
+    if observation_count(kind, s) <= i {
         return no_observation();
     }
-    let o = observations_from(s) + 24 * i;
-    if s.len() < o + 24 {
+    let o = observations_from(kind, s) + OBSERVATION * i;
+    if s.len() < o + OBSERVATION {
         return no_observation();
     }
     observation_at(s, o)
@@ -218,19 +242,23 @@ fn cost_of(b: u8, v: f64) -> Cost
     }
 }
 
-fn association_at(s: &[u8], o: usize) -> Association
-    requires { ⌜ o + 24 ≤ length (now s) ⌝ }
-    ensures { λ r. ⌜ r ≡ associationAt 1 (now (s .entry)) o ⌝ }
+fn association_at(kind: BodyKind, s: &[u8], o: usize) -> Association
+    requires { ⌜ o + ASSOCIATION ≤ length (now s) ⌝ }
+    ensures { λ r. ⌜ r ≡ associationAt (layoutOf kind .width) (now (s .entry)) o ⌝ }
 {
-    let index = ObservationIndex(s[o] as usize);
-    let track = associated_of(s[o + 1], little::u64_at(s, o + 8));
-    let outcome = outcome_of(s[o + 2]);
-    let cost = cost_of(s[o + 3], little::f64_at(s, o + 16));
-    Association {
-        index,
-        track,
-        outcome,
-        cost,
+    match kind {
+        BodyKind::Narrow => {
+            let index = ObservationIndex(s[o] as usize);
+            let track = associated_of(s[o + 1], little::u64_at(s, o + 8));
+            let outcome = outcome_of(s[o + 2]);
+            let cost = cost_of(s[o + 3], little::f64_at(s, o + 16));
+            Association {
+                index,
+                track,
+                outcome,
+                cost,
+            }
+        }
     }
 }
 
@@ -247,15 +275,15 @@ fn no_association() -> Association
 }
 
 // Association j, in the frame's order.
-pub fn association(s: &[u8], j: usize) -> Association
-    ensures { λ r. ⌜ (r ≡ associationRead narrow (now (s .entry)) j) × (refusal narrow (now (s .entry)) ≡ 0 → r ≡ getD (frameOf narrow (now (s .entry)) .associations) j noAssociation) ⌝ }
+pub fn association(kind: BodyKind, s: &[u8], j: usize) -> Association
+    ensures { λ r. ⌜ (r ≡ associationRead (layoutOf kind) (now (s .entry)) j) × (refusal (layoutOf kind) (now (s .entry)) ≡ 0 → r ≡ getD (frameOf (layoutOf kind) (now (s .entry)) .associations) j noAssociation) ⌝ }
 {
-    if association_count(s) <= j {
+    if association_count(kind, s) <= j {
         return no_association();
     }
-    let o = associations_from(s) + 24 * j;
-    if s.len() < o + 24 {
+    let o = associations_from(kind, s) + ASSOCIATION * j;
+    if s.len() < o + ASSOCIATION {
         return no_association();
     }
-    association_at(s, o)
+    association_at(kind, s, o)
 }

@@ -1,7 +1,9 @@
 // The refiner's settings.
+use bounds::LAG;
+use bounds::PASSES;
 use scalar::bits;
 ghost use mathlib.Core.Path.{_≡_};
-ghost use Rattle.engine.specs.Config.{legal, defaults};
+ghost use Rattle.engine.specs.Config.{legal, defaults, positionVariance};
 
 pub struct FgoConfig {
     // Scans held back; a scan is emitted this many scans late.
@@ -47,14 +49,21 @@ impl FgoConfig {
         }
     }
 
+    // The variance of a detection's position.
+    pub fn position_variance(self) -> f64
+        ensures { λ r. ⌜ r ≡ positionVariance self ⌝ }
+    {
+        self.position_sigma_m * self.position_sigma_m
+    }
+
     // Every setting is in bounds and finite: else refusal 1.
     pub fn is_legal(self) -> bool
         ensures { λ r. ⌜ r ≡ legal self ⌝ }
     {
-        if 16 < self.lag_frames {
+        if LAG < self.lag_frames {
             return false;
         }
-        if 1000 < self.max_passes {
+        if PASSES < self.max_passes {
             return false;
         }
         if !bits::is_finite(self.radius_m) {

@@ -14,6 +14,12 @@ pub struct ScanIndex(pub u64);
 // The place of an observation in its scan.
 pub struct ObservationIndex(pub usize);
 
+// How a frame's body is laid out.
+pub enum BodyKind {
+    // Counts and indices have a byte each.
+    Narrow,
+}
+
 // How much of the camera the engine used.
 pub enum TrackingMode {
     LidarOnly,

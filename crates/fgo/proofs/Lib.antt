@@ -1,7 +1,4 @@
-pub mod Numbered
-pub mod FrameSize
-pub mod SentLaw
-pub mod FinishLaw
-pub mod Releasing
+pub mod Opening
+pub mod Leaving
 pub mod Answering
 pub mod PushLaw

@@ -1,46 +1,27 @@
 -- What open, push, take and counters promise, for any refiner value, any bytes, any buffers and any contents of the lent memory. Definitions only.
-use Prim.Native.Nat.{ℕ}
+use Prim.Native.Nat.{ℕ, zero, suc, _≤_}
 use mathlib.Core.Path.{_≡_}
-use mathlib.Core.Bool.{Bool, true, false, _&&_}
+use mathlib.Core.Bool.{true, cond}
 use mathlib.Core.List.{List}
-use mathlib.Core.Option.{Option, none, some}
 use lib.ListN.{length}
-use lib.Dec.{leb}
 use lib.Ieee.{Float}
+use Rattle.bounds.specs.Bounds.{ASSOCIATIONS, TRACKS}
+use Rattle.buffers.specs.declared.Answer.the-variants.{Refused}
+use Rattle.buffers.specs.Answer.{Opening, opened, unopened, Op, Reply, gives, roomy, checked, Ends}
 use Rattle.engine.specs.declared.config.FgoConfig.{FgoConfig}
-use Rattle.model.specs.declared.moves.FgoCounters.{FgoCounters}
-use Rattle.model.specs.Emitting.{wordsOf, numbersOf}
-use Rattle.model.specs.Refiner as model
-use Rattle.model.specs.Refiner.{State, refused, waits, gives}
-use Rattle.memory.specs.declared.state.FixedLagRefiner.{FixedLagRefiner}
-use Rattle.fgo.specs.declared.refiner.Answer.{Answer}
-use Rattle.fgo.specs.declared.refiner.Answer.the-variants.{Refused, Held, Frame}
-use Rattle.fgo.specs.declared.refiner.Opened.{Opened}
-use Rattle.fgo.specs.declared.refiner.Opened.the-variants as opened
-use Rattle.fgo.specs.declared.refiner.Counted.{Counted}
-use Rattle.fgo.specs.declared.refiner.Counted.the-variants as counted
-use Rattle.fgo.specs.declared.refiner.Pushed.{Pushed}
-use Rattle.buffers.specs.Buffers.{over}
-use Rattle.memory.specs.Memory.{Memory, stateOf}
-use Rattle.ledger.specs.Sound.{bodiesOk, soundOk}
-
--- ---- document 01's numbers
-
--- the number of a refusal
-abbrev pub numberOf : Answer → Option ℕ
-numberOf (Refused n) = some n
-numberOf Held = none
-numberOf (Frame w n) = none
-
--- "Push gives a frame, or "held" with no output written": an answer of the refiner as defined, by value
-abbrev pub answerOf : model.Answer → Answer
-answerOf (refused n) = Refused n
-answerOf waits = Held
-answerOf (gives e) = Frame (length (wordsOf e)) (length (numbersOf e))
-
--- a refusal, which keeps the refiner
-abbrev pub refusedAs : FixedLagRefiner → ℕ → Pushed
-refusedAs r n = record { answer = Refused n; refiner = r }
+use Rattle.engine.specs.Config.{legal}
+use Rattle.engine.specs.Body.{Body}
+use Rattle.fgo_spec.specs.declared.moves.FgoCounters.{FgoCounters}
+use Rattle.fgo_spec.specs.Emitting.{Emitted, written}
+use Rattle.fgo_spec.specs.Refiner.{State, reply}
+use Rattle.fgo_state.specs.declared.state.FixedLagRefiner.{FixedLagRefiner}
+use Rattle.fgo_state.specs.Memory.{Memory, stateOf}
+use Rattle.fgo_state.specs.Sound.{bodiesOk, soundOk}
+use Rattle.fgo.specs.declared.Opened.{Opened}
+use Rattle.fgo.specs.declared.Opened.the-variants.{Refused as NotOpened, Ready}
+use Rattle.fgo.specs.declared.Counted.{Counted}
+use Rattle.fgo.specs.declared.Counted.the-variants.{Refused as NotCounted, Moves}
+use Rattle.fgo.specs.declared.Pushed.{Pushed}
 
 -- ---- opening
 
@@ -53,71 +34,50 @@ newBy c =
       held = 0;
       frozen = 0;
       owned = 0;
-      next = record { 0 = 1 };
+      «next_id» = record { 0 = 1 };
       counters = record { swaps = 0; merges = 0; splits = 0; drops = 0 };
     }
 
--- 1: "a setting out of bounds or not finite"
-abbrev pub openedBy : FgoConfig → Bool → Opened
-openedBy c true = opened.Ready (newBy c)
-openedBy c false = opened.Refused 1
+-- 1: "a setting out of bounds or not finite"; 0 for none
+abbrev pub openRefusal : FgoConfig → ℕ
+openRefusal c = cond (legal c) 0 1
+
+-- document 01's number for an opening that is refused, or the new refiner
+abbrev pub openingOf : Opened → Opening FixedLagRefiner
+openingOf (NotOpened n) = unopened n
+openingOf (Ready r) = opened r
 
 -- ---- push and take
 
--- 4: "output buffers under 910 words or 5,408 numbers"
-abbrev pub roomy : List ℕ → List Float → Bool
-roomy ws ns = leb 910 (length ws) && leb 5408 (length ns)
+-- 3, then 4, with output buffers of so many words and numbers; 0 for none
+unfoldable pub laterRefusal : FixedLagRefiner → Memory → ℕ → ℕ → ℕ
+laterRefusal r m words numbers = cond (soundOk r m) (cond (roomy words numbers) 0 4) 3
 
--- 3, then 4, then what the refiner as defined answers
-abbrev pub checked : Bool → Bool → State → model.Answer × State → model.Answer × State
-checked false b t a = (refused 3, t)
-checked true false t a = (refused 4, t)
-checked true true t a = a
+-- the reply to a push or a take with the output buffers ws and ns, and the state after it
+unfoldable pub due : FixedLagRefiner → Memory → Op Body → List ℕ → List Float → Reply Emitted × State
+due r m o ws ns = checked (laterRefusal r m (length ws) (length ns)) (stateOf r m) (reply (r .config) (stateOf r m) o)
 
--- push, of the bytes s with the buffers ws and ns: the answer, and the state after it
-unfoldable pub pushAnswer : FixedLagRefiner → Memory → List ℕ → List ℕ → List Float → model.Answer × State
-pushAnswer r m s ws ns = checked (soundOk r m) (roomy ws ns) (stateOf r m) (model.push (r .config) (stateOf r m) s)
+-- A call that is due a, and is given the refiner r, the memory m and the output buffers ws and ns, gives p and leaves m′, ws′ and ns′: answer, state and
+-- output. Settings stay, bodies that pass stay the only ones held, and a frame that is given has no more tracks and associations than there is room for.
+pub record Promised (a : Reply Emitted × State) (r : FixedLagRefiner) (m : Memory) (ws : List ℕ) (ns : List Float) (p : Pushed) (m′ : Memory) (ws′ : List ℕ) (ns′ : List Float) : Type 0 where
+  pub ends : Ends written stateOf a r m ws ns (p .answer) (p .state) m′ ws′ ns′
+  pub settings : p .state .config ≡ r .config
+  pub bodies :
+      bodiesOk (m .bodies) (m .columns) (r .first .0) (r .held) ≡ true →
+      bodiesOk (m′ .bodies) (m′ .columns) (p .state .first .0) (p .state .held) ≡ true
+  pub small : (e : Emitted) → a .0 ≡ gives e → (length (e .tracks) ≤ TRACKS) × (length (e .scan .frame .associations) ≤ ASSOCIATIONS)
 
--- take, with the buffers ws and ns: the answer, and the state after it
-unfoldable pub takeAnswer : FixedLagRefiner → Memory → List ℕ → List Float → model.Answer × State
-takeAnswer r m ws ns = checked (soundOk r m) (roomy ws ns) (stateOf r m) (model.takes (r .config) (stateOf r m))
-
--- the oldest scan leaves
-abbrev pub releaseOf : FixedLagRefiner → Memory → model.Answer × State
-releaseOf r m = let t = stateOf r m in model.release (r .config) t (t .scans)
-
--- the buffer of words after an answer: a frame that is given stands at its start, and "The rest stays"
-abbrev pub wordsAfter : model.Answer → List ℕ → List ℕ
-wordsAfter (refused n) ws = ws
-wordsAfter waits ws = ws
-wordsAfter (gives e) ws = over 0 (wordsOf e) ws
-
--- the buffer of numbers after an answer, likewise
-abbrev pub numbersAfter : model.Answer → List Float → List Float
-numbersAfter (refused n) ns = ns
-numbersAfter waits ns = ns
-numbersAfter (gives e) ns = over 0 (numbersOf e) ns
-
--- "After it the state and the lent buffers hold what they held before the call"
-abbrev pub Unchanged : model.Answer → FixedLagRefiner → Memory → FixedLagRefiner → Memory → Type 0
-Unchanged (refused n) r m r′ m′ = (r′ ≡ r) × (m′ ≡ m)
-Unchanged waits r m r′ m′ = Unit {0}
-Unchanged (gives e) r m r′ m′ = Unit {0}
-
--- a call that the refiner as defined answers by a: the answer, the state, the lent memory and both buffers
-pub record Ends (a : model.Answer × State) (r : FixedLagRefiner) (m : Memory) (ws : List ℕ) (ns : List Float) (p : Pushed) (m′ : Memory) (ws′ : List ℕ) (ns′ : List Float) : Type 0 where
-  pub answer : p .answer ≡ answerOf (a .0)
-  pub settings : p .refiner .config ≡ r .config
-  pub state : stateOf (p .refiner) m′ ≡ a .1
-  pub words : ws′ ≡ wordsAfter (a .0) ws
-  pub numbers : ns′ ≡ numbersAfter (a .0) ns
-  pub unchanged : Unchanged (a .0) r m (p .refiner) m′
-  -- bodies that pass stay the only ones held
-  pub bodies : bodiesOk (m .bodies) (m .columns) (r .first .0) (r .held) ≡ true → bodiesOk (m′ .bodies) (m′ .columns) (p .refiner .first .0) (p .refiner .held) ≡ true
+-- a refusal, which keeps the refiner
+abbrev pub refusedAs : FixedLagRefiner → ℕ → Pushed
+refusedAs r n = record { answer = Refused n; state = r }
 
 -- ---- counters
 
--- 3: "the state breaks its rule"; else the counters
-abbrev pub countedBy : Bool → FgoCounters → Counted
-countedBy true k = counted.Moves k
-countedBy false k = counted.Refused 3
+-- by a refusal, 0 for none
+abbrev pub countedBy : ℕ → FgoCounters → Counted
+countedBy zero k = Moves k
+countedBy (suc n) k = NotCounted (suc n)
+
+-- 3: "the state breaks its rule"; 0 for none
+abbrev pub countRefusal : FixedLagRefiner → Memory → ℕ
+countRefusal r m = cond (soundOk r m) 0 3

@@ -65,3 +65,7 @@ kfIn ns o =
       p11 = getD ns (o + 6) nan;
       t = getD ns (o + 7) nan;
     }
+
+-- and its eight numbers, in that order
+abbrev pub kfNumbers : Kf → List Float
+kfNumbers k = k .x ∷ k .y ∷ k .vx ∷ k .vy ∷ k .p00 ∷ k .p01 ∷ k .p11 ∷ k .t ∷ []

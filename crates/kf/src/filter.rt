@@ -1,7 +1,11 @@
 // The plain filter: constant velocity on the plane; x and y share one covariance.
+use bounds::KF;
 use scalar::log;
 ghost use mathlib.Core.Path.{_≡_};
-ghost use Rattle.kf.specs.Filter.{started, predicted, updated, logOf};
+ghost use Prim.Native.Nat.{_+_, _≤_};
+ghost use lib.ListN.{length};
+ghost use Rattle.bounds.specs.Bounds.{KF};
+ghost use Rattle.kf.specs.Filter.{started, predicted, updated, logOf, kfIn, kfNumbers};
 
 pub struct Kf {
     pub x: f64,
@@ -85,5 +89,38 @@ impl Kf {
             t: self.t,
         };
         Updated { kf, nll }
+    }
+
+    // The filter whose numbers stand in a list from place o on; they must be there.
+    pub fn at(numbers: &[f64], o: usize) -> Kf
+        requires { ⌜ o + KF ≤ length (now numbers) ⌝ }
+        ensures { λ k. ⌜ k ≡ kfIn (now (numbers .entry)) o ⌝ }
+    {
+        Kf {
+            x: numbers[o],
+            y: numbers[o + 1],
+            vx: numbers[o + 2],
+            vy: numbers[o + 3],
+            p00: numbers[o + 4],
+            p01: numbers[o + 5],
+            p11: numbers[o + 6],
+            t: numbers[o + 7],
+        }
+    }
+
+    // Its numbers, in that order.
+    pub fn numbers(self) -> [f64; KF]
+        ensures { λ r. ⌜ r ≡ kfNumbers self ⌝ }
+    {
+        [
+            self.x,
+            self.y,
+            self.vx,
+            self.vy,
+            self.p00,
+            self.p01,
+            self.p11,
+            self.t,
+        ]
     }
 }

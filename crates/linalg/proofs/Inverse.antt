@@ -13,7 +13,7 @@ use Rattle.scalar.specs.Num.{Num, Exact}
 use Rattle.scalar.proofs.Algebra.{mul-zero, zero-mul}
 use Rattle.linalg.specs.Grown.{grown, backed}
 use Rattle.linalg.specs.Matrix.{at, entry, unit, identity, mul, transpose}
-use Rattle.linalg.specs.Cholesky.{less, low, reduced, column, columns, cholesky, positive, forward, backward, inverse}
+use Rattle.linalg.specs.Cholesky.{less, low, reduced, factorColumn, columns, cholesky, positive, forward, backward, inverse}
 use Rattle.linalg.proofs.Fill.{six}
 use Rattle.linalg.proofs.Grown.{equal-or-not, grown-at, grown-stays, backed-at}
 use Rattle.linalg.proofs.Sums.{sum, sum-ext, sum-head, sum-tail, sum-cons, less-sum}
@@ -44,10 +44,10 @@ module _ (N : Num) where
     left j i = reduced N a (columns N a) j i
 
     abbrev grow : ℕ → List (List F) → List F
-    grow j cs = column N a cs j
+    grow j cs = factorColumn N a cs j
 
     -- a column, from those before it
-    column-is : (j : ℕ) → j < 6 → getD (columns N a) j [] ≡ column N a (grown grow j) j
+    column-is : (j : ℕ) → j < 6 → getD (columns N a) j [] ≡ factorColumn N a (grown grow j) j
     unfolding columns
     column-is j h = grown-at [] grow 6 j h
 
@@ -59,7 +59,7 @@ module _ (N : Num) where
         (λ k g. ap (λ c. at N c i) (grown-stays [] grow j 6 k g (omega arith)))
 
     entry-is : (i j : ℕ) → i < 6 → j < 6 → L i j ≡ cond (ltb i j) nought (cond (eqb i j) (root (left j j)) (left j i ⊘ root (left j j)))
-    unfolding column
+    unfolding factorColumn
     entry-is i j h g =
         ap (λ c. at N c i) (column-is j g)
         ∙ vector-at N (λ i. cond (ltb i j) nought (cond (eqb i j) (root (reduced N a (grown grow j) j j)) (reduced N a (grown grow j) j i ⊘ root (reduced N a (grown grow j) j j)))) i h

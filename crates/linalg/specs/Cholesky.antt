@@ -31,12 +31,12 @@ module _ (N : Num) where
   divided a cs j d = vector N (λ i. cond (ltb i j) nought (cond (eqb i j) d (reduced a cs j i ⊘ d)))
 
   -- "its root divides the column": the pivot is what is left on the diagonal
-  unfoldable pub column : List F → List (List F) → ℕ → List F
-  column a cs j = divided a cs j (root (reduced a cs j j))
+  unfoldable pub factorColumn : List F → List (List F) → ℕ → List F
+  factorColumn a cs j = divided a cs j (root (reduced a cs j j))
 
   -- "Cholesky by columns of the lower triangle"
   unfoldable pub columns : List F → List (List F)
-  columns a = grown (λ j cs. column a cs j) 6
+  columns a = grown (λ j cs. factorColumn a cs j) 6
 
   -- the factor L, by rows
   unfoldable pub cholesky : List F → List F

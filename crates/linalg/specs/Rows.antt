@@ -48,8 +48,8 @@ module _ (N : Num) where
   lessRow r s w i = vector N (λ c. at N r c ⊖ s ⊗ entry N w i c)
 
   -- r divided by d
-  abbrev pub over : List F → F → List F
-  over r d = vector N (λ c. at N r c ⊘ d)
+  abbrev pub dividedBy : List F → F → List F
+  dividedBy r d = vector N (λ c. at N r c ⊘ d)
 
   -- row i of w less l's number at p times row q, the one at p + s times row q + 1, .., n of them
   unfoldable pub lessRows : List F → List F → ℕ → ℕ → ℕ → ℕ → ℕ → List F
@@ -57,4 +57,4 @@ module _ (N : Num) where
 
   -- the same, divided by l's number on the diagonal
   unfoldable pub solvedRow : List F → List F → ℕ → ℕ → ℕ → ℕ → ℕ → List F
-  solvedRow l w i p s q n = over (lessRows l w i p s q n) (entry N l i i)
+  solvedRow l w i p s q n = dividedBy (lessRows l w i p s q n) (entry N l i i)

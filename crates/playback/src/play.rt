@@ -1,26 +1,38 @@
 // A recording, played: every frame is pushed to the refiner, at the end all are taken, then all from the smoother, if there is one; last come the counters.
 use crate::sink;
-use crate::sink::NUMBERS;
 use crate::sink::Printer;
 use crate::sink::Sink;
-use crate::sink::WORDS;
+use bounds::BODIES;
+use bounds::COLUMNS;
+use bounds::FILTERS;
+use bounds::LAG;
+use bounds::NUMBERS;
+use bounds::OWNERS;
+use bounds::PARTS;
+use bounds::RECORDING;
+use bounds::TRACKS;
+use bounds::VALUES;
+use bounds::WINDOW;
+use bounds::WORDS;
+use buffers::Answer;
 use engine::config::FgoConfig;
-use fgo::refiner;
-use fgo::refiner::Answer;
-use fgo::refiner::Counted;
-use fgo::refiner::Opened;
-use fgo::refiner::Pushed;
+use engine::types::BodyKind;
+use fgo::Counted;
+use fgo::Opened;
+use fgo::Pushed;
+use fgo_state::state::FixedLagRefiner;
 use libc::STDIN_FILENO;
-use lines::ROOM;
-use memory::state::BODIES;
-use memory::state::COLUMNS;
-use memory::state::FILTERS;
-use memory::state::FixedLagRefiner;
-use memory::state::OWNERS;
-use memory::state::TRACKS;
-use printing::print;
+use print::lines;
+use print::lines::ROOM;
+use print::short;
 use recording::Contents;
+use smoother_window::SmootherConfig;
+use smoother_window::window::window_numbers;
+use smoother_window::window::window_words;
 ghost use Prim.Native.Nat.{_≤_};
+ghost use Rattle.bounds.specs.Bounds.{FRAMES, LAG};
+ghost use Rattle.engine.specs.Config.{lag};
+ghost use Rattle.playback.specs.Shown.{Shown};
 
 // How the frames are printed: as the refiner emits them, in short or in full; or smoothed, in full.
 pub enum Form {
@@ -29,19 +41,8 @@ pub enum Form {
     Smoothed,
 }
 
-// The longest lag.
-const LAG: usize = 16;
-
-// A smoother's window for the longest lag: 17 frames.
-const WINDOW: usize = 15470;
-
-const VALUES: usize = 91936;
-
-// The most tracks of a frame.
-const MOST: usize = 128;
-
 // A recording of the greatest length, and one byte that tells a longer one.
-const RECORDING: usize = 65537;
+const INPUT: usize = RECORDING + 1;
 
 // Where a run stands: the refiner, and what is printed of its answers.
 struct Player {
@@ -58,20 +59,33 @@ fn step<'a, 'b, 'c, 'd, 'e, 'f, 'g, 'h>(
     bodies: &'a mut [u8; BODIES],
     columns: &'b mut [u64; COLUMNS],
     owners: &'c mut [u64; OWNERS],
-    tracks: &'d mut [u64; TRACKS],
+    tracks: &'d mut [u64; PARTS],
     filters: &'e mut [f64; FILTERS],
     fw: &'f mut [u64],
     fx: &'g mut [f64],
-) -> Pushed {
+) -> Pushed
+    ensures { λ p. ⌜ Shown (p .answer) (now (fw .exit)) ⌝ }
+{
     if i < n {
         let body = recording::frame_at(s, i);
-        return refiner::push(r, body, bodies, columns, owners, tracks, filters, fw, fx);
+        return fgo::push(
+            r,
+            BodyKind::Narrow,
+            body,
+            bodies,
+            columns,
+            owners,
+            tracks,
+            filters,
+            fw,
+            fx,
+        );
     }
     if r.held == 0 {
         let answer = Answer::Held;
-        return Pushed { answer, refiner: r };
+        return Pushed { answer, state: r };
     }
-    refiner::take(r, bodies, columns, owners, tracks, filters, fw, fx)
+    fgo::take(r, bodies, columns, owners, tracks, filters, fw, fx)
 }
 
 // A run after a step of the refiner, whose answer is printed.
@@ -85,8 +99,10 @@ fn put_step<'a, 'b, 'c, 'd, 'e, 'f>(
     words: &'c mut [u64; WORDS],
     numbers: &'d mut [f64; NUMBERS],
     out: &'e mut [u8; ROOM],
-) -> Player {
-    let refiner = t.refiner;
+) -> Player
+    requires { ⌜ Shown (t .answer) (now fw) ⌝ }
+{
+    let refiner = t.state;
     let answer = t.answer;
     let last = p.printer;
     let printer = sink::put_answer(last, answer, fw, fx, window, values, words, numbers, out);
@@ -101,7 +117,7 @@ fn steps<'a, 'b, 'c, 'd, 'e, 'f, 'g, 'h, 'i, 'j, 'k>(
     bodies: &'a mut [u8; BODIES],
     columns: &'b mut [u64; COLUMNS],
     owners: &'c mut [u64; OWNERS],
-    tracks: &'d mut [u64; TRACKS],
+    tracks: &'d mut [u64; PARTS],
     filters: &'e mut [f64; FILTERS],
     window: &'f mut [u64],
     values: &'g mut [f64],
@@ -109,7 +125,7 @@ fn steps<'a, 'b, 'c, 'd, 'e, 'f, 'g, 'h, 'i, 'j, 'k>(
     numbers: &'i mut [f64; NUMBERS],
     out: &'j mut [u8; ROOM],
 ) -> Player
-    requires { ⌜ n ≤ 256 ⌝ }
+    requires { ⌜ n ≤ FRAMES ⌝ }
 {
     let mut frame_words = [0u64; WORDS];
     let mut frame_numbers = [0.0; NUMBERS];
@@ -130,7 +146,7 @@ fn steps<'a, 'b, 'c, 'd, 'e, 'f, 'g, 'h, 'i, 'j, 'k>(
 fn put_counted(out: &mut [u8; ROOM], at: usize, k: Counted) -> usize {
     match k {
         Counted::Refused(code) => lines::put_refused(out, at, code),
-        Counted::Moves(moves) => print::put_counters(out, at, moves),
+        Counted::Moves(moves) => short::put_counters(out, at, moves),
     }
 }
 
@@ -149,12 +165,12 @@ fn run<'a, 'b, 'c>(
     window: &'a mut [u64],
     values: &'b mut [f64],
 )
-    requires { ⌜ n ≤ 256 ⌝ }
+    requires { ⌜ n ≤ FRAMES ⌝ }
 {
     let mut bodies = [0u8; BODIES];
     let mut columns = [0u64; COLUMNS];
     let mut owners = [0u64; OWNERS];
-    let mut tracks = [0u64; TRACKS];
+    let mut tracks = [0u64; PARTS];
     let mut filters = [0.0; FILTERS];
     let mut words = [0u64; WORDS];
     let mut numbers = [0.0; NUMBERS];
@@ -177,14 +193,14 @@ fn run<'a, 'b, 'c>(
     let printer = p.printer;
     let at = sink::put_rest(printer, window, values, &mut words, &mut numbers, &mut out);
     let r = p.refiner;
-    let k = refiner::counters(r, &bodies, &columns, &owners, &tracks);
+    let k = fgo::counters(r, &bodies, &columns, &owners, &tracks);
     let end = put_counted(&mut out, at, k);
     lines::flush(&out, end);
 }
 
 // A recording of n frames, played without a smoother.
 fn run_plain(s: &[u8], n: usize, refiner: FixedLagRefiner, sink: Sink)
-    requires { ⌜ n ≤ 256 ⌝ }
+    requires { ⌜ n ≤ FRAMES ⌝ }
 {
     let mut window = [0u64; 0];
     let mut values = [0.0; 0];
@@ -193,7 +209,16 @@ fn run_plain(s: &[u8], n: usize, refiner: FixedLagRefiner, sink: Sink)
     run(s, n, first, &mut window, &mut values);
 }
 
-// Played with a smoother of the refiner's lag and density over this window; or the smoother's refusal.
+// A smoother of the refiner's lag and density, for frames of as many tracks as it may emit.
+fn smoothing(c: FgoConfig) -> SmootherConfig {
+    SmootherConfig {
+        lag_frames: c.lag_frames,
+        accel_spectral_density: c.accel_spectral_density,
+        max_tracks: TRACKS,
+    }
+}
+
+// Played with a smoother over this window; or the smoother's refusal.
 fn run_over<'a, 'b, 'c>(
     s: &'c [u8],
     n: usize,
@@ -201,10 +226,9 @@ fn run_over<'a, 'b, 'c>(
     window: &'a mut [u64],
     values: &'b mut [f64],
 )
-    requires { ⌜ n ≤ 256 ⌝ }
+    requires { ⌜ n ≤ FRAMES ⌝ }
 {
-    let c = refiner.config;
-    let o = smoother::open(c.lag_frames, c.accel_spectral_density, MOST, window, values);
+    let o = smoother::open(smoothing(refiner.config), window, values);
     match o {
         smoother::Opened::Refused(code) => {
             put_refusal(code);
@@ -220,28 +244,21 @@ fn run_over<'a, 'b, 'c>(
     }
 }
 
-// How many frames a window has, for a lag in bounds.
-fn slots_of(lag: usize) -> usize
-    ensures { λ r. ⌜ r ≤ 17 ⌝ }
-{
-    lag % 17 + 1
-}
-
 // The same over as much of the longest window as the lag asks for.
 fn run_smoothed(s: &[u8], n: usize, refiner: FixedLagRefiner)
-    requires { ⌜ n ≤ 256 ⌝ }
+    requires { ⌜ (n ≤ FRAMES) × (lag (refiner .config) ≤ LAG) ⌝ }
 {
     let mut window = [0u64; WINDOW];
     let mut values = [0.0; VALUES];
-    let slots = slots_of(refiner.config.lag_frames);
-    let w = WORDS * slots;
-    let x = NUMBERS * slots;
+    let lag = refiner.config.lag_frames;
+    let w = window_words(lag, TRACKS);
+    let x = window_numbers(lag, TRACKS);
     run_over(s, n, refiner, &mut window[..w], &mut values[..x]);
 }
 
 // Played in the form that is asked for.
 fn run_as(s: &[u8], n: usize, refiner: FixedLagRefiner, form: Form)
-    requires { ⌜ n ≤ 256 ⌝ }
+    requires { ⌜ (n ≤ FRAMES) × (lag (refiner .config) ≤ LAG) ⌝ }
 {
     match form {
         Form::Short => {
@@ -258,9 +275,9 @@ fn run_as(s: &[u8], n: usize, refiner: FixedLagRefiner, form: Form)
 
 // Played with these settings; or their refusal.
 fn open(s: &[u8], n: usize, config: FgoConfig, form: Form)
-    requires { ⌜ n ≤ 256 ⌝ }
+    requires { ⌜ n ≤ FRAMES ⌝ }
 {
-    let o = refiner::open(config);
+    let o = fgo::open(config);
     match o {
         Opened::Refused(code) => {
             put_refusal(code);
@@ -286,7 +303,7 @@ pub fn play(s: &[u8], form: Form) {
 
 // The recording on standard input, played.
 pub fn play_input(form: Form) {
-    let mut buffer = [0u8; RECORDING];
+    let mut buffer = [0u8; INPUT];
     let n = io::read_full(STDIN_FILENO, &mut buffer);
     play(&buffer[..n], form);
 }

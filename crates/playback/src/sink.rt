@@ -2,15 +2,15 @@
 //
 // A frame that the refiner emits stands at the front of fw and fx. A smoother has its window in window and values, which are empty where there is none, and
 // writes its frames to words and numbers.
-use fgo::refiner::Answer;
-use lines::ROOM;
-use printing::print;
-use ring::FixedLagSmoother;
-
-// The words and numbers of the longest frame.
-pub const WORDS: usize = 910;
-
-pub const NUMBERS: usize = 5408;
+use bounds::NUMBERS;
+use bounds::WORDS;
+use buffers::Answer;
+use print::lines;
+use print::lines::ROOM;
+use print::short;
+use smoother_window::FixedLagSmoother;
+ghost use Rattle.print.specs.Printed.{Printable};
+ghost use Rattle.playback.specs.Shown.{Shown};
 
 pub enum Sink {
     Short,
@@ -30,14 +30,14 @@ pub struct Printer {
 fn put_told<'a>(
     out: &mut [u8; ROOM],
     n: usize,
-    answer: smoother::Answer,
+    answer: Answer,
     words: &'a [u64],
     numbers: &'a [f64],
 ) -> usize {
     match answer {
-        smoother::Answer::Refused(code) => lines::put_refused(out, n, code),
-        smoother::Answer::Held => n,
-        smoother::Answer::Frame {
+        Answer::Refused(code) => lines::put_refused(out, n, code),
+        Answer::Held => n,
+        Answer::Frame {
             words: w,
             numbers: x,
         } => lines::put_front(out, n, words, w, numbers, x),
@@ -101,13 +101,15 @@ fn put_frame<'a, 'b, 'c, 'd, 'e, 'f>(
     words: &'c mut [u64; WORDS],
     numbers: &'d mut [f64; NUMBERS],
     out: &'e mut [u8; ROOM],
-) -> Printer {
+) -> Printer
+    requires { ⌜ Printable (now fw) ⌝ }
+{
     let n = p.gathered;
     let sink = p.sink;
     match sink {
         Sink::Short => Printer {
             sink: Sink::Short,
-            gathered: print::put_frame(out, n, fw, fx),
+            gathered: short::put_frame(out, n, fw, fx),
         },
         Sink::Full => Printer {
             sink: Sink::Full,
@@ -130,7 +132,9 @@ pub fn put_answer<'a, 'b, 'c, 'd, 'e, 'f>(
     words: &'c mut [u64; WORDS],
     numbers: &'d mut [f64; NUMBERS],
     out: &'e mut [u8; ROOM],
-) -> Printer {
+) -> Printer
+    requires { ⌜ Shown answer (now fw) ⌝ }
+{
     match answer {
         Answer::Refused(code) => {
             let sink = p.sink;

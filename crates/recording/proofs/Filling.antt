@@ -7,8 +7,9 @@ use native.Mathlib.Omega.{arith}
 use lib.ListN.{length, take, drop, take-append-drop}
 use lib.Seq.{drop-drop, drop-length}
 use borrow.Author.Tests.{lt-ltb, le-leb}
+use Rattle.bounds.specs.Bounds.{CONTENTS, ENTRY}
 use Rattle.engine.specs.Body.{rows}
-use Rattle.recording.specs.Recording.{count, offset, size, start, refusal, holds, bodyAt}
+use Rattle.recording.specs.Recording.{count, offset, size, start, refusal, holds, recordedBody}
 use Rattle.recording.specs.Filled.{PassesFilled}
 use Rattle.recording.proofs.Recorded.{start-grows, recorded}
 
@@ -19,14 +20,14 @@ module _ (s : List ℕ) (e : refusal s ≡ 0) where
       let r = recorded s e in
       let p = r .places i h in
       let g = start-grows s i (count s) h in
-      rw (le-leb (100 + 8 * i) (length s) (omega (arith, r .table)), lt-ltb i (count s) h, le-leb (offset s i + size s i) (length s) (omega (arith, p, g, r .whole)))
+      rw (le-leb (CONTENTS + ENTRY * i + ENTRY) (length s) (omega (arith, r .table)), lt-ltb i (count s) h, le-leb (offset s i + size s i) (length s) (omega (arith, p, g, r .whole)))
 
-  body-is : (i : ℕ) → i < count s → bodyAt s i ≡ take (size s i) (drop (start s i) s)
-  unfolding bodyAt
+  body-is : (i : ℕ) → i < count s → recordedBody s i ≡ take (size s i) (drop (start s i) s)
+  unfolding recordedBody
   body-is i h = rw (holds-each i h, recorded s e .places i h)
 
   -- from where body i has to begin, bodies i, i + 1, .. follow to the end
-  rest : (n i : ℕ) → i + n ≡ count s → drop (start s i) s ≡ flatten (rows (bodyAt s) i n)
+  rest : (n i : ℕ) → i + n ≡ count s → drop (start s i) s ≡ flatten (rows (recordedBody s) i n)
   unfolding rows flatten start
   rest zero i h = let q : i ≡ count s = omega arith in rw (q, recorded s e .whole) (drop-length s)
   rest (suc n) i h =
@@ -37,5 +38,5 @@ module _ (s : List ℕ) (e : refusal s ≡ 0) where
 pub fills-all : PassesFilled
 unfolding start
 fills-all s e =
-    let r : drop (92 + 8 * count s) s ≡ flatten (rows (bodyAt s) 0 (count s)) = rest s e (count s) 0 (omega arith) in
-    record { bytes = rw (← r) (sym (take-append-drop (92 + 8 * count s) s)); held = holds-each s e }
+    let r : drop (CONTENTS + ENTRY * count s) s ≡ flatten (rows (recordedBody s) 0 (count s)) = rest s e (count s) 0 (omega arith) in
+    record { bytes = rw (← r) (sym (take-append-drop (CONTENTS + ENTRY * count s) s)); held = holds-each s e }

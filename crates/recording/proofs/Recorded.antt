@@ -8,6 +8,7 @@ use native.Mathlib.Numerals.{add-one}
 use lib.ListN.{length}
 use lib.Dec.{eqb, ltb, leb}
 use borrow.Author.Tests.{eqb-true, eqb-false, ltb-false, leb-true}
+use Rattle.bounds.specs.Bounds.{CONTENTS, ENTRY, FRAMES, RECORDING}
 use Rattle.engine.specs.Body.{all}
 use Rattle.engine.proofs.Every.{both, all-at}
 use Rattle.recording.specs.Recording.{count, offset, size, start, fills, refusal, holds}
@@ -27,9 +28,9 @@ start-grows s i (suc n) h = grow (eqb i n) refl (λ g. start-grows s i n g)
     grow false e ih = let g = ih (omega (arith, eqb-false i n e)) in omega arith
 
 pub record Recorded (s : List ℕ) : Type 0 where
-  pub short : length s ≤ 65536
-  pub few : count s ≤ 256
-  pub table : 92 + 8 * count s ≤ length s
+  pub short : length s ≤ RECORDING
+  pub few : count s ≤ FRAMES
+  pub table : CONTENTS + ENTRY * count s ≤ length s
   pub places : (i : ℕ) → i < count s → offset s i ≡ start s i
   pub whole : start s (count s) ≡ length s
 
@@ -44,10 +45,10 @@ last false n e = absurd (omega arith)
 pub recorded : (s : List ℕ) → refusal s ≡ 0 → Recorded s
 unfolding refusal fills
 recorded s e =
-    let a = next (ltb 65536 (length s)) 10 _ e in
-    let b = next (ltb (length s) 92) 10 _ (a .1) in
-    let d = next (ltb 256 (count s)) 10 _ (b .1) in
-    let f = next (ltb (length s) (92 + 8 * count s)) 10 _ (d .1) in
+    let a = next (ltb RECORDING (length s)) 10 _ e in
+    let b = next (ltb (length s) CONTENTS) 10 _ (a .1) in
+    let d = next (ltb FRAMES (count s)) 10 _ (b .1) in
+    let f = next (ltb (length s) (CONTENTS + ENTRY * count s)) 10 _ (d .1) in
     let g = both (all (λ i. eqb (offset s i) (start s i)) (count s)) (eqb (start s (count s)) (length s)) (last (fills s) 11 (f .1)) in
     record {
       short = ltb-false _ _ (a .0);
@@ -58,9 +59,9 @@ recorded s e =
     }
 
 -- what an entry that a recording holds tells
-pub held : (s : List ℕ) (i : ℕ) → holds s i ≡ true → (100 + 8 * i ≤ length s) × (offset s i + size s i ≤ length s)
+pub held : (s : List ℕ) (i : ℕ) → holds s i ≡ true → (CONTENTS + ENTRY * i + ENTRY ≤ length s) × (offset s i + size s i ≤ length s)
 unfolding holds
 held s i e =
-    let a = both (leb (100 + 8 * i) (length s)) (ltb i (count s) && leb (offset s i + size s i) (length s)) e in
+    let a = both (leb (CONTENTS + ENTRY * i + ENTRY) (length s)) (ltb i (count s) && leb (offset s i + size s i) (length s)) e in
     let b = both (ltb i (count s)) (leb (offset s i + size s i) (length s)) (a .1) in
     (leb-true _ _ (a .0), leb-true _ _ (b .1))

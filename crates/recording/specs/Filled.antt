@@ -4,13 +4,14 @@ use mathlib.Core.Path.{_≡_}
 use mathlib.Core.List.{List, _++_, flatten}
 use mathlib.Core.Bool.{true}
 use lib.ListN.{take}
+use Rattle.bounds.specs.Bounds.{CONTENTS, ENTRY}
 use Rattle.engine.specs.Body.{rows}
-use Rattle.recording.specs.Recording.{count, refusal, holds, bodyAt}
+use Rattle.recording.specs.Recording.{count, refusal, holds, recordedBody}
 
 -- a recording is its contents and its bodies
 pub record Filled (s : List ℕ) : Type 0 where
   -- settings, count and contents table, and then every body in turn: no byte is in none of them or in two
-  pub bytes : s ≡ take (92 + 8 * count s) s ++ flatten (rows (bodyAt s) 0 (count s))
+  pub bytes : s ≡ take (CONTENTS + ENTRY * count s) s ++ flatten (rows (recordedBody s) 0 (count s))
   pub held : (i : ℕ) → i < count s → holds s i ≡ true
 
 -- a recording that 11 and 12 do not refuse

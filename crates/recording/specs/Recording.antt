@@ -6,6 +6,7 @@ use lib.ListN.{length, take, drop}
 use lib.Dec.{leb, ltb, eqb}
 use lib.Ieee.{Float, binary64, ofBits}
 use lib.IntN.{ℤ}
+use Rattle.bounds.specs.Bounds.{SETTING, SETTINGS, CONTENTS, ENTRY, FRAMES, RECORDING}
 use Rattle.scalar.specs.Scalar.{signed}
 use Rattle.engine.specs.Little.{little}
 use Rattle.engine.specs.Body.{all}
@@ -16,7 +17,7 @@ use Rattle.recording.specs.declared.Contents.the-variants.{Refused, Fram
 module _ (s : List ℕ) where
   -- field i of the settings, as a number
   abbrev field : ℕ → ℕ
-  field i = little 8 s (8 * i)
+  field i = little SETTING s (SETTING * i)
 
   -- field i as an f64
   abbrev real : ℕ → Float
@@ -45,19 +46,19 @@ module _ (s : List ℕ) where
 
   -- "u32 count"
   abbrev pub count : ℕ
-  count = little 4 s 88
+  count = little 4 s SETTINGS
 
   -- "per frame u32 offset (from the recording's start)"
   abbrev pub offset : ℕ → ℕ
-  offset i = little 4 s (92 + 8 * i)
+  offset i = little 4 s (CONTENTS + ENTRY * i)
 
   -- "and length"
   abbrev pub size : ℕ → ℕ
-  size i = little 4 s (96 + 8 * i)
+  size i = little 4 s (CONTENTS + ENTRY * i + 4)
 
   -- where the body of frame i has to begin: "in order without gaps"
   unfoldable pub start : ℕ → ℕ
-  start zero = 92 + 8 * count
+  start zero = CONTENTS + ENTRY * count
   start (suc i) = start i + size i
 
   -- the bodies "exactly fill the rest, in order without gaps"
@@ -67,17 +68,17 @@ module _ (s : List ℕ) where
   -- 11: "over 65,536 bytes, over 256 frames, or shorter than its contents table"; 12: the bodies do not fill the rest so; 0 for none
   unfoldable pub refusal : ℕ
   refusal =
-      cond (ltb 65536 (length s)) 11
-      (cond (ltb (length s) 92) 11
-      (cond (ltb 256 count) 11 (cond (ltb (length s) (92 + 8 * count)) 11 (cond fills 0 12))))
+      cond (ltb RECORDING (length s)) 11
+      (cond (ltb (length s) CONTENTS) 11
+      (cond (ltb FRAMES count) 11 (cond (ltb (length s) (CONTENTS + ENTRY * count)) 11 (cond fills 0 12))))
 
   -- the contents table is there as far as entry i, has that entry, and the recording has the bytes that it names
   unfoldable pub holds : ℕ → Bool
-  holds i = leb (100 + 8 * i) (length s) && (ltb i count && leb (offset i + size i) (length s))
+  holds i = leb (CONTENTS + ENTRY * i + ENTRY) (length s) && (ltb i count && leb (offset i + size i) (length s))
 
   -- the body of frame i; nothing where the recording does not hold one
-  unfoldable pub bodyAt : ℕ → List ℕ
-  bodyAt i = cond (holds i) (take (size i) (drop (offset i) s)) []
+  unfoldable pub recordedBody : ℕ → List ℕ
+  recordedBody i = cond (holds i) (take (size i) (drop (offset i) s)) []
 
 -- by the refusal that a recording gets
 abbrev pub contentsBy : ℕ → FgoConfig → ℕ → Contents

@@ -1,10 +1,17 @@
 // A recording: settings, a contents table and frame bodies; and a reader over it that stands at one entry.
+use bounds::CONTENTS;
+use bounds::ENTRY;
+use bounds::FRAMES;
+use bounds::RECORDING;
+use bounds::SETTING;
+use bounds::SETTINGS;
 use engine::config::FgoConfig;
 use engine::little;
 ghost use mathlib.Core.Path.{_≡_};
 ghost use Prim.Native.Nat.{_+_, _*_, _≤_};
 ghost use lib.ListN.{length};
-ghost use Rattle.recording.specs.Recording.{count, offset, size, holds, fills, refusal, settings, contentsOf, bodyAt};
+ghost use Rattle.bounds.specs.Bounds.{SETTINGS, CONTENTS, ENTRY, RECORDING};
+ghost use Rattle.recording.specs.Recording.{count, offset, size, holds, fills, refusal, settings, contentsOf, recordedBody};
 
 // What a recording says at its start: refusal 11 or 12, or its settings and the number of its frames.
 pub enum Contents {
@@ -13,35 +20,35 @@ pub enum Contents {
 }
 
 fn count_of(s: &[u8]) -> usize
-    requires { ⌜ 92 ≤ length (now s) ⌝ }
+    requires { ⌜ CONTENTS ≤ length (now s) ⌝ }
     ensures { λ r. ⌜ r ≡ count (now (s .entry)) ⌝ }
 {
-    little::u32_at(s, 88) as usize
+    little::u32_at(s, SETTINGS) as usize
 }
 
 // Where frame i is said to begin.
 fn offset_of(s: &[u8], i: usize) -> usize
-    requires { ⌜ 100 + 8 * i ≤ length (now s) ⌝ }
+    requires { ⌜ CONTENTS + ENTRY * i + ENTRY ≤ length (now s) ⌝ }
     ensures { λ r. ⌜ r ≡ offset (now (s .entry)) i ⌝ }
 {
-    little::u32_at(s, 92 + 8 * i) as usize
+    little::u32_at(s, CONTENTS + ENTRY * i) as usize
 }
 
 // How many bytes frame i is said to have.
 fn size_of(s: &[u8], i: usize) -> usize
-    requires { ⌜ 100 + 8 * i ≤ length (now s) ⌝ }
+    requires { ⌜ CONTENTS + ENTRY * i + ENTRY ≤ length (now s) ⌝ }
     ensures { λ r. ⌜ r ≡ size (now (s .entry)) i ⌝ }
 {
-    little::u32_at(s, 96 + 8 * i) as usize
+    little::u32_at(s, CONTENTS + ENTRY * i + 4) as usize
 }
 
 // The bodies exactly fill the rest, in order without gaps.
 fn fills_rest(s: &[u8]) -> bool
-    requires { ⌜ (length (now s) ≤ 65536) × (92 + 8 * count (now s) ≤ length (now s)) ⌝ }
+    requires { ⌜ (length (now s) ≤ RECORDING) × (CONTENTS + ENTRY * count (now s) ≤ length (now s)) ⌝ }
     ensures { λ r. ⌜ r ≡ fills (now (s .entry)) ⌝ }
 {
     let n = count_of(s);
-    let mut at = 92 + 8 * n;
+    let mut at = CONTENTS + ENTRY * n;
     let mut i = 0;
     while i < n {
         if offset_of(s, i) != at {
@@ -57,17 +64,17 @@ fn fills_rest(s: &[u8]) -> bool
 fn refusal_of(s: &[u8]) -> u8
     ensures { λ r. ⌜ r ≡ refusal (now (s .entry)) ⌝ }
 {
-    if 65536 < s.len() {
+    if RECORDING < s.len() {
         return 11;
     }
-    if s.len() < 92 {
+    if s.len() < CONTENTS {
         return 11;
     }
     let n = count_of(s);
-    if 256 < n {
+    if FRAMES < n {
         return 11;
     }
-    if s.len() < 92 + 8 * n {
+    if s.len() < CONTENTS + ENTRY * n {
         return 11;
     }
     if fills_rest(s) { 0 } else { 12 }
@@ -75,20 +82,20 @@ fn refusal_of(s: &[u8]) -> u8
 
 // The eleven settings, in the order of `FgoConfig`.
 fn settings_of(s: &[u8]) -> FgoConfig
-    requires { ⌜ 88 ≤ length (now s) ⌝ }
+    requires { ⌜ SETTINGS ≤ length (now s) ⌝ }
     ensures { λ r. ⌜ r ≡ settings (now (s .entry)) ⌝ }
 {
     let lag_frames = little::u64_at(s, 0) as usize;
-    let radius_m = little::f64_at(s, 8);
-    let birth_cost = little::f64_at(s, 16);
-    let miss_cost = little::f64_at(s, 24);
-    let clutter_cost = little::f64_at(s, 32);
-    let accel_spectral_density = little::f64_at(s, 40);
-    let position_sigma_m = little::f64_at(s, 48);
-    let initial_velocity_variance = little::f64_at(s, 56);
-    let coast_ns = little::i64_at(s, 64);
-    let forget_after_ns = little::i64_at(s, 72);
-    let max_passes = little::u64_at(s, 80) as usize;
+    let radius_m = little::f64_at(s, SETTING);
+    let birth_cost = little::f64_at(s, SETTING * 2);
+    let miss_cost = little::f64_at(s, SETTING * 3);
+    let clutter_cost = little::f64_at(s, SETTING * 4);
+    let accel_spectral_density = little::f64_at(s, SETTING * 5);
+    let position_sigma_m = little::f64_at(s, SETTING * 6);
+    let initial_velocity_variance = little::f64_at(s, SETTING * 7);
+    let coast_ns = little::i64_at(s, SETTING * 8);
+    let forget_after_ns = little::i64_at(s, SETTING * 9);
+    let max_passes = little::u64_at(s, SETTING * 10) as usize;
     FgoConfig {
         lag_frames,
         radius_m,
@@ -122,10 +129,10 @@ pub fn contents_of(s: &[u8]) -> Contents
 fn entry_holds(s: &[u8], i: usize) -> bool
     ensures { λ r. ⌜ r ≡ holds (now (s .entry)) i ⌝ }
 {
-    if s.len() < 100 {
+    if s.len() < CONTENTS + ENTRY {
         return false;
     }
-    if (s.len() - 100) / 8 < i {
+    if (s.len() - CONTENTS - ENTRY) / ENTRY < i {
         return false;
     }
     if count_of(s) <= i {
@@ -136,7 +143,7 @@ fn entry_holds(s: &[u8], i: usize) -> bool
 
 // The body of frame i, as a part of the recording; nothing where it does not hold one.
 fn body_at(s: &[u8], i: usize) -> &[u8]
-    ensures { λ r. ⌜ now r ≡ bodyAt (now (s .entry)) i ⌝ }
+    ensures { λ r. ⌜ now r ≡ recordedBody (now (s .entry)) i ⌝ }
 {
     if !entry_holds(s, i) {
         return &s[0..0];
@@ -174,14 +181,14 @@ pub fn moved<'a>(r: Reader<'a>, entry: usize) -> Reader<'a>
 
 // The body at the reader's entry.
 pub fn body<'a>(r: Reader<'a>) -> &'a [u8]
-    ensures { λ b. ⌜ now b ≡ bodyAt (now (r .entry .recording)) (r .entry .entry) ⌝ }
+    ensures { λ b. ⌜ now b ≡ recordedBody (now (r .entry .recording)) (r .entry .entry) ⌝ }
 {
     body_at(r.recording, r.entry)
 }
 
 // The body of frame i, by a reader: what a caller with a plain slice uses.
 pub fn frame_at(s: &[u8], i: usize) -> &[u8]
-    ensures { λ b. ⌜ now b ≡ bodyAt (now (s .entry)) i ⌝ }
+    ensures { λ b. ⌜ now b ≡ recordedBody (now (s .entry)) i ⌝ }
 {
     body(moved(new(s), i))
 }

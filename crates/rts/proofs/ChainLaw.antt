@@ -6,7 +6,7 @@ use mathlib.Core.Option.{Option, none, some, Option·none-ne-some, Option·some-
 use Rattle.scalar.specs.Num.{Num, Exact}
 use Rattle.linalg.specs.Cholesky.{positive}
 use Rattle.rts.specs.declared.Step.the-variants.{Smoothed, Skipped, Failed}
-use Rattle.rts.specs.Smoothing.{Estimate, Later, answer, left, pPred, smoothed, back, backFrom, backOver}
+use Rattle.rts.specs.Smoothing.{Estimate, Later, backStep, left, pPred, smoothed, back, backFrom, backOver}
 use Rattle.rts.specs.Published.{Stepped, Published, Symmetric, AllSymmetric}
 use Rattle.rts.proofs.Law.{law, symmetric-again}
 
@@ -18,14 +18,14 @@ module _ (N : Num) (X : Exact N) (q : N .F) where
   stepped dt a s r ours later e = go (N .le dt (N .zero)) (positive N (pPred N q dt (a .p))) refl refl e
     where
       go : (skips good : Bool) → N .le dt (N .zero) ≡ skips → positive N (pPred N q dt (a .p)) ≡ good
-          → left (cond skips (answer Skipped s) (cond good (answer Smoothed (smoothed N q dt a s)) (answer Failed s))) ≡ some r
+          → left (cond skips (backStep Skipped s) (cond good (backStep Smoothed (smoothed N q dt a s)) (backStep Failed s))) ≡ some r
           → Stepped N q dt a s r × Symmetric N r
       go true good p g e =
           let z = Option·some-injective s r e in
           (record { skipped = λ t. sym z; taken = λ f. absurd (true≢false (sym p ∙ f)) }, subst (Symmetric N) z later)
       go false true p g e =
-          let k : back N q dt a s ≡ answer Smoothed r =
-          (λ i. cond (p i) (answer Skipped s) (cond (g i) (answer Smoothed (smoothed N q dt a s)) (answer Failed s))) ∙ ap (answer Smoothed) (Option·some-injective (smoothed N q dt a s) r e) in
+          let k : back N q dt a s ≡ backStep Smoothed r =
+          (λ i. cond (p i) (backStep Skipped s) (cond (g i) (backStep Smoothed (smoothed N q dt a s)) (backStep Failed s))) ∙ ap (backStep Smoothed) (Option·some-injective (smoothed N q dt a s) r e) in
           (record { skipped = λ t. absurd (true≢false (sym t ∙ p)); taken = λ f. law N X q dt a s ours later r k }, symmetric-again N X q dt a s ours later r k)
       go false false p g e = absurd (Option·none-ne-some r e)
 

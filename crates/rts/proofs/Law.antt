@@ -14,7 +14,7 @@ use Rattle.linalg.proofs.Inverse.{left-law, right-law}
 use Rattle.models.specs.Motion.{blocks, cvF, cvQ}
 use Rattle.rts.specs.declared.Step.{Step}
 use Rattle.rts.specs.declared.Step.the-variants.{Smoothed, Skipped, Failed}
-use Rattle.rts.specs.Smoothing.{Estimate, Answer, answer, xPred, pPred, gain, smoothedX, smoothedP, smoothed, back}
+use Rattle.rts.specs.Smoothing.{Estimate, BackStep, backStep, xPred, pPred, gain, smoothedX, smoothedP, smoothed, back}
 use Rattle.rts.specs.Published.{RauchTungStriebel}
 
 module _ (N : Num) where
@@ -72,7 +72,7 @@ module _ (N : Num) (X : Exact N) (q dt : N .F) (a s : Estimate (N .F)) (ours : t
         }
 
   -- a step is taken only where the pivots are above 0
-  taken : (r : Estimate (N .F)) → back N q dt a s ≡ answer Smoothed r → (positive N (pPred N q dt (a .p)) ≡ true) × (smoothed N q dt a s ≡ r)
+  taken : (r : Estimate (N .F)) → back N q dt a s ≡ backStep Smoothed r → (positive N (pPred N q dt (a .p)) ≡ true) × (smoothed N q dt a s ≡ r)
   unfolding back
   taken r e = go (N .le dt (N .zero)) (positive N (pPred N q dt (a .p))) refl e
     where
@@ -81,18 +81,18 @@ module _ (N : Num) (X : Exact N) (q dt : N .F) (a s : Estimate (N .F)) (ours : t
       other t e (inr f) = let z : _≡_ {A = ℕ} 0 1 = cc in omega arith
 
       go : (skips good : Bool) → positive N (pPred N q dt (a .p)) ≡ good
-          → cond skips (answer Skipped s) (cond good (answer Smoothed (smoothed N q dt a s)) (answer Failed s)) ≡ answer Smoothed r
+          → cond skips (backStep Skipped s) (cond good (backStep Smoothed (smoothed N q dt a s)) (backStep Failed s)) ≡ backStep Smoothed r
           → (positive N (pPred N q dt (a .p)) ≡ true) × (smoothed N q dt a s ≡ r)
-      go true good p e = absurd (other Skipped (ap (λ (w : Answer (N .F)). w .step) e) (inl refl))
-      go false true p e = (p, ap (λ (w : Answer (N .F)). w .state) e)
-      go false false p e = absurd (other Failed (ap (λ (w : Answer (N .F)). w .step) e) (inr refl))
+      go true good p e = absurd (other Skipped (ap (λ (w : BackStep (N .F)). w .step) e) (inl refl))
+      go false true p e = (p, ap (λ (w : BackStep (N .F)). w .state) e)
+      go false false p e = absurd (other Failed (ap (λ (w : BackStep (N .F)). w .step) e) (inr refl))
 
   -- whatever a step that is taken leaves is the textbook's smoothed state
-  pub law : (r : Estimate (N .F)) → back N q dt a s ≡ answer Smoothed r → RauchTungStriebel N q dt a s r
+  pub law : (r : Estimate (N .F)) → back N q dt a s ≡ backStep Smoothed r → RauchTungStriebel N q dt a s r
   law r e = subst (RauchTungStriebel N q dt a s) (taken r e .1) (published (taken r e .0))
 
   -- and its covariance is symmetric again, as the next step asks it to be
-  pub symmetric-again : (r : Estimate (N .F)) → back N q dt a s ≡ answer Smoothed r → transpose N (r .p) ≡ r .p
+  pub symmetric-again : (r : Estimate (N .F)) → back N q dt a s ≡ backStep Smoothed r → transpose N (r .p) ≡ r .p
   symmetric-again r e =
       let c = covariance-is (taken r e .0) in
       subst (λ (r : Estimate (N .F)). transpose N (r .p) ≡ r .p) (taken r e .1) (ap (transpose N) c ∙ whole-symmetric (taken r e .0) ∙ sym c)

@@ -15,7 +15,7 @@ pub record Estimate (F : Type 0) : Type 0 where
   pub p : List F
 
 -- what a step did, and the state that it leaves
-pub record Answer (F : Type 0) : Type 0 where
+pub record BackStep (F : Type 0) : Type 0 where
   pub step : Step
   pub state : Estimate F
 
@@ -29,8 +29,8 @@ abbrev pub estimate : {F : Type 0} → List F → List F → Estimate F
 estimate x p = record { x = x; p = p }
 
 -- the answer of a step and a state
-abbrev pub answer : {F : Type 0} → Step → Estimate F → Answer F
-answer r e = record { step = r; state = e }
+abbrev pub backStep : {F : Type 0} → Step → Estimate F → BackStep F
+backStep r e = record { step = r; state = e }
 
 -- what a step leaves: "A failed Cholesky leaves the track unchanged"
 abbrev pub leftBy : {F : Type 0} → Step → Estimate F → Option (Estimate F)
@@ -39,7 +39,7 @@ leftBy Skipped s = some s
 leftBy Failed s = none
 
 -- what is left by its answer
-abbrev pub left : {F : Type 0} → Answer F → Option (Estimate F)
+abbrev pub left : {F : Type 0} → BackStep F → Option (Estimate F)
 left r = leftBy (r .step) (r .state)
 
 module _ (N : Num) where
@@ -74,9 +74,9 @@ module _ (N : Num) where
 
   -- the state a, followed dt later by one whose smoothed form is s. Where the step is not taken, s stays:
   -- "dt ≤ 0.0 skips, keeping the later state"; and Cholesky fails where a pivot of p_pred is not above 0
-  unfoldable pub back : F → F → Estimate F → Estimate F → Answer F
+  unfoldable pub back : F → F → Estimate F → Estimate F → BackStep F
   back q dt a s =
-      cond (le dt zero) (answer Skipped s) (cond (positive N (pPred q dt (a .p))) (answer Smoothed (smoothed q dt a s)) (answer Failed s))
+      cond (le dt zero) (backStep Skipped s) (cond (positive N (pPred q dt (a .p))) (backStep Smoothed (smoothed q dt a s)) (backStep Failed s))
 
   -- from the state dt later, in its smoothed form, back to the state a; nothing where a later step has failed
   abbrev pub backFrom : F → F → Estimate F → Option (Estimate F) → Option (Estimate F)

@@ -16,7 +16,7 @@ use models::mul_cv_f6t;
 ghost use mathlib.Core.Path.{_≡_};
 ghost use Rattle.scalar.specs.F64.{f64};
 ghost use Rattle.rts.specs.Smoothing as Smoothing;
-ghost use Rattle.rts.specs.Smoothing.{estimate, answer};
+ghost use Rattle.rts.specs.Smoothing.{estimate, backStep};
 
 // What a step did.
 pub enum Step {
@@ -85,7 +85,7 @@ pub fn back(
     xs: &mut [f64; 6],
     ps: &mut [f64; 36],
 ) -> Step
-    ensures { λ r. ⌜ answer r (estimate (now (xs .exit)) (now (ps .exit))) ≡ Smoothing.back f64 q dt (estimate (now (x .entry)) (now (p .entry))) (estimate (now (xs .entry)) (now (ps .entry))) ⌝ }
+    ensures { λ r. ⌜ backStep r (estimate (now (xs .exit)) (now (ps .exit))) ≡ Smoothing.back f64 q dt (estimate (now (x .entry)) (now (p .entry))) (estimate (now (xs .entry)) (now (ps .entry))) ⌝ }
 {
     if dt <= 0.0 {
         return Step::Skipped;

@@ -9,18 +9,18 @@ use mathlib.Core.List.{List, [], _∷_, _++_, map, foldl}
 use lib.ListN.{length}
 use lib.Dec.{T, eqb, leb, ltb}
 use Rattle.engine.specs.declared.config.FgoConfig.{FgoConfig}
-use Rattle.model.specs.declared.moves.PairMove.{PairMove}
-use Rattle.model.specs.declared.moves.PairMove.the-variants.{Stay, Swap, Merge}
-use Rattle.model.specs.declared.moves.TrackMove.{TrackMove}
-use Rattle.model.specs.declared.moves.TrackMove.the-variants.{Split, Drop, Stay as Rest}
-use Rattle.model.specs.Lists.{has, times, find, isSome}
-use Rattle.model.specs.Windows.{Scan, Dot, Prefix, window, present}
-use Rattle.model.specs.Searching.{exchange, clear, recolumn, absorb, swapColumn, dropColumn, otherOf, rest, droppable, afterPair, afterTrack, trySplit, tryDrop, trackCandidates, bestOfTrack, betterTrack, costOf}
-use Rattle.model.specs.Rule.{All}
-use Rattle.model.proofs.All.{All-mem, mem-All}
-use Rattle.model.proofs.Renaming.{exchange-other, times-exchange, times-clear}
-use Rattle.model.proofs.Presence.{Names, present-is, stands-present}
-use Rattle.model.proofs.Windows.{under-absent}
+use Rattle.fgo_spec.specs.declared.moves.PairMove.{PairMove}
+use Rattle.fgo_spec.specs.declared.moves.PairMove.the-variants.{Stay, Swap, Merge}
+use Rattle.fgo_spec.specs.declared.moves.TrackMove.{TrackMove}
+use Rattle.fgo_spec.specs.declared.moves.TrackMove.the-variants.{Split, Drop, Stay as Rest}
+use Rattle.fgo_spec.specs.Lists.{has, times, find, isSome}
+use Rattle.fgo_spec.specs.Windows.{Scan, Detection, Prefix, window, present}
+use Rattle.fgo_spec.specs.Searching.{exchange, clear, recolumn, absorb, swapColumn, dropColumn, otherOf, rest, droppable, afterPair, afterTrack, trySplit, tryDrop, trackCandidates, bestOfTrack, betterTrack, trackCost}
+use Rattle.fgo_spec.specs.Rule.{All}
+use Rattle.fgo_spec.proofs.All.{All-mem, mem-All}
+use Rattle.fgo_spec.proofs.Renaming.{exchange-other, times-exchange, times-clear}
+use Rattle.fgo_spec.proofs.Presence.{Names, present-is, stands-present}
+use Rattle.fgo_spec.proofs.Windows.{under-absent}
 use Rattle.search.proofs.Standing.{Fits}
 
 -- x stands in no scan
@@ -96,11 +96,11 @@ module _ (c : FgoConfig) (first : ℕ) (ps : List (ℕ × Prefix)) where
   -- who has no window has no move
   pub absent-rests : (x y : ℕ) (ss : List Scan) → Absent x ss → bestOfTrack c first ps ss y x ≡ Rest
   unfolding bestOfTrack trackCandidates
-  absent-rests x y ss h = (λ i. foldl betterTrack Rest (map (trySplit c first ps x y ss (costOf c first ps x ss)) (rest (e i)) ++ map (tryDrop c first ps x ss (costOf c first ps x ss)) (droppable (isSome (find x ps)) (e i)))) ∙ go (ltb 1 (length {A = Dot} [] + cond (isSome (find x ps)) 1 0))
+  absent-rests x y ss h = (λ i. foldl betterTrack Rest (map (trySplit c first ps x y ss (trackCost c first ps x ss)) (rest (e i)) ++ map (tryDrop c first ps x ss (trackCost c first ps x ss)) (droppable (isSome (find x ps)) (e i)))) ∙ go (ltb 1 (length {A = Detection} [] + cond (isSome (find x ps)) 1 0))
     where
       e : window x first ss ≡ []
       e = absent-window x first ss h
 
-      go : (b : Bool) → foldl betterTrack Rest (map (trySplit c first ps x y ss (costOf c first ps x ss)) (rest []) ++ map (tryDrop c first ps x ss (costOf c first ps x ss)) (cond b [] [])) ≡ Rest
+      go : (b : Bool) → foldl betterTrack Rest (map (trySplit c first ps x y ss (trackCost c first ps x ss)) (rest []) ++ map (tryDrop c first ps x ss (trackCost c first ps x ss)) (cond b [] [])) ≡ Rest
       go true = unfold rest in refl
       go false = unfold rest in refl

@@ -8,23 +8,24 @@ use mathlib.Core.List.{List}
 use lib.ListN.{length, getD, set, length-set}
 use lib.Seq.{getD-set-same, getD-set-other}
 use lib.Ieee.{Float, nan}
-use Rattle.costs.specs.Cost.{Kept}
-use Rattle.windows.specs.Rows.{Tabled}
-use Rattle.nearness.specs.Near.{rowAt}
-use Rattle.search.specs.Pass.{Scene, rowOn, costOn, pairRest, trackRest, Listed, Due, Stands, Left, From, Carried}
+use Rattle.bounds.specs.Bounds.{DETECTIONS}
+use Rattle.cost.specs.Cost.{LogsKept}
+use Rattle.search_rows.specs.Rows.{Tabled}
+use Rattle.search_neighbours.specs.Near.{rowAt}
+use Rattle.search.specs.Pass.{Scene, rowOn, costOn, pairRest, trackRest, IdTable, Due, Swept, Left, From, Carried}
 use Rattle.search.proofs.Costing.{costed-start, costed-more}
 use Rattle.search.proofs.Meeting.{table-row, table-entered}
 
 -- ---- place by place
 
 module _ {e : Scene} {n next : ℕ} {old moved table ids : List ℕ} where
-  pub carried-start : {costs : List Float} {due : List ℕ} {logs : List Float} → length ids ≡ 128 → length costs ≡ 128 → length due ≡ 128 → Kept logs → Carried e n next old moved table ids 0 costs due logs
+  pub carried-start : {costs : List Float} {due : List ℕ} {logs : List Float} → length ids ≡ DETECTIONS → length costs ≡ DETECTIONS → length due ≡ DETECTIONS → LogsKept logs → Carried e n next old moved table ids 0 costs due logs
   carried-start {costs} a b c k = record { costed = costed-start e table ids costs a b; long = c; from = λ k h z. absurd (omega arith); kept = k }
 
-  module _ {i : ℕ} {costs : List Float} {due : List ℕ} {logs : List Float} (h : i < 128) (o : Carried e n next old moved table ids i costs due logs) where
+  module _ {i : ℕ} {costs : List Float} {due : List ℕ} {logs : List Float} (h : i < DETECTIONS) (o : Carried e n next old moved table ids i costs due logs) where
     -- one place more
     carried-more :
-        {logs′ : List Float} (v : Float) (m : ℕ) → v ≡ costOn e ids (getD table i 0) → (m < 2 → From n next old moved (getD table i 0) m) → Kept logs′ →
+        {logs′ : List Float} (v : Float) (m : ℕ) → v ≡ costOn e ids (getD table i 0) → (m < 2 → From n next old moved (getD table i 0) m) → LogsKept logs′ →
         Carried e n next old moved table ids (i + 1) (set costs i v) (set due i m) logs′
     carried-more v m q f k =
         record {
@@ -45,7 +46,7 @@ module _ {e : Scene} {n next : ℕ} {old moved table ids : List ℕ} where
             subst (From n next old moved (getD table j 0)) (sym (getD-set-other due i j m 0 q))
             (o .from j (omega arith) (subst (λ (v : ℕ). v < 2) (getD-set-other due i j m 0 q) z))
 
-    pub carried-new : {logs′ : List Float} (v : Float) → v ≡ costOn e ids (getD table i 0) → Kept logs′ → Carried e n next old moved table ids (i + 1) (set costs i v) (set due i 2) logs′
+    pub carried-new : {logs′ : List Float} (v : Float) → v ≡ costOn e ids (getD table i 0) → LogsKept logs′ → Carried e n next old moved table ids (i + 1) (set costs i v) (set due i 2) logs′
     carried-new v q k = carried-more v 2 q (λ z. absurd (omega arith)) k
 
     pub carried-on :
@@ -59,7 +60,7 @@ module _ {e : Scene} {n next : ℕ} {old moved table ids : List ℕ} where
 -- ---- what is due
 
 -- places of ascending ids are in their order
-listed-order : {n : ℕ} {table : List ℕ} → Listed n table → (k m : ℕ) → k < n → m < n → getD table k 0 < getD table m 0 → k < m
+listed-order : {n : ℕ} {table : List ℕ} → IdTable n table → (k m : ℕ) → k < n → m < n → getD table k 0 < getD table m 0 → k < m
 listed-order {n} {table} l k m h g b = go (decLt k m) (ℕ-discrete k m)
   where
     go : Dec (k < m) → Dec (k ≡ m) → k < m
@@ -67,7 +68,7 @@ listed-order {n} {table} l k m h g b = go (decLt k m) (ℕ-discrete k m)
     go (no d) (yes q) = let w : getD table k 0 ≡ getD table m 0 = ap (λ (j : ℕ). getD table j 0) q in absurd (omega arith)
     go (no d) (no q) = absurd (omega (arith, l .rises m k (omega arith) h))
 
-module _ {e : Scene} {n next count : ℕ} {old moved table ids rows due : List ℕ} {paid costs logs : List Float} (l : Left e count next old ids paid moved) (listed : Listed n table) (tabled : Tabled (e .starts) ids table n rows) (o : Carried e count next old moved table ids n costs due logs) where
+module _ {e : Scene} {n next count : ℕ} {old moved table ids rows due : List ℕ} {paid costs logs : List Float} (l : Left e count next old ids paid moved) (listed : IdTable n table) (tabled : Tabled (e .starts) ids table n rows) (o : Carried e count next old moved table ids n costs due logs) where
   due-pair :
       (i j : ℕ) → i < j → j < n → From count next old moved (getD table i 0) (getD due i 0) → From count next old moved (getD table j 0) (getD due j 0) →
       getD due i 0 ≡ 0 → getD due j 0 ≡ 0 → pairRest e (getD table i 0) (getD table j 0) (rowAt rows i) (rowAt rows j) ≡ true
@@ -96,7 +97,7 @@ module _ {e : Scene} {n next count : ℕ} {old moved table ids rows due : List �
 
 pub stands-first :
     {e : Scene} {n next count : ℕ} {old was table ids rows due moved : List ℕ} {costs logs : List Float} → Tabled (e .starts) ids table n rows →
-    Carried e count next old was table ids n costs due logs → length moved ≡ 128 → Stands e n table rows ids costs moved logs
+    Carried e count next old was table ids n costs due logs → length moved ≡ DETECTIONS → Swept e n table rows ids costs moved logs
 stands-first tabled o m =
     record {
       costed = o .costed;

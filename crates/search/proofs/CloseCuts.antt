@@ -7,12 +7,13 @@ use mathlib.Core.List.{List, [], _∷_, map}
 use lib.ListN.{length, getD}
 use lib.Dec.{T, eqb}
 use lib.Ieee.{Float}
-use Rattle.model.specs.Lists.{keep, consIf, any, upFrom}
-use Rattle.model.proofs.All.{mem-All}
-use Rattle.model.proofs.Counting.{any-All, or-right}
-use Rattle.nearness.specs.Near.{closeAt, closeScans, anyClose}
-use Rattle.pair_moves.specs.Pair.{cutAt, cutsOf}
-use Rattle.windows.proofs.Filled.{map-up-length}
+use Rattle.bounds.specs.Bounds.{SCANS, STARTS}
+use Rattle.fgo_spec.specs.Lists.{keep, consIf, any, upFrom}
+use Rattle.fgo_spec.proofs.All.{mem-All}
+use Rattle.fgo_spec.proofs.Counting.{any-All, or-right}
+use Rattle.search_neighbours.specs.Near.{closeAt, closeScans, anyClose}
+use Rattle.search_pair.specs.Pair.{cutAt, cutsOf}
+use Rattle.search_rows.proofs.Filled.{map-up-length}
 use Rattle.search.proofs.CutTests.{or-left, same-answer}
 
 -- a list has an element
@@ -51,13 +52,13 @@ any-upFrom f n (suc m) (b ∷ l) h g t =
     go true e u r = or-left (f n) (any f (upFrom (suc n) m)) (subst (λ j. T (f j)) (let e : n + 0 ≡ n = omega arith in e) (g 0 (subst T (sym e) tt)))
     go false e u r = or-right (f n) (any f (upFrom (suc n) m)) (r u)
 
-pub filled-cuts : (close : List Bool) → length close ≤ 18 → filled (cutsOf close) ≡ anyClose close
+pub filled-cuts : (close : List Bool) → length close ≤ STARTS → filled (cutsOf close) ≡ anyClose close
 unfolding cutsOf
 filled-cuts close h =
-    filled-keep (cutAt close) (upFrom 0 18)
-    ∙ same-answer (any (cutAt close) (upFrom 0 18)) (anyClose close)
-    (any-All (cutAt close) (λ g. Unit {0}) (λ g u t. noted g (getD close g false) refl (eqb g 0) t) (upFrom 0 18) (mem-All (λ g. Unit {0}) (upFrom 0 18) (λ g m. tt)))
-    (any-upFrom (cutAt close) 0 18 close h (λ k t. subst (λ j. T (cutAt close j)) (let e : k ≡ 0 + k = omega arith in e) (cut (getD close k false) (cond (eqb k 0) false (getD close (k - 1) false)) t)))
+    filled-keep (cutAt close) (upFrom 0 STARTS)
+    ∙ same-answer (any (cutAt close) (upFrom 0 STARTS)) (anyClose close)
+    (any-All (cutAt close) (λ g. Unit {0}) (λ g u t. noted g (getD close g false) refl (eqb g 0) t) (upFrom 0 STARTS) (mem-All (λ g. Unit {0}) (upFrom 0 STARTS) (λ g m. tt)))
+    (any-upFrom (cutAt close) 0 STARTS close h (λ k t. subst (λ j. T (cutAt close j)) (let e : k ≡ 0 + k = omega arith in e) (cut (getD close k false) (cond (eqb k 0) false (getD close (k - 1) false)) t)))
   where
     noted : (g : ℕ) (b : Bool) → getD close g false ≡ b → (d : Bool) → T (cond b true (cond d false (getD close (g - 1) false))) → T (anyClose close)
     noted g true e d t = any-at close g (subst T (sym e) tt)
@@ -68,7 +69,7 @@ filled-cuts close h =
     cut true d t = tt
     cut false d t = absurd t
 
--- a note for each of 17 scans
-pub close-long : (q : Float) (dots : List Float) (a b : List ℕ) → length (closeScans q dots a b) ≡ 17
+-- a note for each of SCANS scans
+pub close-long : (q : Float) (dots : List Float) (a b : List ℕ) → length (closeScans q dots a b) ≡ SCANS
 unfolding closeScans
-close-long q dots a b = map-up-length (closeAt q dots a b) 0 17
+close-long q dots a b = map-up-length (closeAt q dots a b) 0 SCANS

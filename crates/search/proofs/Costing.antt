@@ -1,5 +1,5 @@
 -- What windows cost, and the costs kept of the first ids of a table. Assumes nothing.
-use Prim.Native.Nat.{ℕ, zero, suc, _+_, _*_, _<_}
+use Prim.Native.Nat.{ℕ, zero, suc, _+_, _<_}
 use native.Mathlib.Nat.{not-suc-le-zero}
 use native.Mathlib.Decide.{ℕ-discrete}
 use native.Mathlib.Omega.{arith}
@@ -11,26 +11,28 @@ use lib.Seq.{getD-set-same, getD-set-other}
 use lib.Dec.{eqb}
 use lib.Ieee.{Float, nan}
 use borrow.Author.Count.{below-more}
-use Rattle.costs.specs.declared.cost.Fold.{Fold}
-use Rattle.costs.specs.Cost.{missesOf}
-use Rattle.pricing.specs.Price.{frozenAt, partFrom, rowCost, Fit}
-use Rattle.search.specs.Pass.{Scene, viewOn, partOn, rowOn, costOn, Listed, Costed}
-use Rattle.windows.proofs.RowSlots.{row-length}
+use Rattle.bounds.specs.Bounds.{DETECTIONS}
+use Rattle.cost.specs.declared.Fold.{Fold}
+use Rattle.cost.specs.Cost.{missesOf}
+use Rattle.fgo_part.specs.Parts.{partId}
+use Rattle.cost_row.specs.Price.{frozenAt, foldAfter, rowCost, Fit}
+use Rattle.search.specs.Pass.{Scene, viewOn, foldOn, rowOn, costOn, IdTable, Costed}
+use Rattle.search_rows.proofs.RowSlots.{row-length}
 use Rattle.search.proofs.Listing.{listed-apart}
 
 -- ---- one window
 
 -- what a window goes on from has missed no scan
-part-idle : (ts : List ℕ) (fs : List Float) (x n m : ℕ) → missesOf (partFrom ts fs x n m) ≡ 0
-unfolding partFrom
+part-idle : (ts : List ℕ) (fs : List Float) (x n m : ℕ) → missesOf (foldAfter ts fs x n m) ≡ 0
+unfolding foldAfter
 part-idle ts fs x n zero = refl
-part-idle ts fs x n (suc m) = go (eqb x (getD ts (6 * n) 0)) (part-idle ts fs x (suc n) m)
+part-idle ts fs x n (suc m) = go (eqb x (partId ts n)) (part-idle ts fs x (suc n) m)
   where
-    go : (b : Bool) → missesOf (partFrom ts fs x (suc n) m) ≡ 0 → missesOf (cond b (frozenAt ts fs n) (partFrom ts fs x (suc n) m)) ≡ 0
+    go : (b : Bool) → missesOf (foldAfter ts fs x (suc n) m) ≡ 0 → missesOf (cond b (frozenAt ts fs n) (foldAfter ts fs x (suc n) m)) ≡ 0
     go true r = refl
     go false r = r
 
-module _ (e : Scene) (ids : List ℕ) (x : ℕ) {p : Fold} {r : List ℕ} (row : r ≡ rowOn e ids x) (part : p ≡ partOn e x) where
+module _ (e : Scene) (ids : List ℕ) (x : ℕ) {p : Fold} {r : List ℕ} (row : r ≡ rowOn e ids x) (part : p ≡ foldOn e x) where
   pub row-fit : Fit p r
   row-fit =
       record {
@@ -43,11 +45,11 @@ module _ (e : Scene) (ids : List ℕ) (x : ℕ) {p : Fold} {r : List ℕ} (row :
 
 -- ---- the costs kept
 
-pub costed-start : (e : Scene) (table ids : List ℕ) (costs : List Float) → length ids ≡ 128 → length costs ≡ 128 → Costed e 0 table ids costs
+pub costed-start : (e : Scene) (table ids : List ℕ) (costs : List Float) → length ids ≡ DETECTIONS → length costs ≡ DETECTIONS → Costed e 0 table ids costs
 costed-start e table ids costs h g = record { all = h; long = g; each = λ i l. absurd (not-suc-le-zero l) }
 
 pub costed-more :
-    {e : Scene} {table ids : List ℕ} {costs : List Float} {i : ℕ} → i < 128 → Costed e i table ids costs →
+    {e : Scene} {table ids : List ℕ} {costs : List Float} {i : ℕ} → i < DETECTIONS → Costed e i table ids costs →
     (v : Float) → v ≡ costOn e ids (getD table i 0) → Costed e (i + 1) table ids (set costs i v)
 costed-more {e} {table} {ids} {costs} {i} h c v q =
     record {
@@ -61,18 +63,18 @@ costed-more {e} {table} {ids} {costs} {i} h c v q =
 
 -- a window whose row is as it was costs what it did
 pub cost-stays : (e : Scene) (new ids : List ℕ) (x : ℕ) → rowOn e new x ≡ rowOn e ids x → costOn e new x ≡ costOn e ids x
-cost-stays e new ids x q = ap (rowCost (e .hall .config) (viewOn e) (partOn e x)) q
+cost-stays e new ids x q = ap (rowCost (e .hall .config) (viewOn e) (foldOn e x)) q
 
 -- the rows of two ids of the table change, and their costs are worked out anew
 pub costed-anew :
-    {e : Scene} {n : ℕ} {table ids : List ℕ} {costs : List Float} → Listed n table → Costed e n table ids costs → (i j : ℕ) → i < j → j < n →
-    (new : List ℕ) → length new ≡ 128 →
+    {e : Scene} {n : ℕ} {table ids : List ℕ} {costs : List Float} → IdTable n table → Costed e n table ids costs → (i j : ℕ) → i < j → j < n →
+    (new : List ℕ) → length new ≡ DETECTIONS →
     ((x : ℕ) → 0 < x → (x ≡ getD table i 0 → ⊥) → (x ≡ getD table j 0 → ⊥) → rowOn e new x ≡ rowOn e ids x) →
     (v w : Float) → v ≡ costOn e new (getD table i 0) → w ≡ costOn e new (getD table j 0) → Costed e n table new (set (set costs i v) j w)
 costed-anew {e} {n} {table} {ids} {costs} listed c i j h g new l other v w p q =
     record { all = l; long = length-set (set costs i v) j w ∙ long-one; each = λ k b. go k b (ℕ-discrete k i) (ℕ-discrete k j) }
   where
-    long-one : length (set costs i v) ≡ 128
+    long-one : length (set costs i v) ≡ DETECTIONS
     long-one = length-set costs i v ∙ c .long
 
     go : (k : ℕ) → k < n → Dec (k ≡ i) → Dec (k ≡ j) → getD (set (set costs i v) j w) k nan ≡ costOn e new (getD table k 0)

@@ -9,20 +9,21 @@ use lib.ListN.{length, getD, List·getD-eq-default}
 use lib.Dec.{eqb}
 use lib.Ieee.{Float}
 use borrow.Author.Tests.{ne-eqb}
+use Rattle.bounds.specs.Bounds.{SCANS, STARTS}
 use Rattle.engine.specs.declared.config.FgoConfig.{FgoConfig}
 use Rattle.engine.specs.Config.{radius}
-use Rattle.model.specs.Lists.{keep, any, upFrom}
-use Rattle.model.specs.Windows.{Scan, Prefix, Dot, detOf, window}
-use Rattle.model.specs.Searching.{close, isCut, cuts, square}
-use Rattle.model.specs.Rule.{All}
-use Rattle.model.proofs.Counting.{keep-append, keep-const}
-use Rattle.nearness.specs.Near.{nearSlots, closeAt, closeScans}
-use Rattle.pair_moves.specs.Pair.{cutAt, cutsOf}
+use Rattle.fgo_spec.specs.Lists.{keep, any, upFrom}
+use Rattle.fgo_spec.specs.Windows.{Scan, Prefix, Detection, measure, window}
+use Rattle.fgo_spec.specs.Searching.{close, isCut, cuts, square}
+use Rattle.fgo_spec.specs.Rule.{All}
+use Rattle.fgo_spec.proofs.Counting.{keep-append, keep-const}
+use Rattle.search_neighbours.specs.Near.{nearSlots, closeAt, closeScans}
+use Rattle.search_pair.specs.Pair.{cutAt, cutsOf}
 use Rattle.search.specs.Pass.{Scene, viewOn, rowOn, closeOn}
-use Rattle.windows.specs.Columns.{putBack}
-use Rattle.windows.proofs.Filled.{map-up-length, map-up-at}
+use Rattle.fgo_spec.specs.Gathered.{putBack}
+use Rattle.search_rows.proofs.Filled.{map-up-length, map-up-at}
 use Rattle.search.proofs.Standing.{Held, scansNow, Standing, CutRows}
-use Rattle.windows.proofs.RowSlots.{row-length, row-at}
+use Rattle.search_rows.proofs.RowSlots.{row-length, row-at}
 use Rattle.search.proofs.WindowRows.{slot-empty, window-rows}
 use Rattle.search.proofs.WindowDets.{map-keep}
 use Rattle.search.proofs.CutTests.{cutBy, cut-tests}
@@ -54,14 +55,14 @@ unfolding any
 any-map p f [] = refl
 any-map p f (a ∷ l) = ap (λ (b : Bool). p (f a) || b) (any-map p f l)
 
--- ---- the model's test, on what the rows show
+-- ---- fgo_spec's test, on what the rows show
 
-cut-dets : (c : FgoConfig) (first : ℕ) (ps : List (ℕ × Prefix)) (v w : List Dot) (g : ℕ) →
-    isCut c first ps v w g ≡ any (λ d. any (cutBy (square (radius c)) g d) (map (detOf c) w)) (map (detOf c) v)
+cut-dets : (c : FgoConfig) (first : ℕ) (ps : List (ℕ × Prefix)) (v w : List Detection) (g : ℕ) →
+    isCut c first ps v w g ≡ any (λ d. any (cutBy (square (radius c)) g d) (map (measure c) w)) (map (measure c) v)
 unfolding isCut close
 cut-dets c first ps v w g =
-    (λ i. any (λ d. any-map (cutBy (square (radius c)) g (detOf c d)) (detOf c) w i) v)
-    ∙ any-map (λ d. any (cutBy (square (radius c)) g d) (map (detOf c) w)) (detOf c) v
+    (λ i. any (λ d. any-map (cutBy (square (radius c)) g (measure c d)) (measure c) w i) v)
+    ∙ any-map (λ d. any (cutBy (square (radius c)) g d) (map (measure c) w)) (measure c) v
 
 -- ---- past the scans held
 
@@ -78,14 +79,14 @@ unfolding putBack
 back-length starts ids k [] = refl
 back-length starts ids k (s ∷ ss) = ap suc (back-length starts ids (suc k) ss)
 
-row-past : (e : Scene) (ids : List ℕ) (x k : ℕ) → 17 ≤ k → getD (rowOn e ids x) k 0 ≡ 0
+row-past : (e : Scene) (ids : List ℕ) (x k : ℕ) → SCANS ≤ k → getD (rowOn e ids x) k 0 ≡ 0
 row-past e ids x k h = List·getD-eq-default (rowOn e ids x) 0 {n = k} (omega (arith, row-length (e .starts) ids x))
 
 module _ (e : Scene) (ss : List Scan) (ids : List ℕ) (held : Held e ss) where
   row-none : (x k : ℕ) → length ss ≤ k → getD (rowOn e ids x) k 0 ≡ 0
-  row-none x k h = go (decLt k 17)
+  row-none x k h = go (decLt k SCANS)
     where
-      go : Dec (k < 17) → getD (rowOn e ids x) k 0 ≡ 0
+      go : Dec (k < SCANS) → getD (rowOn e ids x) k 0 ≡ 0
       go (yes l) = row-at (e .starts) ids x k l ∙ slot-empty (e .starts) ids x k (held .empty k h l)
       go (no l) = row-past e ids x k (omega (arith, l))
 
@@ -98,13 +99,13 @@ module _ (e : Scene) (ss : List Scan) (ids : List ℕ) (held : Held e ss) where
 
     noted-at : (k : ℕ) → getD scansNoted k false ≡ noted k
     unfolding closeScans
-    noted-at k = go (decLt k 17)
+    noted-at k = go (decLt k SCANS)
       where
-        go : Dec (k < 17) → getD (map noted (upFrom 0 17)) k false ≡ noted k
-        go (yes l) = map-up-at noted 0 17 k false l ∙ (let q : 0 + k ≡ k = omega arith in ap noted q)
+        go : Dec (k < SCANS) → getD (map noted (upFrom 0 SCANS)) k false ≡ noted k
+        go (yes l) = map-up-at noted 0 SCANS k false l ∙ (let q : 0 + k ≡ k = omega arith in ap noted q)
         go (no l) =
-            let h : 17 ≤ k = omega (arith, l) in
-            List·getD-eq-default (map noted (upFrom 0 17)) false {n = k} (omega (arith, map-up-length noted 0 17))
+            let h : SCANS ≤ k = omega (arith, l) in
+            List·getD-eq-default (map noted (upFrom 0 SCANS)) false {n = k} (omega (arith, map-up-length noted 0 SCANS))
             ∙ sym (none-close (square (radius (e .hall .config))) (e .dots) (rowOn e ids a) (rowOn e ids b) k (row-past e ids a k h) (row-past e ids b k h))
 
     noted-none : (k : ℕ) → length ss ≤ k → getD scansNoted k false ≡ false
@@ -119,14 +120,14 @@ module _ (e : Scene) (ss : List Scan) (ids : List ℕ) (held : Held e ss) where
     unfolding cutsOf
     all-cuts =
         let n = suc (length ss) in
-        let w : n + (18 - n) ≡ 18 = omega (arith, held .few) in
+        let w : n + (STARTS - n) ≡ STARTS = omega (arith, held .few) in
         let z : 0 + n ≡ n = omega arith in
         sym
         (ap (λ (i : ℕ). keep (cutAt scansNoted) (upFrom 0 i)) (sym w)
-        ∙ ap (keep (cutAt scansNoted)) (up-split 0 n (18 - n))
-        ∙ keep-append (cutAt scansNoted) (upFrom 0 n) (upFrom (0 + n) (18 - n))
+        ∙ ap (keep (cutAt scansNoted)) (up-split 0 n (STARTS - n))
+        ∙ keep-append (cutAt scansNoted) (upFrom 0 n) (upFrom (0 + n) (STARTS - n))
         ∙ ap (λ (l : List ℕ). keep (cutAt scansNoted) (upFrom 0 n) ++ l)
-        (keep-const false (cutAt scansNoted) (upFrom (0 + n) (18 - n)) (up-All (λ g. cutAt scansNoted g ≡ false) (0 + n) (18 - n) (λ g h. cut-none g (omega arith))))
+        (keep-const false (cutAt scansNoted) (upFrom (0 + n) (STARTS - n)) (up-All (λ g. cutAt scansNoted g ≡ false) (0 + n) (STARTS - n) (λ g h. cut-none g (omega arith))))
         ∙ append-nil (keep (cutAt scansNoted) (upFrom 0 n)))
 
 pub cut-rows : (e : Scene) (next : ℕ) (ps : List (ℕ × Prefix)) (ss : List Scan) (ids : List ℕ) → Standing e next ss ids → CutRows e next ps ss ids

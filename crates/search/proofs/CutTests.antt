@@ -11,12 +11,12 @@ use lib.Dec.{T, eqb, leb}
 use lib.Ieee.{Float, binary64, add, sub, lt}
 use mir.Facts.{and-yes, yes-and, or-yes, eqb-yes, yes-eqb, leb-yes, yes-leb}
 use borrow.Author.Tests.{eq-eqb, ne-eqb}
-use Rattle.costs.specs.Cost.{View, Det, detAt, dets}
-use Rattle.model.specs.Lists.{any}
-use Rattle.model.proofs.Counting.{or-right}
-use Rattle.model.specs.Searching.{square}
-use Rattle.nearness.specs.Near.{apart2, nearSlots, closeAt}
-use Rattle.pair_moves.specs.Pair.{cutAt}
+use Rattle.cost.specs.Cost.{View, Measurement, measurementAt, measurements}
+use Rattle.fgo_spec.specs.Lists.{any}
+use Rattle.fgo_spec.proofs.Counting.{or-right}
+use Rattle.fgo_spec.specs.Searching.{square}
+use Rattle.search_neighbours.specs.Near.{apart2, nearSlots, closeAt}
+use Rattle.search_pair.specs.Pair.{cutAt}
 
 pub or-left : (a b : Bool) → T a → T (a || b)
 or-left true b t = tt
@@ -34,49 +34,49 @@ same-answer false false f g = refl
 
 -- ---- what some detection of a row has
 
-module _ (p : Det → Bool) (v : View) where
-  some-in : (k : ℕ) (r : List ℕ) → T (any p (dets v k r)) → (i : ℕ) × (j : ℕ) × (getD r i 0 ≡ suc j) × T (p (detAt v (k + i) j))
-  unfolding any dets
+module _ (p : Measurement → Bool) (v : View) where
+  some-in : (k : ℕ) (r : List ℕ) → T (any p (measurements v k r)) → (i : ℕ) × (j : ℕ) × (getD r i 0 ≡ suc j) × T (p (measurementAt v (k + i) j))
+  unfolding any measurements
   some-in k [] t = absurd t
   some-in k (zero ∷ r) t =
       let s = some-in (suc k) r t in
       let e : suc k + s .0 ≡ k + suc (s .0) = omega arith in
-      (suc (s .0), s .1, s .2, subst (λ (n : ℕ). T (p (detAt v n (s .1)))) e (s .3))
-  some-in k (suc j ∷ r) t = go (or-yes (p (detAt v k j)) (any p (dets v (suc k) r)) t) (some-in (suc k) r)
+      (suc (s .0), s .1, s .2, subst (λ (n : ℕ). T (p (measurementAt v n (s .1)))) e (s .3))
+  some-in k (suc j ∷ r) t = go (or-yes (p (measurementAt v k j)) (any p (measurements v (suc k) r)) t) (some-in (suc k) r)
     where
       go :
-          T (p (detAt v k j)) ⊎ T (any p (dets v (suc k) r)) →
-          (T (any p (dets v (suc k) r)) → (i : ℕ) × (j : ℕ) × (getD r i 0 ≡ suc j) × T (p (detAt v (suc k + i) j))) →
-          (i : ℕ) × (l : ℕ) × (getD (suc j ∷ r) i 0 ≡ suc l) × T (p (detAt v (k + i) l))
-      go (inl h) f = let e : k ≡ k + 0 = omega arith in (0, j, refl, subst (λ (n : ℕ). T (p (detAt v n j))) e h)
+          T (p (measurementAt v k j)) ⊎ T (any p (measurements v (suc k) r)) →
+          (T (any p (measurements v (suc k) r)) → (i : ℕ) × (j : ℕ) × (getD r i 0 ≡ suc j) × T (p (measurementAt v (suc k + i) j))) →
+          (i : ℕ) × (l : ℕ) × (getD (suc j ∷ r) i 0 ≡ suc l) × T (p (measurementAt v (k + i) l))
+      go (inl h) f = let e : k ≡ k + 0 = omega arith in (0, j, refl, subst (λ (n : ℕ). T (p (measurementAt v n j))) e h)
       go (inr h) f =
           let s = f h in
           let e : suc k + s .0 ≡ k + suc (s .0) = omega arith in
-          (suc (s .0), s .1, s .2, subst (λ (n : ℕ). T (p (detAt v n (s .1)))) e (s .3))
+          (suc (s .0), s .1, s .2, subst (λ (n : ℕ). T (p (measurementAt v n (s .1)))) e (s .3))
 
-  in-some : (k : ℕ) (r : List ℕ) (i j : ℕ) → getD r i 0 ≡ suc j → T (p (detAt v (k + i) j)) → T (any p (dets v k r))
-  unfolding any dets
+  in-some : (k : ℕ) (r : List ℕ) (i j : ℕ) → getD r i 0 ≡ suc j → T (p (measurementAt v (k + i) j)) → T (any p (measurements v k r))
+  unfolding any measurements
   in-some k [] i j e t = absurd (omega arith)
   in-some k (zero ∷ r) zero j e t = absurd (omega arith)
   in-some k (zero ∷ r) (suc i) j e t =
       let q : k + suc i ≡ suc k + i = omega arith in
-      in-some (suc k) r i j e (subst (λ (n : ℕ). T (p (detAt v n j))) q t)
+      in-some (suc k) r i j e (subst (λ (n : ℕ). T (p (measurementAt v n j))) q t)
   in-some k (suc l ∷ r) zero j e t =
       let q : k + 0 ≡ k = omega arith in
       let w : j ≡ l = omega arith in
-      or-left (p (detAt v k l)) (any p (dets v (suc k) r)) (subst (λ (m : ℕ). T (p (detAt v k m))) w (subst (λ (n : ℕ). T (p (detAt v n j))) q t))
+      or-left (p (measurementAt v k l)) (any p (measurements v (suc k) r)) (subst (λ (m : ℕ). T (p (measurementAt v k m))) w (subst (λ (n : ℕ). T (p (measurementAt v n j))) q t))
   in-some k (suc l ∷ r) (suc i) j e t =
       let q : k + suc i ≡ suc k + i = omega arith in
-      or-right (p (detAt v k l)) (any p (dets v (suc k) r)) (in-some (suc k) r i j e (subst (λ (n : ℕ). T (p (detAt v n j))) q t))
+      or-right (p (measurementAt v k l)) (any p (measurements v (suc k) r)) (in-some (suc k) r i j e (subst (λ (n : ℕ). T (p (measurementAt v n j))) q t))
 
 -- ---- near entries of two rows
 
 -- the squared distance of two detections
-abbrev between : Det → Det → Float
+abbrev between : Measurement → Measurement → Float
 between d e = add binary64 (square (sub binary64 (d .x) (e .x))) (square (sub binary64 (d .y) (e .y)))
 
 -- the scan g is a cut by two detections
-abbrev pub cutBy : Float → ℕ → Det → Det → Bool
+abbrev pub cutBy : Float → ℕ → Measurement → Measurement → Bool
 cutBy q g d e =
     (eqb g (min (d .scan) (e .scan)) || eqb g (suc (min (d .scan) (e .scan))))
     && (leb (d .scan) (suc (e .scan)) && leb (e .scan) (suc (d .scan)) && lt (between d e) q)
@@ -181,17 +181,17 @@ module _ (v : View) (q : Float) (ra rb : List ℕ) where
   abbrev early : ℕ → ℕ → ℕ → Bool
   early g i j = eqb (v .first + g) (min (number i) (number j)) || eqb (v .first + g) (suc (min (number i) (number j)))
 
-  seen-cut : (g : ℕ) → T (any (λ d. any (cutBy q (v .first + g) d) (dets v 0 rb)) (dets v 0 ra)) → Cut (v .dots) q ra rb g
+  seen-cut : (g : ℕ) → T (any (λ d. any (cutBy q (v .first + g) d) (measurements v 0 rb)) (measurements v 0 ra)) → Cut (v .dots) q ra rb g
   seen-cut g t =
-      let s = some-in (λ d. any (cutBy q (v .first + g) d) (dets v 0 rb)) v 0 ra t in
-      let r = some-in (cutBy q (v .first + g) (detAt v (0 + s .0) (s .1))) v 0 rb (s .3) in
+      let s = some-in (λ d. any (cutBy q (v .first + g) d) (measurements v 0 rb)) v 0 ra t in
+      let r = some-in (cutBy q (v .first + g) (measurementAt v (0 + s .0) (s .1))) v 0 rb (s .3) in
       go (s .0) (s .1) (r .0) (r .1) (s .2) (r .2) (r .3)
     where
       side : (i j : ℕ) → T (eqb (v .first + g) (min (number i) (number j))) ⊎ T (eqb (v .first + g) (suc (min (number i) (number j)))) → (g ≡ min i j) ⊎ (g ≡ suc (min i j))
       side i j (inl h) = inl (let z : v .first + g ≡ min (number i) (number j) = eqb-yes h in omega arith)
       side i j (inr h) = inr (let z : v .first + g ≡ suc (min (number i) (number j)) = eqb-yes h in omega arith)
 
-      go : (i a j b : ℕ) → getD ra i 0 ≡ suc a → getD rb j 0 ≡ suc b → T (cutBy q (v .first + g) (detAt v (0 + i) a) (detAt v (0 + j) b)) → Cut (v .dots) q ra rb g
+      go : (i a j b : ℕ) → getD ra i 0 ≡ suc a → getD rb j 0 ≡ suc b → T (cutBy q (v .first + g) (measurementAt v (0 + i) a) (measurementAt v (0 + j) b)) → Cut (v .dots) q ra rb g
       go i a j b e f t =
           let l = leb (number i) (suc (number j)) in
           let r = leb (number j) (suc (number i)) in
@@ -214,7 +214,7 @@ module _ (v : View) (q : Float) (ra rb : List ℕ) where
             which = side i j (or-yes (eqb (v .first + g) (min (number i) (number j))) (eqb (v .first + g) (suc (min (number i) (number j)))) (c .0));
           }
 
-  cut-seen : (g : ℕ) → Cut (v .dots) q ra rb g → T (any (λ d. any (cutBy q (v .first + g) d) (dets v 0 rb)) (dets v 0 ra))
+  cut-seen : (g : ℕ) → Cut (v .dots) q ra rb g → T (any (λ d. any (cutBy q (v .first + g) d) (measurements v 0 rb)) (measurements v 0 ra))
   cut-seen g c =
       let i = c .meet .i in
       let j = c .meet .j in
@@ -224,8 +224,8 @@ module _ (v : View) (q : Float) (ra rb : List ℕ) where
       let n = lt (apart2 (v .dots) (s .0) (s .1)) q in
       let hl : number i ≤ suc (number j) = omega (arith, c .meet .left) in
       let hr : number j ≤ suc (number i) = omega (arith, c .meet .right) in
-      in-some (λ d. any (cutBy q (v .first + g) d) (dets v 0 rb)) v 0 ra i (s .0) (s .2)
-      (in-some (cutBy q (v .first + g) (detAt v (0 + i) (s .0))) v 0 rb j (s .1) (s .3)
+      in-some (λ d. any (cutBy q (v .first + g) d) (measurements v 0 rb)) v 0 ra i (s .0) (s .2)
+      (in-some (cutBy q (v .first + g) (measurementAt v (0 + i) (s .0))) v 0 rb j (s .1) (s .3)
       (yes-and (early g i j) (l && r && n) (side i j (c .meet .low) (c .which)) (yes-and (l && r) n (yes-and l r (yes-leb hl) (yes-leb hr)) (s .4))))
     where
       side : (i j : ℕ) → min i j ≡ c .k → (g ≡ c .k) ⊎ (g ≡ suc (c .k)) → T (early g i j)
@@ -237,5 +237,5 @@ module _ (v : View) (q : Float) (ra rb : List ℕ) where
           or-right (eqb (v .first + g) (min (number i) (number j))) (eqb (v .first + g) (suc (min (number i) (number j)))) (yes-eqb z)
 
   pub cut-tests : (close : List Bool) → ((k : ℕ) → getD close k false ≡ closeAt q (v .dots) ra rb k) → (g : ℕ) →
-      any (λ d. any (cutBy q (v .first + g) d) (dets v 0 rb)) (dets v 0 ra) ≡ cutAt close g
+      any (λ d. any (cutBy q (v .first + g) d) (measurements v 0 rb)) (measurements v 0 ra) ≡ cutAt close g
   cut-tests close noted g = same-answer _ (cutAt close g) (λ t. cut-noted (v .dots) q ra rb close noted g (seen-cut g t)) (λ t. cut-seen g (noted-cut (v .dots) q ra rb close noted g t))

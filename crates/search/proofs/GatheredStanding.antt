@@ -4,31 +4,32 @@ use native.Mathlib.Omega.{arith}
 use mathlib.Core.Path.{_≡_, refl, sym, ap, _∙_, subst}
 use mathlib.Core.List.{List, [], _∷_}
 use lib.ListN.{length}
-use Rattle.model.specs.declared.moves.FgoCounters.{FgoCounters}
-use Rattle.model.specs.Lists.{times}
-use Rattle.model.specs.Windows.{Scan, Prefix}
-use Rattle.model.specs.Faithful.{Regular}
-use Rattle.model.specs.Rule.{All}
-use Rattle.windows.specs.Rows.{Starts}
+use Rattle.bounds.specs.Bounds.{SCANS, DETECTIONS}
+use Rattle.fgo_spec.specs.declared.moves.FgoCounters.{FgoCounters}
+use Rattle.fgo_spec.specs.Lists.{times}
+use Rattle.fgo_spec.specs.Windows.{Scan, Prefix}
+use Rattle.fgo_spec.specs.Faithful.{Regular}
+use Rattle.fgo_spec.specs.Rule.{All}
+use Rattle.search_rows.specs.Rows.{Starts}
 use Rattle.search.specs.Pass.{Scene}
-use Rattle.windows.specs.Columns.{spread, putBack}
-use Rattle.search.specs.Gathered.{GatheredScan, GatheredFrom, Gathered}
+use Rattle.fgo_spec.specs.Gathered.{spread, putBack}
+use Rattle.search.specs.Represents.{RepresentsScan, RepresentsFrom, Represents}
 use Rattle.search.proofs.Standing.{HeldScan, HeldFrom, scansNow, Standing}
-use Rattle.windows.proofs.Spreads.{picked-length, spread-self}
+use Rattle.fgo_spec.proofs.Spreads.{picked-length, spread-self}
 use Rattle.search.proofs.WindowRows.{column-length}
 
 module _ (e : Scene) (ids : List ℕ) where
-  now-from : (ss : List Scan) (k : ℕ) → GatheredFrom e ids k ss → putBack (e .starts) ids k ss ≡ ss
+  now-from : (ss : List Scan) (k : ℕ) → RepresentsFrom e ids k ss → putBack (e .starts) ids k ss ≡ ss
   unfolding putBack
   now-from [] k g = refl
   now-from (s ∷ ss) k g = λ i. record { frame = s .frame; ids = (ap (spread (s .ids)) (g .0 .column) ∙ spread-self (s .ids)) i } ∷ now-from ss (suc k) (g .1) i
 
-  regular-from : (ss : List Scan) (k : ℕ) → GatheredFrom e ids k ss → All Regular ss
+  regular-from : (ss : List Scan) (k : ℕ) → RepresentsFrom e ids k ss → All Regular ss
   regular-from [] k g = tt
   regular-from (s ∷ ss) k g = (g .0 .regular, regular-from ss (suc k) (g .1))
 
-  module _ (begins : Starts (e .starts)) (long : length ids ≡ 128) where
-    held-scan : (k : ℕ) (s : Scan) → k < 17 → GatheredScan e ids k s → HeldScan e k s
+  module _ (begins : Starts (e .starts)) (long : length ids ≡ DETECTIONS) where
+    held-scan : (k : ℕ) (s : Scan) → k < SCANS → RepresentsScan e ids k s → HeldScan e k s
     held-scan k s h g =
         record {
           complete = g .regular .complete;
@@ -43,11 +44,11 @@ module _ (e : Scene) (ids : List ℕ) where
           dots = g .dots;
         }
 
-    held-from : (ss : List Scan) (k : ℕ) → k + length ss ≤ 17 → GatheredFrom e ids k ss → HeldFrom e k ss
+    held-from : (ss : List Scan) (k : ℕ) → k + length ss ≤ SCANS → RepresentsFrom e ids k ss → HeldFrom e k ss
     held-from [] k h g = tt
     held-from (s ∷ ss) k h g = (held-scan k s (omega arith) (g .0), held-from ss (suc k) (omega arith) (g .1))
 
-module _ {e : Scene} {next : ℕ} {k : FgoCounters} {ids : List ℕ} {ps : List (ℕ × Prefix)} {ss : List Scan} (g : Gathered e next k ids ps ss) where
+module _ {e : Scene} {next : ℕ} {k : FgoCounters} {ids : List ℕ} {ps : List (ℕ × Prefix)} {ss : List Scan} (g : Represents e next k ids ps ss) where
   pub gathered-now : scansNow e ss ids ≡ ss
   gathered-now = now-from e ids ss 0 (g .scans)
 

@@ -10,13 +10,13 @@ use lib.ListN.{length, getD, take, length-take}
 use lib.Seq.{getD-take, length-take-le}
 use lib.Dec.{T, ltb, ltb→lt}
 use borrow.Author.Tests.{eq-eqb, ne-eqb}
-use Rattle.model.specs.Lists.{keep, consIf, any, has, insert, insertBy}
-use Rattle.model.specs.Rule.{All}
-use Rattle.model.proofs.All.{All-keep, mem-All}
-use Rattle.model.proofs.Counting.{count-le, compare-lt, compare-gt}
-use Rattle.windows.specs.Rows.{presentIn, Begins}
-use Rattle.search.specs.Pass.{Listed}
-use Rattle.windows.proofs.Ascending.{insert-length}
+use Rattle.fgo_spec.specs.Lists.{keep, consIf, any, has, insert, insertBy}
+use Rattle.fgo_spec.specs.Rule.{All}
+use Rattle.fgo_spec.proofs.All.{All-keep, mem-All}
+use Rattle.fgo_spec.proofs.Counting.{count-le, compare-lt, compare-gt}
+use Rattle.search_rows.specs.Rows.{presentIn, Begins}
+use Rattle.search.specs.Pass.{IdTable}
+use Rattle.search_rows.proofs.Ascending.{insert-length}
 
 -- a list that ascends from above k on
 abbrev pub Ascends : ℕ → List ℕ → Type 0
@@ -72,7 +72,7 @@ ascends-rises k (x ∷ l) a zero (suc j) h g = ascends-above x l (a .1) j (omega
 ascends-rises k (x ∷ l) a (suc i) (suc j) h g = ascends-rises x l (a .1) i j (omega arith) (omega arith)
 
 -- an array that begins with the ids present lists them
-pub present-listed : (n : ℕ) (ids : List ℕ) (m : ℕ) (array : List ℕ) → Begins (presentIn n ids) m array → Listed m array
+pub present-listed : (n : ℕ) (ids : List ℕ) (m : ℕ) (array : List ℕ) → Begins (presentIn n ids) m array → IdTable m array
 present-listed n ids m array b =
     record {
       within = b .within;

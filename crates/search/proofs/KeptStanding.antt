@@ -5,20 +5,21 @@ use mathlib.Core.Path.{_≡_, sym, subst}
 use mathlib.Core.Logic.{inl, inr}
 use mathlib.Core.List.{List, []}
 use lib.ListN.{length}
-use Rattle.model.specs.declared.moves.PairMove.{PairMove}
-use Rattle.model.specs.declared.moves.TrackMove.{TrackMove}
-use Rattle.model.specs.declared.moves.TrackMove.the-variants.{Split, Drop, Stay as Rest}
-use Rattle.model.specs.Lists.{times}
-use Rattle.model.specs.Windows.{Scan}
-use Rattle.model.specs.Searching.{nextAfter, afterPair, afterTrack}
-use Rattle.model.specs.Faithful.{Regular}
-use Rattle.model.specs.Rule.{All}
-use Rattle.model.proofs.All.{All-both}
-use Rattle.model.proofs.Presence.{Names}
-use Rattle.model.proofs.Keeping.{Beside, beside-All, beside-same, Known, Kept, regular-exchange, regular-clear, kept-pair, kept-track}
-use Rattle.windows.specs.Moves.{pairIds, trackIds}
+use Rattle.bounds.specs.Bounds.{DETECTIONS}
+use Rattle.fgo_spec.specs.declared.moves.PairMove.{PairMove}
+use Rattle.fgo_spec.specs.declared.moves.TrackMove.{TrackMove}
+use Rattle.fgo_spec.specs.declared.moves.TrackMove.the-variants.{Split, Drop, Stay as Rest}
+use Rattle.fgo_spec.specs.Lists.{times}
+use Rattle.fgo_spec.specs.Windows.{Scan}
+use Rattle.fgo_spec.specs.Searching.{nextAfter, afterPair, afterTrack}
+use Rattle.fgo_spec.specs.Faithful.{Regular}
+use Rattle.fgo_spec.specs.Rule.{All}
+use Rattle.fgo_spec.proofs.All.{All-both}
+use Rattle.fgo_spec.proofs.Presence.{Names}
+use Rattle.fgo_spec.proofs.Keeping.{Beside, beside-All, beside-same, Known, Kept, regular-exchange, regular-clear, kept-pair, kept-track}
+use Rattle.search_rows.specs.Moves.{pairIds, trackIds}
 use Rattle.search.specs.Pass.{Scene, rowOn}
-use Rattle.windows.proofs.Renamed.{renamed-length}
+use Rattle.search_rows.proofs.Renamed.{renamed-length}
 use Rattle.search.proofs.Standing.{scansNow, Standing, Fits}
 use Rattle.search.proofs.MoveRows.{pair-ids, track-ids}
 
@@ -37,7 +38,7 @@ module _ {e : Scene} {next : ℕ} {ss : List Scan} {ids : List ℕ} (s : Standin
       (All-both Regular (λ t. (x : ℕ) → 0 < x → 0 < times x (t .ids) → x < next) (λ t. Good next t t) (scansNow e ss ids)
       (λ t r k. record { holds = r; named = λ x p q. inr (p, k x p q) }) (s .regular) (s .known))
 
-  standing : (n : ℕ) (ids′ : List ℕ) (ts : List Scan) → scansNow e ss ids′ ≡ ts → length ids′ ≡ 128 → 0 < n → Beside (Good n) (scansNow e ss ids) ts → Standing e n ss ids′
+  standing : (n : ℕ) (ids′ : List ℕ) (ts : List Scan) → scansNow e ss ids′ ≡ ts → length ids′ ≡ DETECTIONS → 0 < n → Beside (Good n) (scansNow e ss ids) ts → Standing e n ss ids′
   standing n ids′ ts q l h k =
       record {
         held = s .held;

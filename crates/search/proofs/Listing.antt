@@ -7,10 +7,10 @@ use mathlib.Core.Path.{_≡_, sym, _∙_}
 use mathlib.Core.List.{List, [], _∷_}
 use lib.ListN.{length, getD, take, drop, drop-of-length-le}
 use lib.Seq.{drop-cons, getD-take, length-take-le}
-use Rattle.search.specs.Pass.{Listed}
+use Rattle.search.specs.Pass.{IdTable}
 
 -- two places of a table of ids have two ids
-pub listed-apart : {n : ℕ} {table : List ℕ} → Listed n table → (k m : ℕ) → k < n → m < n → (k ≡ m → ⊥) → getD table k 0 ≡ getD table m 0 → ⊥
+pub listed-apart : {n : ℕ} {table : List ℕ} → IdTable n table → (k m : ℕ) → k < n → m < n → (k ≡ m → ⊥) → getD table k 0 ≡ getD table m 0 → ⊥
 listed-apart {n} {table} l k m h g ne q = go (decLt k m)
   where
     go : Dec (k < m) → ⊥
@@ -21,7 +21,7 @@ listed-apart {n} {table} l k m h g ne q = go (decLt k m)
         go-up (yes d) = omega (arith, l .rises m k d h)
         go-up (no d) = ne (omega (arith, b, d))
 
-module _ {n : ℕ} {table : List ℕ} (l : Listed n table) where
+module _ {n : ℕ} {table : List ℕ} (l : IdTable n table) where
   -- as many as are listed
   listed-length : length (take n table) ≡ n
   listed-length = length-take-le n table (omega (arith, l .within, l .long))

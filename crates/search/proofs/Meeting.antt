@@ -12,11 +12,12 @@ use lib.Dec.{T, leb}
 use lib.Ieee.{Float}
 use mir.Facts.{or-yes}
 use borrow.Author.Tests.{le-leb}
-use Rattle.model.specs.Lists.{any, upFrom}
-use Rattle.windows.specs.Rows.{rowOf, firstIn, endFrom, entryOf, Tabled}
-use Rattle.nearness.specs.Near.{closeAt, closeScans, anyClose, meets, rowAt, CloseWithin, Entered, CloseRows}
-use Rattle.windows.proofs.RowSlots.{row-length, entry-first, entry-end}
-use Rattle.windows.proofs.RowEnds.{first-by, end-past, end-by}
+use Rattle.bounds.specs.Bounds.{SCANS, ROW}
+use Rattle.fgo_spec.specs.Lists.{any, upFrom}
+use Rattle.search_rows.specs.Rows.{rowOf, firstIn, endFrom, entryOf, Tabled}
+use Rattle.search_neighbours.specs.Near.{closeAt, closeScans, anyClose, meets, rowAt, CloseWithin, Entered, CloseRows}
+use Rattle.search_rows.proofs.RowSlots.{row-length, entry-first, entry-end}
+use Rattle.search_rows.proofs.RowEnds.{first-by, end-past, end-by}
 use Rattle.search.proofs.CutTests.{same-answer, Meet, close-meet, near-some}
 
 -- ---- two rows that are close in a scan
@@ -43,12 +44,12 @@ module _ (q : Float) (dots : List Float) (a b : List ℕ) where
   close-meets : anyClose (closeScans q dots a b) ≡ true → (leb (firstIn a) (endFrom 0 0 b) && leb (firstIn b) (endFrom 0 0 a)) ≡ true
   unfolding closeScans
   close-meets h =
-      let m = any-meet (upFrom 0 17) (subst T (sym h) tt) .1 in
+      let m = any-meet (upFrom 0 SCANS) (subst T (sym h) tt) .1 in
       let e = meet-ends m in
       rw (le-leb (firstIn a) (endFrom 0 0 b) (omega (arith, e .0, e .3, m .left)), le-leb (firstIn b) (endFrom 0 0 a) (omega (arith, e .1, e .2, m .right)))
 
   -- they are close nowhere before the later beginning but in the scan before it, and nowhere from the earlier end on
-  close-within : {from to : ℕ} → from ≡ max (firstIn a) (firstIn b) - 1 → to ≡ min (endFrom 0 0 a) (endFrom 0 0 b) → length a ≤ 17 → CloseWithin q dots a b from to
+  close-within : {from to : ℕ} → from ≡ max (firstIn a) (firstIn b) - 1 → to ≡ min (endFrom 0 0 a) (endFrom 0 0 b) → length a ≤ SCANS → CloseWithin q dots a b from to
   close-within f t l =
       record {
         few = omega (arith, end-by a);
@@ -62,31 +63,34 @@ module _ {starts ids table rows : List ℕ} {n : ℕ} (t : Tabled starts ids tab
   row : List ℕ
   row = rowOf starts ids (getD table i 0)
 
-  entry-take : take 19 (drop (19 * i) rows) ≡ entryOf row
+  entry-take : take ROW (drop (ROW * i) rows) ≡ entryOf row
   unfolding row
-  entry-take = ap (λ m. take m (drop (19 * i) rows)) (let e : 19 ≡ 19 * i + 19 - 19 * i = omega arith in e) ∙ t .each i h
+  entry-take = ap (λ m. take m (drop (ROW * i) rows)) (let e : ROW ≡ ROW * i + ROW - ROW * i = omega arith in e) ∙ t .each i h
 
   pub table-row : rowAt rows i ≡ rowOf starts ids (getD table i 0)
   unfolding row
   table-row =
-      ap (λ m. take m (drop (19 * i) rows)) (let e : 19 * i + 17 - 19 * i ≡ 17 = omega arith in e)
-      ∙ sym (take-take 17 19 (drop (19 * i) rows) (omega arith))
-      ∙ ap (take 17) entry-take
-      ∙ take-at row (firstIn row ∷ endFrom 0 0 row ∷ []) 17 (row-length starts ids (getD table i 0))
+      ap (λ m. take m (drop (ROW * i) rows)) (let e : ROW * i + SCANS - ROW * i ≡ SCANS = omega arith in e)
+      ∙ sym (take-take SCANS ROW (drop (ROW * i) rows) (omega arith))
+      ∙ ap (take SCANS) entry-take
+      ∙ take-at row (firstIn row ∷ endFrom 0 0 row ∷ []) SCANS (row-length starts ids (getD table i 0))
 
-  entry-word : (k : ℕ) → k < 19 → getD rows (19 * i + k) 0 ≡ getD (entryOf row) k 0
+  entry-word : (k : ℕ) → k < ROW → getD rows (ROW * i + k) 0 ≡ getD (entryOf row) k 0
   entry-word k g =
-      sym (getD-drop (19 * i) rows k 0)
-      ∙ sym (getD-take 19 (drop (19 * i) rows) k 0 g)
+      sym (getD-drop (ROW * i) rows k 0)
+      ∙ sym (getD-take ROW (drop (ROW * i) rows) k 0 g)
       ∙ ap (λ l. getD l k 0) entry-take
 
-  table-first : getD rows (19 * i + 17) 0 ≡ firstIn (rowOf starts ids (getD table i 0))
+  table-first : getD rows (ROW * i + SCANS) 0 ≡ firstIn (rowOf starts ids (getD table i 0))
   unfolding row
-  table-first = entry-word 17 (omega arith) ∙ entry-first row (row-length starts ids (getD table i 0))
+  table-first = entry-word SCANS (omega arith) ∙ entry-first row (row-length starts ids (getD table i 0))
 
-  table-end : getD rows (19 * i + 18) 0 ≡ endFrom 0 0 (rowOf starts ids (getD table i 0))
+  table-end : getD rows (ROW * i + SCANS + 1) 0 ≡ endFrom 0 0 (rowOf starts ids (getD table i 0))
   unfolding row
-  table-end = entry-word 18 (omega arith) ∙ entry-end row (row-length starts ids (getD table i 0))
+  table-end =
+      ap (λ m. getD rows m 0) (let e : ROW * i + SCANS + 1 ≡ ROW * i + (SCANS + 1) = omega arith in e)
+      ∙ entry-word (SCANS + 1) (omega arith)
+      ∙ entry-end row (row-length starts ids (getD table i 0))
 
   pub table-entered : Entered rows i
   table-entered = record { first = table-first ∙ sym (ap firstIn table-row); end = table-end ∙ sym (ap (endFrom 0 0) table-row) }
@@ -111,14 +115,11 @@ table-close {starts} {is} {table} {rows} q dots t i j h g =
 
 pub rows-within :
     (q : Float) (dots : List Float) (rows : List ℕ) (i j : ℕ) {from to : ℕ} → Entered rows i → Entered rows j →
-    from ≡ max (getD rows (19 * i + 17) 0) (getD rows (19 * j + 17) 0) - 1 → to ≡ min (getD rows (19 * i + 17 + 1) 0) (getD rows (19 * j + 17 + 1) 0) →
+    from ≡ max (getD rows (ROW * i + SCANS) 0) (getD rows (ROW * j + SCANS) 0) - 1 → to ≡ min (getD rows (ROW * i + SCANS + 1) 0) (getD rows (ROW * j + SCANS + 1) 0) →
     CloseWithin q dots (rowAt rows i) (rowAt rows j) from to
 rows-within q dots rows i j a b f t =
     close-within q dots (rowAt rows i) (rowAt rows j) (f ∙ (λ m. max (a .first m) (b .first m) - 1))
-    (t ∙ (λ m. min ((next i ∙ a .end) m) ((next j ∙ b .end) m))) (omega (arith, length-take (19 * i + 17 - 19 * i) (drop (19 * i) rows)))
-  where
-    next : (n : ℕ) → getD rows (19 * n + 17 + 1) 0 ≡ getD rows (19 * n + 18) 0
-    next n = ap (λ m. getD rows m 0) (omega arith)
+    (t ∙ (λ m. min (a .end m) (b .end m))) (omega (arith, length-take (ROW * i + SCANS - ROW * i) (drop (ROW * i) rows)))
 
 module _ (q : Float) (dots : List Float) (rows : List ℕ) (i j : ℕ) {m : Bool} (meet : m ≡ meets rows i j) where
   pub rows-apart : (close : List Bool) → m ≡ false → CloseRows q dots rows i j false close

@@ -1,4 +1,4 @@
--- The gathered ids after a move stand for the model's scans after it. Assumes nothing.
+-- The gathered ids after a move stand for fgo_spec's scans after it. Assumes nothing.
 use Prim.Native.Nat.{ℕ, suc, _+_, _≤_, _<_}
 use native.Mathlib.Omega.{arith}
 use mathlib.Core.Path.{_≡_, refl, sym, ap, _∙_}
@@ -8,23 +8,24 @@ use mathlib.Core.List.{List, [], _∷_, map, map-map, map-id}
 use lib.ListN.{length}
 use lib.Dec.{eqb, ltb, leb}
 use borrow.Author.Tests.{eqb-true, eq-eqb, ne-eqb}
-use Rattle.model.specs.declared.moves.PairMove.{PairMove}
-use Rattle.model.specs.declared.moves.PairMove.the-variants.{Stay, Swap, Merge}
-use Rattle.model.specs.declared.moves.TrackMove.{TrackMove}
-use Rattle.model.specs.declared.moves.TrackMove.the-variants.{Split, Drop, Stay as Rest}
-use Rattle.model.specs.Lists.{has, any}
-use Rattle.model.specs.Windows.{Scan, Prefix}
-use Rattle.model.specs.Searching.{exchange, clear, recolumn, absorb, swapColumn, dropColumn, otherOf, afterPair, afterTrack}
-use Rattle.model.proofs.Renaming.{exchange-other}
-use Rattle.windows.specs.declared.moves.Targets.{Targets}
-use Rattle.windows.specs.Rows.{Starts, columnAt}
-use Rattle.windows.specs.Moves.{retarget, same, keeperTarget, otherTarget, pairTargets, trackTargets, renamedFrom, hasSlot, pairIds, trackIds}
+use Rattle.bounds.specs.Bounds.{SCANS, DETECTIONS}
+use Rattle.fgo_spec.specs.declared.moves.PairMove.{PairMove}
+use Rattle.fgo_spec.specs.declared.moves.PairMove.the-variants.{Stay, Swap, Merge}
+use Rattle.fgo_spec.specs.declared.moves.TrackMove.{TrackMove}
+use Rattle.fgo_spec.specs.declared.moves.TrackMove.the-variants.{Split, Drop, Stay as Rest}
+use Rattle.fgo_spec.specs.Lists.{has, any}
+use Rattle.fgo_spec.specs.Windows.{Scan, Prefix}
+use Rattle.fgo_spec.specs.Searching.{exchange, clear, recolumn, absorb, swapColumn, dropColumn, otherOf, afterPair, afterTrack}
+use Rattle.fgo_spec.proofs.Renaming.{exchange-other}
+use Rattle.search_rows.specs.declared.moves.Targets.{Targets}
+use Rattle.fgo_spec.specs.Gathered.{columnAt, spread, putBack}
+use Rattle.search_rows.specs.Rows.{Starts}
+use Rattle.search_rows.specs.Moves.{retarget, become, keeperTarget, otherTarget, pairTargets, trackTargets, renamedFrom, hasSlot, pairIds, trackIds}
 use Rattle.search.specs.Pass.{Scene, rowOn}
-use Rattle.windows.specs.Columns.{spread, putBack}
-use Rattle.windows.proofs.Renamed.{renamed-column}
+use Rattle.search_rows.proofs.Renamed.{renamed-column}
 use Rattle.search.proofs.Standing.{HeldScan, HeldFrom, scansNow, Standing, Fits, PairIds, TrackIds}
-use Rattle.windows.proofs.Spreads.{spread-map}
-use Rattle.windows.proofs.RowSlots.{row-at}
+use Rattle.fgo_spec.proofs.Spreads.{spread-map}
+use Rattle.search_rows.proofs.RowSlots.{row-at}
 use Rattle.search.proofs.WindowRows.{slot-now}
 
 -- ---- one id
@@ -36,14 +37,14 @@ stays a i = go (eqb a i) refl
     go true e = eqb-true a i e
     go false e = refl
 
-retarget-same : (a b i : ℕ) → retarget a b (same a b) i ≡ i
+retarget-same : (a b i : ℕ) → retarget a b (become a b) i ≡ i
 retarget-same a b i = ap (cond (eqb a i) a) (stays b i) ∙ stays a i
 
 retarget-zero : (a b : ℕ) → 0 < a → 0 < b → (t : Targets) → retarget a b t 0 ≡ 0
 retarget-zero a b ha hb t = rw (ne-eqb a 0 (λ e. omega arith), ne-eqb b 0 (λ e. omega arith))
 
 -- the two may be named in either order
-retarget-flip : (a b : ℕ) → (a ≡ b → ⊥) → (t u i : ℕ) → retarget a b (record { a = t; b = u }) i ≡ retarget b a (record { a = u; b = t }) i
+retarget-flip : (a b : ℕ) → (a ≡ b → ⊥) → (t u i : ℕ) → retarget a b (become t u) i ≡ retarget b a (become u t) i
 retarget-flip a b d t u i = go (eqb a i) (eqb b i) refl refl
   where
     go : (p q : Bool) → eqb a i ≡ p → eqb b i ≡ q → cond p t (cond q u i) ≡ cond q u (cond p t i)
@@ -51,7 +52,7 @@ retarget-flip a b d t u i = go (eqb a i) (eqb b i) refl refl
     go true false e f = refl
     go false q e f = refl
 
-retarget-clear : (a x i : ℕ) → retarget a x (record { a = 0; b = x }) i ≡ clear a i
+retarget-clear : (a x i : ℕ) → retarget a x (become 0 x) i ≡ clear a i
 retarget-clear a x i = ap (cond (eqb a i) 0) (stays x i)
 
 -- ---- a merge, in one scan
@@ -68,17 +69,17 @@ map-without x f g h (i ∷ is) e = go (eqb x i) refl e (map-without x f g h is)
 
 -- what becomes of the keeper k and of the other; h and g say which have a detection
 abbrev keeps : ℕ → Bool → Bool → Bool → Targets
-keeps k own h g = record { a = keeperTarget own g k; b = otherTarget own h k }
+keeps k own h g = become (keeperTarget own g k) (otherTarget own h k)
 
 module _ (k o : ℕ) (hk : 0 < k) (ho : 0 < o) (apart : k ≡ o → ⊥) where
-  keeper-clears : (i : ℕ) → retarget k o (record { a = k; b = 0 }) i ≡ clear o i
+  keeper-clears : (i : ℕ) → retarget k o (become k 0) i ≡ clear o i
   keeper-clears i = go (eqb k i) refl
     where
       go : (p : Bool) → eqb k i ≡ p → cond p k (clear o i) ≡ clear o i
       go true e = eqb-true k i e ∙ sym (rw (ne-eqb o i (λ z. apart (eqb-true k i e ∙ sym z))))
       go false e = refl
 
-  other-clears : (i : ℕ) → retarget k o (record { a = 0; b = k }) i ≡ exchange k o (clear k i)
+  other-clears : (i : ℕ) → retarget k o (become 0 k) i ≡ exchange k o (clear k i)
   other-clears i = go (eqb k i) refl
     where
       go : (p : Bool) → eqb k i ≡ p → cond p 0 (cond (eqb o i) k i) ≡ exchange k o (cond p 0 i)
@@ -112,13 +113,13 @@ trackColumn a x (Split f g) n is = swapColumn a x (f .0) n is
 trackColumn a x (Drop f g) n is = dropColumn a (f .0) n is
 
 module _ (a b : ℕ) where
-  same-column : (is : List ℕ) → map (retarget a b (same a b)) is ≡ is
+  same-column : (is : List ℕ) → map (retarget a b (become a b)) is ≡ is
   same-column is = (λ j. map (λ i. retarget-same a b i j) is) ∙ map-id is
 
-  swap-column : (f n : ℕ) (is : List ℕ) → map (retarget a b (cond (leb f n) (record { a = b; b = a }) (same a b))) is ≡ swapColumn a b f n is
+  swap-column : (f n : ℕ) (is : List ℕ) → map (retarget a b (cond (leb f n) (become b a) (become a b))) is ≡ swapColumn a b f n is
   swap-column f n is = go (leb f n)
     where
-      go : (q : Bool) → map (retarget a b (cond q (record { a = b; b = a }) (same a b))) is ≡ cond q (map (exchange a b) is) is
+      go : (q : Bool) → map (retarget a b (cond q (become b a) (become a b))) is ≡ cond q (map (exchange a b) is) is
       go true = refl
       go false = same-column is
 
@@ -127,7 +128,7 @@ module _ (a b : ℕ) where
   track-column (Split f g) n is = swap-column (f .0) n is
   track-column (Drop f g) n is = go (eqb (f .0) n)
     where
-      go : (q : Bool) → map (retarget a b (cond q (record { a = 0; b = b }) (same a b))) is ≡ cond q (map (clear a) is) is
+      go : (q : Bool) → map (retarget a b (cond q (become 0 b) (become a b))) is ≡ cond q (map (clear a) is) is
       go true = λ j. map (λ i. retarget-clear a b i j) is
       go false = same-column is
 
@@ -146,32 +147,32 @@ unfolding recolumn
 recolumn-same n [] = refl
 recolumn-same n (s ∷ ss) = ap (λ (l : List Scan). s ∷ l) (recolumn-same (suc n) ss)
 
-module _ (e : Scene) (ids : List ℕ) (begins : Starts (e .starts)) (long : length ids ≡ 128) (a b : ℕ) (ha : 0 < a) (hb : 0 < b) (t : ℕ → Targets) (g : ℕ → List ℕ → List ℕ) where
+module _ (e : Scene) (ids : List ℕ) (begins : Starts (e .starts)) (long : length ids ≡ DETECTIONS) (a b : ℕ) (ha : 0 < a) (hb : 0 < b) (t : ℕ → Targets) (g : ℕ → List ℕ → List ℕ) where
   -- the renaming of the gathered ids does to each scan, as it stands, what g does to its column
   abbrev Agrees : Type 0
   Agrees =
-      (k : ℕ) (s : Scan) → k < 17 → HeldScan e k s →
+      (k : ℕ) (s : Scan) → k < SCANS → HeldScan e k s →
       map (retarget a b (t k)) (spread (s .ids) (columnAt (e .starts) ids k)) ≡ g (e .hall .first .0 + k) (spread (s .ids) (columnAt (e .starts) ids k))
 
   renamed-from :
-      Agrees → (ss : List Scan) (k : ℕ) → k + length ss ≤ 17 → HeldFrom e k ss →
-      putBack (e .starts) (renamedFrom (e .starts) a b t 0 17 ids) k ss ≡ recolumn g (e .hall .first .0 + k) (putBack (e .starts) ids k ss)
+      Agrees → (ss : List Scan) (k : ℕ) → k + length ss ≤ SCANS → HeldFrom e k ss →
+      putBack (e .starts) (renamedFrom (e .starts) a b t 0 SCANS ids) k ss ≡ recolumn g (e .hall .first .0 + k) (putBack (e .starts) ids k ss)
   unfolding putBack recolumn
   renamed-from w [] k h d = refl
   renamed-from w (s ∷ ss) k h d =
       let q : e .hall .first .0 + suc k ≡ suc (e .hall .first .0 + k) = omega arith in
       let gs = columnAt (e .starts) ids k in
-      let one : spread (s .ids) (columnAt (e .starts) (renamedFrom (e .starts) a b t 0 17 ids) k) ≡ g (e .hall .first .0 + k) (spread (s .ids) gs) =
+      let one : spread (s .ids) (columnAt (e .starts) (renamedFrom (e .starts) a b t 0 SCANS ids) k) ≡ g (e .hall .first .0 + k) (spread (s .ids) gs) =
       ap (spread (s .ids)) (renamed-column begins a b t ids long k (omega arith))
       ∙ spread-map (retarget a b (t k)) (retarget-zero a b ha hb (t k)) (s .ids) gs
       ∙ w k s (omega arith) (d .0) in
-      let rest : putBack (e .starts) (renamedFrom (e .starts) a b t 0 17 ids) (suc k) ss ≡ recolumn g (suc (e .hall .first .0 + k)) (putBack (e .starts) ids (suc k) ss) =
+      let rest : putBack (e .starts) (renamedFrom (e .starts) a b t 0 SCANS ids) (suc k) ss ≡ recolumn g (suc (e .hall .first .0 + k)) (putBack (e .starts) ids (suc k) ss) =
       renamed-from w ss (suc k) (omega arith) (d .1) ∙ ap (λ (n : ℕ). recolumn g n (putBack (e .starts) ids (suc k) ss)) q in
       λ i. record { frame = s .frame; ids = one i } ∷ rest i
 
   renamed-scans :
-      Agrees → (ss : List Scan) → length ss ≤ 17 → HeldFrom e 0 ss →
-      scansNow e ss (renamedFrom (e .starts) a b t 0 17 ids) ≡ recolumn g (e .hall .first .0) (scansNow e ss ids)
+      Agrees → (ss : List Scan) → length ss ≤ SCANS → HeldFrom e 0 ss →
+      scansNow e ss (renamedFrom (e .starts) a b t 0 SCANS ids) ≡ recolumn g (e .hall .first .0) (scansNow e ss ids)
   renamed-scans w ss h d =
       let q : e .hall .first .0 + 0 ≡ e .hall .first .0 = omega arith in
       renamed-from w ss 0 (omega arith) d ∙ ap (λ (n : ℕ). recolumn g n (scansNow e ss ids)) q
@@ -201,7 +202,7 @@ module _ (e : Scene) (next : ℕ) (ps : List (ℕ × Prefix)) (ss : List Scan) (
       ss (s .held .few) (s .held .scans)
       ∙ after m
     where
-      has-now : (k : ℕ) (r : Scan) → k < 17 → HeldScan e k r → (x : ℕ) → 0 < x → hasSlot (rowOn e ids x) k ≡ has x (spread (r .ids) (columnAt (e .starts) ids k))
+      has-now : (k : ℕ) (r : Scan) → k < SCANS → HeldScan e k r → (x : ℕ) → 0 < x → hasSlot (rowOn e ids x) k ≡ has x (spread (r .ids) (columnAt (e .starts) ids k))
       has-now k r h w x hx = ap (ltb 0) (row-at (e .starts) ids x k h) ∙ slot-now (s .held .starts) w ids (s .long) h x hx
 
       after : (m : PairMove) → recolumn (pairColumn a b m) (e .hall .first .0) (scansNow e ss ids) ≡ afterPair (e .hall .config) (e .hall .first .0) ps a b (scansNow e ss ids) m

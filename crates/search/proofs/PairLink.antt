@@ -1,4 +1,4 @@
--- The best move of a pair by rows is the model's, and where it is a merge it keeps one of the pair. Takes as given that rows have the windows' detections
+-- The best move of a pair by rows is fgo_spec's, and where it is a merge it keeps one of the pair. Takes as given that rows have the windows' detections
 -- and share as many scans.
 use Prim.Native.Nat.{ℕ, _+_, _<_}
 use mathlib.Core.Path.{_≡_, refl, sym, ap, _∙_}
@@ -11,22 +11,22 @@ use lib.Ieee.{Float, binary64, add, sub, mul, ofInt}
 use Rattle.engine.specs.declared.config.FgoConfig.{FgoConfig}
 use Rattle.engine.specs.declared.types.RefinedId.{RefinedId}
 use Rattle.engine.specs.Config.{clutter}
-use Rattle.costs.specs.declared.cost.Fold.{Fold}
-use Rattle.costs.specs.Cost.{View}
-use Rattle.model.specs.declared.moves.PairMove.{PairMove}
-use Rattle.model.specs.declared.moves.PairMove.the-variants.{Stay, Swap, Merge}
-use Rattle.model.specs.Windows.{Scan, Prefix, window}
-use Rattle.model.specs.Searching.{costOf, merged, otherOf, shared, trySwap, tryMerge, pairCandidates, bestOfPair, betterPair, wins, pairGain}
-use Rattle.model.specs.Rule.{All}
-use Rattle.model.specs.Faithful.{Regular, Merged}
-use Rattle.model.proofs.Cutting.{swap-says}
-use Rattle.model.proofs.Merging.{merge-first-says, merge-second-says, shared-turned}
-use Rattle.merging.specs.Merge.{sharedRows, tryMergeRow, betterMerge}
-use Rattle.pair_moves.specs.Pair.{cutsOf, trySwapRow, bestSwapRow, bestPairRow}
-use Rattle.search.specs.Pass.{Scene, idOf, viewOn, partOn, rowOn, pairBest}
+use Rattle.cost.specs.declared.Fold.{Fold}
+use Rattle.cost.specs.Cost.{View}
+use Rattle.fgo_spec.specs.declared.moves.PairMove.{PairMove}
+use Rattle.fgo_spec.specs.declared.moves.PairMove.the-variants.{Stay, Swap, Merge}
+use Rattle.fgo_spec.specs.Windows.{Scan, Prefix, window}
+use Rattle.fgo_spec.specs.Searching.{trackCost, merged, otherOf, shared, trySwap, tryMerge, pairCandidates, bestOfPair, betterPair, wins, pairGain}
+use Rattle.fgo_spec.specs.Rule.{All}
+use Rattle.fgo_spec.specs.Faithful.{Regular, Merged}
+use Rattle.fgo_spec.proofs.Cutting.{swap-says}
+use Rattle.fgo_spec.proofs.Merging.{merge-first-says, merge-second-says, shared-turned}
+use Rattle.search_merge.specs.Merge.{sharedRows, tryMergeRow, betterMerge}
+use Rattle.search_pair.specs.Pair.{cutsOf, trySwapRow, bestSwapRow, bestPairRow}
+use Rattle.search.specs.Pass.{Scene, idOf, viewOn, foldOn, rowOn, pairBest}
 use Rattle.search.proofs.Standing.{Standing, PartsOk, Fits, WindowRow, SharedRows, PairBest, scansNow}
-use Rattle.windows.proofs.RowSlots.{row-length}
-use Rattle.search.proofs.RowCosts.{Stands, cost-dets}
+use Rattle.search_rows.proofs.RowSlots.{row-length}
+use Rattle.search.proofs.RowCosts.{RowFor, cost-dets}
 use Rattle.search.proofs.WindowDets.{Rowed, row-crossed, row-joined}
 
 -- ---- a merge keeps one of the two
@@ -66,7 +66,7 @@ pair-fits e close a b ids =
 module _ (c : FgoConfig) (v : View) (ps : List (ℕ × Prefix)) (ss : List Scan) (regular : All Regular ss) where
   module _
       (a b : ℕ) (ha : 0 < a) (hb : 0 < b) (apart : a ≡ b → ⊥) (pa pb : Fold) (ra rb : List ℕ) (alike : length ra ≡ length rb)
-      (sa : Stands c v ps ss a pa ra) (sb : Stands c v ps ss b pb rb) (base : Float) where
+      (sa : RowFor c v ps ss a pa ra) (sb : RowFor c v ps ss b pb rb) (base : Float) where
     swap-row : (g : ℕ) → trySwap c (v .first) ps a b ss base (v .first + g) ≡ trySwapRow c v pa pb ra rb base g
     unfolding trySwap trySwapRow
     swap-row g =
@@ -82,9 +82,9 @@ module _ (c : FgoConfig) (v : View) (ps : List (ℕ × Prefix)) (ss : List Scan)
 
     -- a merge, by what it says of the keeper k, its part p and the other's row
     merge-row :
-        (k o : ℕ) (p : Fold) (r s : List ℕ) → length r ≡ length s → Stands c v ps ss k p r → Rowed c v (window o (v .first) ss) s → (own : Bool) (ts : List Scan) →
+        (k o : ℕ) (p : Fold) (r s : List ℕ) → length r ≡ length s → RowFor c v ps ss k p r → Rowed c v (window o (v .first) ss) s → (own : Bool) (ts : List Scan) →
         Merged own k o (v .first) ss ts → (n m : ℕ) → n ≡ m →
-        Merge (record { 0 = k }) own (sub binary64 (add binary64 (costOf c (v .first) ps k ts) (mul binary64 (ofInt binary64 (pos n)) (clutter c))) base) ≡ tryMergeRow c v (record { 0 = k }) own p r s m base
+        Merge (record { 0 = k }) own (sub binary64 (add binary64 (trackCost c (v .first) ps k ts) (mul binary64 (ofInt binary64 (pos n)) (clutter c))) base) ≡ tryMergeRow c v (record { 0 = k }) own p r s m base
     unfolding tryMergeRow
     merge-row k o p r s e sk w own ts t n m q =
         λ i. Merge (record { 0 = k }) own
@@ -133,8 +133,8 @@ pair-best e next ps ss ids stands parts rows shares a b ha hb apart close =
     let c = e .hall .config in
     let v = viewOn e in
     let now = scansNow e ss ids in
-    let base = add binary64 (costOf c (v .first) ps a now) (costOf c (v .first) ps b now) in
-    tries-row c v ps now (stands .regular) a b ha hb apart (partOn e a) (partOn e b) (rowOn e ids a) (rowOn e ids b) (row-length (e .starts) ids a ∙ sym (row-length (e .starts) ids b))
+    let base = add binary64 (trackCost c (v .first) ps a now) (trackCost c (v .first) ps b now) in
+    tries-row c v ps now (stands .regular) a b ha hb apart (foldOn e a) (foldOn e b) (rowOn e ids a) (rowOn e ids b) (row-length (e .starts) ids a ∙ sym (row-length (e .starts) ids b))
     (record { part = parts a ha; row = rows a ha }) (record { part = parts b hb; row = rows b hb }) base (shares a b ha hb) (shares b a hb ha) close
-    ∙ (λ i. bestPairRow c v (idOf a) (idOf b) (partOn e a) (partOn e b) close (rowOn e ids a) (rowOn e ids b)
-    (add binary64 (cost-dets c (v .first) ps a (partOn e a) (parts a ha) now _ (rows a ha) i) (cost-dets c (v .first) ps b (partOn e b) (parts b hb) now _ (rows b hb) i)))
+    ∙ (λ i. bestPairRow c v (idOf a) (idOf b) (foldOn e a) (foldOn e b) close (rowOn e ids a) (rowOn e ids b)
+    (add binary64 (cost-dets c (v .first) ps a (foldOn e a) (parts a ha) now _ (rows a ha) i) (cost-dets c (v .first) ps b (foldOn e b) (parts b hb) now _ (rows b hb) i)))

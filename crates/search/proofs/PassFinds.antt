@@ -1,5 +1,5 @@
--- The passes over the gathered ids find what the model's search finds. Assumes nothing.
-use Prim.Native.Nat.{ℕ, zero, suc, _+_, _*_, _≤_, _<_, zero-le}
+-- The passes over the gathered ids find what fgo_spec's search finds. Assumes nothing.
+use Prim.Native.Nat.{ℕ, zero, suc, _+_, _*_, _^_, _≤_, _<_, zero-le}
 use native.Mathlib.Nat.{le-refl, le-trans}
 use native.Mathlib.Omega.{arith}
 use mathlib.Core.Path.{_≡_, refl, sym, ap, _∙_, subst}
@@ -7,17 +7,18 @@ use mathlib.Core.Bool.{Bool, true, false, _&&_, and-true, and-false}
 use mathlib.Core.List.{List, foldl}
 use lib.ListN.{length}
 use lib.Dec.{T}
+use Rattle.bounds.specs.Bounds.{DETECTIONS, PASSES}
 use Rattle.engine.specs.Config.{maxPasses}
-use Rattle.model.specs.declared.moves.FgoCounters.{FgoCounters}
-use Rattle.model.specs.Lists.{keep, has}
-use Rattle.model.specs.Windows.{Scan, Prefix, present}
-use Rattle.model.specs.Searching.{Search as Model, Searched, pairs, pairStep as onPair, trackStep as onTrack, pass, passes, improve}
-use Rattle.model.proofs.Counting.{has-All, has-keep}
-use Rattle.model.proofs.Presence.{present-is}
-use Rattle.windows.specs.Rows.{presentIn}
-use Rattle.windows.specs.Moves.{begun, oneMore}
-use Rattle.search.specs.Pass.{Scene, Search, Able, sweep, visit, passOver, passesOver}
-use Rattle.search.specs.Gathered.{Gathered, Finds}
+use Rattle.fgo_spec.specs.declared.moves.FgoCounters.{FgoCounters}
+use Rattle.fgo_spec.specs.Lists.{keep, has}
+use Rattle.fgo_spec.specs.Windows.{Scan, Prefix, present}
+use Rattle.fgo_spec.specs.Searching.{Search as Model, Searched, neighbours, pairStep as onPair, trackStep as onTrack, pass, passes, improve}
+use Rattle.fgo_spec.proofs.Counting.{has-All, has-keep}
+use Rattle.fgo_spec.proofs.Presence.{present-is}
+use Rattle.search_rows.specs.Rows.{presentIn}
+use Rattle.search_rows.specs.Moves.{begun, oneMore}
+use Rattle.search.specs.Pass.{Scene, Progress, progressOf, idOf, Able, sweep, visit, passOver, passesOver}
+use Rattle.search.specs.Represents.{Represents, Finds}
 use Rattle.search.proofs.Standing.{Standing, scansNow}
 use Rattle.search.proofs.IdsAscend.{Ascends, present-ascends, present-length, ascends-keep, ascends-same}
 use Rattle.search.proofs.Absence.{Absent, missing-absent, absent-missing}
@@ -25,64 +26,68 @@ use Rattle.search.proofs.PassLaws.{PassLaws}
 use Rattle.search.proofs.Tying.{Tied, tied-less, modelOf, room-less, one-more}
 use Rattle.search.proofs.Sweeping.{sweep-tied, visit-tied}
 
+-- the most moves of a pass: one of each pair, and one of each track
+abbrev moves : ℕ
+moves = DETECTIONS * DETECTIONS + DETECTIONS
+
 -- of no id it is known that it stands nowhere
 abbrev None : ℕ → Type 0
 None x = ⊥
 
-module _ (e : Scene) (ps : List (ℕ × Prefix)) (ss : List Scan) (laws : PassLaws e ps ss) (few : e .hall .detections ≤ 128) where
+module _ (e : Scene) (ps : List (ℕ × Prefix)) (ss : List Scan) (laws : PassLaws e ps ss) (few : e .hall .detections ≤ DETECTIONS) where
   -- ---- one pass
 
-  module _ (p n : ℕ) (s : Search) (q : Model) (t : Tied e ss None 0 p (16512 + n) s q) (early : p ≤ 1000) where
+  module _ (p n : ℕ) (s : Progress) (q : Model) (t : Tied e ss None 0 p (moves + n) s q) (early : p ≤ PASSES) where
     listed : List ℕ
     listed = presentIn (e .hall .detections) (s .ids)
 
     -- as the pass begins
-    begins : Search
-    begins = record { ids = s .ids; tally = begun (s .tally) }
+    begins : Progress
+    begins = progressOf (s .ids) (begun (s .tally))
 
-    -- after the pairs, here and in the model
-    swept : Search
+    -- after the pairs, here and in fgo_spec
+    swept : Progress
     swept = sweep e (s .ids) listed begins
 
     paired : Model
-    paired = foldl (onPair (e .hall .config) (e .hall .first .0) ps) (modelOf e ss begins) (pairs (e .hall .config) (e .hall .first .0) ps (scansNow e ss (s .ids)) (present (scansNow e ss (s .ids))))
+    paired = foldl (onPair (e .hall .config) (e .hall .first .0) ps) (modelOf e ss begins) (neighbours (e .hall .config) (e .hall .first .0) ps (scansNow e ss (s .ids)) (present (scansNow e ss (s .ids))))
 
     low : ℕ
-    low = s .tally .next
+    low = s .tally .«next_id» .0
 
-    few-listed : length listed ≤ 128
+    few-listed : length listed ≤ DETECTIONS
     unfolding listed
     few-listed = le-trans (present-length (e .hall .detections) (s .ids)) few
 
     listed-is : present (scansNow e ss (s .ids)) ≡ listed
     unfolding listed
-    listed-is = laws .present-rows (s .tally .next) (s .ids) (t .stands)
+    listed-is = laws .present-rows (s .tally .«next_id» .0) (s .ids) (t .stands)
 
     used : (x : ℕ) → T (has x listed) → (0 < x) × (x < low)
     unfolding low
-    used x h = present-is (λ x. x < s .tally .next) (scansNow e ss (s .ids)) (t .stands .known) x (subst (λ l. T (has x l)) (sym listed-is) h)
+    used x h = present-is (λ x. x < s .tally .«next_id» .0) (scansNow e ss (s .ids)) (t .stands .known) x (subst (λ l. T (has x l)) (sym listed-is) h)
 
-    begins-tied : Tied e ss (λ x. has x listed ≡ false) low (suc p) (16512 + n) begins (modelOf e ss begins)
+    begins-tied : Tied e ss (λ x. has x listed ≡ false) low (suc p) (moves + n) begins (modelOf e ss begins)
     unfolding begins low
     begins-tied =
         record {
           same = refl;
           stands = t .stands;
-          from = le-refl (s .tally .next);
+          from = le-refl (s .tally .«next_id» .0);
           passes = ap oneMore (t .passes) ∙ one-more p (omega arith);
           room = t .room;
           out = λ x h o. missing-absent x (scansNow e ss (s .ids)) h (ap (has x) listed-is ∙ o);
         }
 
-    swept-tied : Tied e ss (λ x. has x listed ≡ false) low (suc p) (128 + n) swept paired
+    swept-tied : Tied e ss (λ x. has x listed ≡ false) low (suc p) (DETECTIONS + n) swept paired
     unfolding swept paired
     swept-tied =
-        subst (λ l. Tied e ss (λ x. has x listed ≡ false) low (suc p) (128 + n) (sweep e (s .ids) listed begins) (foldl (onPair (e .hall .config) (e .hall .first .0) ps) (modelOf e ss begins) (pairs (e .hall .config) (e .hall .first .0) ps (scansNow e ss (s .ids)) l)))
+        subst (λ l. Tied e ss (λ x. has x listed ≡ false) low (suc p) (DETECTIONS + n) (sweep e (s .ids) listed begins) (foldl (onPair (e .hall .config) (e .hall .first .0) ps) (modelOf e ss begins) (neighbours (e .hall .config) (e .hall .first .0) ps (scansNow e ss (s .ids)) l)))
         (sym listed-is)
-        (sweep-tied e ps ss laws low (suc p) (λ x. has x listed ≡ false) (s .tally .next) (s .ids) (t .stands) 0 listed (unfold listed in (present-ascends (e .hall .detections) (s .ids)))
+        (sweep-tied e ps ss laws low (suc p) (λ x. has x listed ≡ false) (s .tally .«next_id» .0) (s .ids) (t .stands) 0 listed (unfold listed in (present-ascends (e .hall .detections) (s .ids)))
         (has-All (λ b. (b < low) × (has b listed ≡ false → ⊥)) listed (λ x h. (used x h .1, λ o. subst T o h)))
-        few-listed (128 + n) begins (modelOf e ss begins)
-        (tied-less e ss (λ x. has x listed ≡ false) low (suc p) (16512 + n) (length listed * 128 + (128 + n)) (let h = few-listed in omega arith) begins-tied))
+        few-listed (DETECTIONS + n) begins (modelOf e ss begins)
+        (tied-less e ss (λ x. has x listed ≡ false) low (suc p) (moves + n) (length listed * DETECTIONS + (DETECTIONS + n)) (let h = few-listed in omega arith) begins-tied))
 
     -- who is present after the pairs
     left : ℕ → Bool
@@ -92,7 +97,7 @@ module _ (e : Scene) (ps : List (ℕ × Prefix)) (ss : List Scan) (laws : PassLa
     scans-are = ap (λ (q : Model). q .scans) (swept-tied .same)
 
     left-ascends : Ascends 0 (present (paired .scans))
-    left-ascends = subst (Ascends 0) (sym (ap present scans-are ∙ laws .present-rows (swept .tally .next) (swept .ids) (swept-tied .stands))) (present-ascends (e .hall .detections) (swept .ids))
+    left-ascends = subst (Ascends 0) (sym (ap present scans-are ∙ laws .present-rows (swept .tally .«next_id» .0) (swept .ids) (swept-tied .stands))) (present-ascends (e .hall .detections) (swept .ids))
 
     left-is : keep left listed ≡ present (paired .scans)
     unfolding left
@@ -114,7 +119,7 @@ module _ (e : Scene) (ps : List (ℕ × Prefix)) (ss : List Scan) (laws : PassLa
           stands = swept-tied .stands;
           from = swept-tied .from;
           passes = swept-tied .passes;
-          room = room-less (128 + n) (length listed + n) (swept .tally .next) (swept .tally .counters) (let h = few-listed in omega arith) (swept-tied .room);
+          room = room-less (DETECTIONS + n) (length listed + n) (swept .tally .«next_id» .0) (swept .tally .counters) (let h = few-listed in omega arith) (swept-tied .room);
           out = λ x h o. subst (Absent x) scans-are (missing-absent x (paired .scans) h (o .1));
         }) in
         record {
@@ -133,42 +138,42 @@ module _ (e : Scene) (ps : List (ℕ × Prefix)) (ss : List Scan) (laws : PassLa
   -- ---- all of them
 
   passes-are :
-      (k p n : ℕ) (s : Search) (q : Model) (moved : Bool) → k + p ≤ 1000 → Tied e ss None 0 p (k * 16512 + n) s q →
+      (k p n : ℕ) (s : Progress) (q : Model) (moved : Bool) → k + p ≤ PASSES → Tied e ss None 0 p (k * moves + n) s q →
       passes (e .hall .config) (e .hall .first .0) ps k p q moved ≡ record { search = modelOf e ss (passesOver e k s moved); ran = passesOver e k s moved .tally .passes }
   unfolding passes passesOver
   passes-are zero p n s q moved h t = λ i. record { search = t .same i; ran = sym (t .passes) i }
   passes-are (suc k) p n s q false h t = λ i. record { search = t .same i; ran = sym (t .passes) i }
   passes-are (suc k) p n s q true h t =
       let r =
-      pass-tied p (k * 16512 + n) s q (tied-less e ss None 0 p (suc k * 16512 + n) (16512 + (k * 16512 + n)) (omega arith) t) (omega arith) in
+      pass-tied p (k * moves + n) s q (tied-less e ss None 0 p (suc k * moves + n) (moves + (k * moves + n)) (omega arith) t) (omega arith) in
       ap (λ (b : Bool). passes (e .hall .config) (e .hall .first .0) ps k (suc p) (pass (e .hall .config) (e .hall .first .0) ps q) b) (ap (λ (q : Model). q .moved) (r .same))
       ∙ passes-are k (suc p) n (passOver e s) (pass (e .hall .config) (e .hall .first .0) ps q) (passOver e s .tally .moved) (omega arith) r
 
--- what the passes find is the model's
+-- what the passes find is fgo_spec's
 pub finds :
     (e : Scene) (next : ℕ) (k : FgoCounters) (ids : List ℕ) (ps : List (ℕ × Prefix)) (ss : List Scan) → PassLaws e ps ss →
-    Standing e next ss ids → scansNow e ss ids ≡ ss → Gathered e next k ids ps ss → Able e → (r : Search) →
-    r ≡ passesOver e (maxPasses (e .hall .config)) (record { ids = ids; tally = record { next = next; counters = k; passes = 0; moved = true } }) true →
+    Standing e next ss ids → scansNow e ss ids ≡ ss → Represents e next k ids ps ss → Able e → (r : Progress) →
+    r ≡ passesOver e (maxPasses (e .hall .config)) (progressOf ids (record { «next_id» = idOf next; counters = k; passes = 0; moved = true })) true →
     Finds e next k ps ss (r .ids) (r .tally)
 finds e next k ids ps ss laws st now g able r is =
     record {
       scans = ap (λ (f : Searched). f .search .scans) found;
-      next-id = sym (ap (λ (f : Searched). f .search .next) found);
+      next-id = sym (ap (λ (f : Searched). f .search .«next_id») found);
       counters = sym (ap (λ (f : Searched). f .search .counters) found);
       moved = sym (ap (λ (f : Searched). f .search .moved) found);
       passes = sym (ap (λ (f : Searched). f .ran) found);
     }
   where
-    start : Search
-    start = record { ids = ids; tally = record { next = next; counters = k; passes = 0; moved = true } }
+    start : Progress
+    start = progressOf ids (record { «next_id» = idOf next; counters = k; passes = 0; moved = true })
 
-    spare : (i : ℕ) → i ≤ 2305843009213693952 → i + (maxPasses (e .hall .config) * 16512 + 0) ≤ 4611686018427387904
+    spare : (i : ℕ) → i ≤ 2 ^ 61 → i + (maxPasses (e .hall .config) * moves + 0) ≤ 2 ^ 62
     spare i h = let m = g .passes in omega arith
 
-    tied : Tied e ss None 0 0 (maxPasses (e .hall .config) * 16512 + 0) start (record { scans = ss; next = next; counters = k; moved = true })
+    tied : Tied e ss None 0 0 (maxPasses (e .hall .config) * moves + 0) start (record { scans = ss; «next_id» = next; counters = k; moved = true })
     tied =
         record {
-          same = λ i. record { scans = sym now i; next = next; counters = k; moved = true };
+          same = λ i. record { scans = sym now i; «next_id» = next; counters = k; moved = true };
           stands = st;
           from = zero-le;
           passes = refl;
@@ -186,5 +191,5 @@ finds e next k ids ps ss laws st now g able r is =
     found : improve (e .hall .config) (e .hall .first .0) ps ss next k ≡ record { search = modelOf e ss r; ran = r .tally .passes }
     found =
         unfold improve in
-        (passes-are e ps ss laws (able .gathered) (maxPasses (e .hall .config)) 0 0 start (record { scans = ss; next = next; counters = k; moved = true }) true (let m = g .passes in omega arith) tied
-        ∙ ap (λ (r : Search). record { search = modelOf e ss r; ran = r .tally .passes }) (sym is))
+        (passes-are e ps ss laws (able .gathered) (maxPasses (e .hall .config)) 0 0 start (record { scans = ss; «next_id» = next; counters = k; moved = true }) true (let m = g .passes in omega arith) tied
+        ∙ ap (λ (r : Progress). record { search = modelOf e ss r; ran = r .tally .passes }) (sym is))

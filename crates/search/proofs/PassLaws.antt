@@ -3,11 +3,11 @@ use Prim.Native.Nat.{ℕ, _<_}
 use mathlib.Core.Path.{_≡_}
 use mathlib.Core.Bool.{Bool}
 use mathlib.Core.List.{List}
-use Rattle.model.specs.declared.moves.PairMove.{PairMove}
-use Rattle.model.specs.declared.moves.TrackMove.{TrackMove}
-use Rattle.model.specs.Windows.{Scan, Prefix}
-use Rattle.model.specs.Searching.{nextAfter}
-use Rattle.windows.specs.Moves.{pairIds, trackIds}
+use Rattle.fgo_spec.specs.declared.moves.PairMove.{PairMove}
+use Rattle.fgo_spec.specs.declared.moves.TrackMove.{TrackMove}
+use Rattle.fgo_spec.specs.Windows.{Scan, Prefix}
+use Rattle.fgo_spec.specs.Searching.{nextAfter}
+use Rattle.search_rows.specs.Moves.{pairIds, trackIds}
 use Rattle.search.specs.Pass.{Scene, rowOn, pairBest}
 use Rattle.search.proofs.Standing.{Standing, Fits, PresentRows, CutRows, PairIds, TrackIds, PairBest, TrackBest}
 

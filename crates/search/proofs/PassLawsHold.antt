@@ -1,7 +1,7 @@
--- The laws of moves and passes hold where the frozen parts lent are the model's. Assumes nothing.
+-- The laws of moves and passes hold where the frozen parts lent are fgo_spec's. Assumes nothing.
 use Prim.Native.Nat.{ℕ}
 use mathlib.Core.List.{List}
-use Rattle.model.specs.Windows.{Scan, Prefix}
+use Rattle.fgo_spec.specs.Windows.{Scan, Prefix}
 use Rattle.search.specs.Pass.{Scene}
 use Rattle.search.proofs.Standing.{PartsOk}
 use Rattle.search.proofs.WindowRows.{window-rows}

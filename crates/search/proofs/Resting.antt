@@ -8,17 +8,15 @@ use mathlib.Core.List.{List}
 use lib.ListN.{length, getD, set, length-set}
 use lib.Seq.{getD-set-same, getD-set-other}
 use lib.Ieee.{Float}
-use Rattle.costs.specs.Cost.{Kept}
-use Rattle.windows.specs.declared.moves.Tally.{Tally}
-use Rattle.nearness.specs.Near.{anyClose}
-use Rattle.windows.specs.Moves.{pairStays, trackStays}
-use Rattle.search.specs.Pass.{Scene, Search, rowOn, costOn, closeOn, pairBest, pairStep, pairIf, trackBest, trackStep, pairRest, trackRest, Listed, Rests, Grows, Stands}
+use Rattle.bounds.specs.Bounds.{DETECTIONS}
+use Rattle.cost.specs.Cost.{LogsKept}
+use Rattle.search_rows.specs.declared.moves.Tally.{Tally}
+use Rattle.search_neighbours.specs.Near.{anyClose}
+use Rattle.search_rows.specs.Moves.{pairStays, trackStays}
+use Rattle.search.specs.Pass.{Scene, progressOf, rowOn, costOn, closeOn, pairBest, pairStepOn, pairIf, trackBest, trackStepOn, pairRest, trackRest, IdTable, Rests, Grows, Swept}
 use Rattle.search.proofs.Listing.{listed-apart}
 use Rattle.search.proofs.Costing.{costed-anew}
 use Rattle.search.proofs.Stepping.{pair-stays-is, track-stays-is}
-
-abbrev pub at : List ℕ → Tally → Search
-at ids t = record { ids = ids; tally = t }
 
 -- ---- a pair and a track
 
@@ -27,21 +25,21 @@ module _ (e : Scene) (a b : ℕ) (ids : List ℕ) where
   close = closeOn e (rowOn e ids a) (rowOn e ids b)
 
   -- a pair at rest keeps all as it is
-  rest-keeps : (t : Tally) → pairRest e a b (rowOn e ids a) (rowOn e ids b) ≡ true → pairIf e close a b (at ids t) ≡ at ids t
+  rest-keeps : (t : Tally) → pairRest e a b (rowOn e ids a) (rowOn e ids b) ≡ true → pairIf e close a b (progressOf ids t) ≡ progressOf ids t
   unfolding pairRest close
   rest-keeps t = go (anyClose (closeOn e (rowOn e ids a) (rowOn e ids b)))
     where
       go : (u : Bool) → cond u (pairStays (pairBest e (closeOn e (rowOn e ids a) (rowOn e ids b)) a b ids)) true ≡ true →
-          cond u (pairStep e (closeOn e (rowOn e ids a) (rowOn e ids b)) a b (at ids t)) (at ids t) ≡ at ids t
+          cond u (pairStepOn e (closeOn e (rowOn e ids a) (rowOn e ids b)) a b (progressOf ids t)) (progressOf ids t) ≡ progressOf ids t
       go true h = sym (pair-stays-is e (closeOn e (rowOn e ids a) (rowOn e ids b)) a b ids t refl h)
       go false h = refl
 
   -- the rows are those of a table
   module _ {ra rb : List ℕ} (qa : rowOn e ids a ≡ ra) (qb : rowOn e ids b ≡ rb) where
-    pub rest-passes : (t : Tally) → pairRest e a b ra rb ≡ true → pairIf e (closeOn e ra rb) a b (at ids t) ≡ at ids t
+    pub rest-passes : (t : Tally) → pairRest e a b ra rb ≡ true → pairIf e (closeOn e ra rb) a b (progressOf ids t) ≡ progressOf ids t
     unfolding close
     rest-passes t h =
-        ap (λ (c : List Bool). pairIf e c a b (at ids t)) (sym (λ m. closeOn e (qa m) (qb m)))
+        ap (λ (c : List Bool). pairIf e c a b (progressOf ids t)) (sym (λ m. closeOn e (qa m) (qb m)))
         ∙ rest-keeps t ((λ m. pairRest e a b (qa m) (qb m)) ∙ h)
 
     pub stay-rests : {c : List Bool} → c ≡ closeOn e ra rb → pairStays (pairBest e c a b ids) ≡ true → pairRest e a b ra rb ≡ true
@@ -60,7 +58,7 @@ unfolding pairRest
 apart-rests e a b ra rb h = rw h
 
 module _ (e : Scene) (a : ℕ) (ids : List ℕ) where
-  pub track-passes : (t : Tally) → trackRest e a (rowOn e ids a) ≡ true → at ids t ≡ trackStep e a (at ids t)
+  pub track-passes : (t : Tally) → trackRest e a (rowOn e ids a) ≡ true → progressOf ids t ≡ trackStepOn e a (progressOf ids t)
   unfolding trackRest
   track-passes t h = track-stays-is e a ids t refl h
 
@@ -80,12 +78,12 @@ pub rests-grow :
     {e : Scene} {n : ℕ} {table rows marks marks′ : List ℕ} → Grows n marks marks′ → {i j : ℕ} → i < n → j < n → Rests e table rows marks i j → Rests e table rows marks′ i j
 rests-grow g {i} {j} h k r = record { pair = λ p q. r .pair (g .back i h p) (g .back j k q) }
 
-module _ (moved : List ℕ) (long : length moved ≡ 128) (i j v : ℕ) (h : i < 128) (g : j < 128) (some : 0 < v) where
+module _ (moved : List ℕ) (long : length moved ≡ DETECTIONS) (i j v : ℕ) (h : i < DETECTIONS) (g : j < DETECTIONS) (some : 0 < v) where
   -- a place without a mark is neither of the two that were marked
   pub two-marks : (k : ℕ) → getD (set (set moved i v) j v) k 0 ≡ 0 → (k ≡ i → ⊥) × (k ≡ j → ⊥) × (getD moved k 0 ≡ 0)
   two-marks k z = go (ℕ-discrete k i) (ℕ-discrete k j)
     where
-      once : length (set moved i v) ≡ 128
+      once : length (set moved i v) ≡ DETECTIONS
       once = length-set moved i v ∙ long
 
       go : Dec (k ≡ i) → Dec (k ≡ j) → (k ≡ i → ⊥) × (k ≡ j → ⊥) × (getD moved k 0 ≡ 0)
@@ -94,12 +92,12 @@ module _ (moved : List ℕ) (long : length moved ≡ 128) (i j v : ℕ) (h : i <
       go (no x) (no y) = (x, y, sym (getD-set-other moved i k v 0 x) ∙ sym (getD-set-other (set moved i v) j k v 0 y) ∙ z)
 
 -- the rows of two ids of the table change: their costs are worked out anew, and they are marked
-module _ {e : Scene} {n : ℕ} {table rows ids : List ℕ} {costs : List Float} {moved : List ℕ} {logs : List Float} (listed : Listed n table) (s : Stands e n table rows ids costs moved logs) (i j : ℕ) (h : i < j) (g : j < n) where
+module _ {e : Scene} {n : ℕ} {table rows ids : List ℕ} {costs : List Float} {moved : List ℕ} {logs : List Float} (listed : IdTable n table) (s : Swept e n table rows ids costs moved logs) (i j : ℕ) (h : i < j) (g : j < n) where
   pub stands-anew :
-      {logs′ : List Float} (new : List ℕ) → length new ≡ 128 →
+      {logs′ : List Float} (new : List ℕ) → length new ≡ DETECTIONS →
       ((x : ℕ) → 0 < x → (x ≡ getD table i 0 → ⊥) → (x ≡ getD table j 0 → ⊥) → rowOn e new x ≡ rowOn e ids x) →
-      (v w : Float) → v ≡ costOn e new (getD table i 0) → w ≡ costOn e new (getD table j 0) → Kept logs′ →
-      Stands e n table rows new (set (set costs i v) j w) (set (set moved i 1) j 1) logs′
+      (v w : Float) → v ≡ costOn e new (getD table i 0) → w ≡ costOn e new (getD table j 0) → LogsKept logs′ →
+      Swept e n table rows new (set (set costs i v) j w) (set (set moved i 1) j 1) logs′
   stands-anew new l other v w p q kept =
       record {
         costed = costed-anew listed (s .costed) i j h g new l other v w p q;

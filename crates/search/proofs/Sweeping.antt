@@ -1,18 +1,19 @@
--- The pairs and the tracks of a pass, over the gathered ids and in the model. Assumes nothing.
+-- The pairs and the tracks of a pass, over the gathered ids and in fgo_spec. Assumes nothing.
 use Prim.Native.Nat.{ℕ, suc, _+_, _*_, _≤_, _<_}
 use native.Mathlib.Omega.{arith}
 use mathlib.Core.Path.{_≡_, refl, sym, _∙_, subst}
 use mathlib.Core.Bool.{Bool, true, false, cond}
 use mathlib.Core.List.{List, [], _∷_, map, foldl, foldl-append}
 use lib.ListN.{length}
+use Rattle.bounds.specs.Bounds.{DETECTIONS}
 use Rattle.engine.specs.Config.{radius}
-use Rattle.model.specs.Lists.{keep, consIf}
-use Rattle.model.specs.Windows.{Scan, Prefix}
-use Rattle.model.specs.Searching.{Search as Model, Pair, consPair, cuts, pairsWith, pairs, pairStep as onPair, trackStep as onTrack, square}
-use Rattle.model.specs.Rule.{All}
-use Rattle.nearness.specs.Near.{anyClose}
-use Rattle.pair_moves.specs.Pair.{cutsOf}
-use Rattle.search.specs.Pass.{Scene, Search, rowOn, closeOn, pairIf, pairStep, trackStep, sweepOne, sweep, visit}
+use Rattle.fgo_spec.specs.Lists.{keep, consIf}
+use Rattle.fgo_spec.specs.Windows.{Scan, Prefix}
+use Rattle.fgo_spec.specs.Searching.{Search as Model, Pair, consPair, cuts, neighboursOf, neighbours, pairStep as onPair, trackStep as onTrack, square}
+use Rattle.fgo_spec.specs.Rule.{All}
+use Rattle.search_neighbours.specs.Near.{anyClose}
+use Rattle.search_pair.specs.Pair.{cutsOf}
+use Rattle.search.specs.Pass.{Scene, Progress, rowOn, closeOn, pairIf, pairStepOn, trackStepOn, sweepOne, sweep, visit}
 use Rattle.search.proofs.Standing.{Standing, scansNow}
 use Rattle.search.proofs.IdsAscend.{Ascends, ascends-lower}
 use Rattle.search.proofs.CloseCuts.{filled, filled-map, filled-cuts, close-long}
@@ -34,7 +35,7 @@ module _ (e : Scene) (ps : List (ℕ × Prefix)) (ss : List Scan) (laws : PassLa
     Usable b = (b < low) × (Out b → ⊥)
 
     if-tied :
-        (a b : ℕ) → 0 < a → a < b → Usable a → Usable b → (n : ℕ) (s : Search) (q : Model) → Tied e ss Out low p (suc n) s q →
+        (a b : ℕ) → 0 < a → a < b → Usable a → Usable b → (n : ℕ) (s : Progress) (q : Model) → Tied e ss Out low p (suc n) s q →
         Tied e ss Out low p n (pairIf e (closeOn e (rowOn e is a) (rowOn e is b)) a b s)
         (cond (filled (cuts (e .hall .config) (e .hall .first .0) ps (scansNow e ss is) a b))
         (onPair (e .hall .config) (e .hall .first .0) ps q (record { a = a; b = b; cuts = cuts (e .hall .config) (e .hall .first .0) ps (scansNow e ss is) a b })) q)
@@ -57,15 +58,15 @@ module _ (e : Scene) (ps : List (ℕ × Prefix)) (ss : List Scan) (laws : PassLa
         noted : filled those ≡ anyClose close
         noted = filled-map (λ (k : ℕ). e .hall .first .0 + k) (cutsOf close) ∙ filled-cuts close (omega (arith, close-long (square (radius (e .hall .config))) (e .dots) (rowOn e is a) (rowOn e is b)))
 
-        go : (d : Bool) → Tied e ss Out low p n (cond d (pairStep e close a b s) s) (cond d (moved those) q)
+        go : (d : Bool) → Tied e ss Out low p n (cond d (pairStepOn e close a b s) s) (cond d (moved those) q)
         go true = pair-tied e ps ss laws Out low p a b ha (omega arith) (λ d. omega arith) (ua .0) (ub .0) (ua .1) (ub .1) close n s q t
         go false = tied-less e ss Out low p (suc n) n (omega arith) t
 
     sweep-one-tied :
-        (a : ℕ) → 0 < a → Usable a → (l : List ℕ) → Ascends a l → All Usable l → (n : ℕ) (s : Search) (q : Model) → Tied e ss Out low p (length l + n) s q →
+        (a : ℕ) → 0 < a → Usable a → (l : List ℕ) → Ascends a l → All Usable l → (n : ℕ) (s : Progress) (q : Model) → Tied e ss Out low p (length l + n) s q →
         Tied e ss Out low p n (sweepOne e is a l s)
-        (foldl (onPair (e .hall .config) (e .hall .first .0) ps) q (pairsWith (e .hall .config) (e .hall .first .0) ps (scansNow e ss is) a l))
-    unfolding sweepOne pairsWith
+        (foldl (onPair (e .hall .config) (e .hall .first .0) ps) q (neighboursOf (e .hall .config) (e .hall .first .0) ps (scansNow e ss is) a l))
+    unfolding sweepOne neighboursOf
     sweep-one-tied a ha ua [] up us n s q t = tied-less e ss Out low p (0 + n) n (omega arith) t
     sweep-one-tied a ha ua (b ∷ l) up us n s q t =
         subst (Tied e ss Out low p n (sweepOne e is a (b ∷ l) s)) (sym (fold-pair (onPair (e .hall .config) (e .hall .first .0) ps) q a b cs rest))
@@ -76,25 +77,25 @@ module _ (e : Scene) (ps : List (ℕ × Prefix)) (ss : List Scan) (laws : PassLa
         cs = cuts (e .hall .config) (e .hall .first .0) ps (scansNow e ss is) a b
 
         rest : List Pair
-        rest = pairsWith (e .hall .config) (e .hall .first .0) ps (scansNow e ss is) a l
+        rest = neighboursOf (e .hall .config) (e .hall .first .0) ps (scansNow e ss is) a l
 
     pub sweep-tied :
-        (k : ℕ) (l : List ℕ) → Ascends k l → All Usable l → length l ≤ 128 → (n : ℕ) (s : Search) (q : Model) → Tied e ss Out low p (length l * 128 + n) s q →
+        (k : ℕ) (l : List ℕ) → Ascends k l → All Usable l → length l ≤ DETECTIONS → (n : ℕ) (s : Progress) (q : Model) → Tied e ss Out low p (length l * DETECTIONS + n) s q →
         Tied e ss Out low p n (sweep e is l s)
-        (foldl (onPair (e .hall .config) (e .hall .first .0) ps) q (pairs (e .hall .config) (e .hall .first .0) ps (scansNow e ss is) l))
-    unfolding sweep pairs
-    sweep-tied k [] up us few n s q t = tied-less e ss Out low p (0 * 128 + n) n (omega arith) t
+        (foldl (onPair (e .hall .config) (e .hall .first .0) ps) q (neighbours (e .hall .config) (e .hall .first .0) ps (scansNow e ss is) l))
+    unfolding sweep neighbours
+    sweep-tied k [] up us few n s q t = tied-less e ss Out low p (0 * DETECTIONS + n) n (omega arith) t
     sweep-tied k (a ∷ l) up us few n s q t =
         subst (Tied e ss Out low p n (sweep e is (a ∷ l) s)) (sym (foldl-append (onPair (e .hall .config) (e .hall .first .0) ps) q ones rest))
         (sweep-tied a l (up .1) (us .1) (omega arith) n (sweepOne e is a l s) _
-        (sweep-one-tied a (let h = up .0 in omega arith) (us .0) l (up .1) (us .1) (length l * 128 + n) s q
-        (tied-less e ss Out low p (suc (length l) * 128 + n) (length l + (length l * 128 + n)) (omega arith) t)))
+        (sweep-one-tied a (let h = up .0 in omega arith) (us .0) l (up .1) (us .1) (length l * DETECTIONS + n) s q
+        (tied-less e ss Out low p (suc (length l) * DETECTIONS + n) (length l + (length l * DETECTIONS + n)) (omega arith) t)))
       where
         ones : List Pair
-        ones = pairsWith (e .hall .config) (e .hall .first .0) ps (scansNow e ss is) a l
+        ones = neighboursOf (e .hall .config) (e .hall .first .0) ps (scansNow e ss is) a l
 
         rest : List Pair
-        rest = pairs (e .hall .config) (e .hall .first .0) ps (scansNow e ss is) l
+        rest = neighbours (e .hall .config) (e .hall .first .0) ps (scansNow e ss is) l
 
   -- ---- the tracks: those that pass the test f are visited, the others stand nowhere
 
@@ -103,7 +104,7 @@ module _ (e : Scene) (ps : List (ℕ × Prefix)) (ss : List Scan) (laws : PassLa
     Gone x = (x < low) × (f x ≡ false)
 
     pub visit-tied :
-        (l : List ℕ) → All (λ x. (0 < x) × (x < low)) l → (n : ℕ) (s : Search) (q : Model) → Tied e ss Gone low p (length l + n) s q →
+        (l : List ℕ) → All (λ x. (0 < x) × (x < low)) l → (n : ℕ) (s : Progress) (q : Model) → Tied e ss Gone low p (length l + n) s q →
         Tied e ss Gone low p n (visit e l s) (foldl (onTrack (e .hall .config) (e .hall .first .0) ps) q (keep f l))
     unfolding visit keep
     visit-tied [] us n s q t = tied-less e ss Gone low p (0 + n) n (omega arith) t
@@ -114,10 +115,10 @@ module _ (e : Scene) (ps : List (ℕ × Prefix)) (ss : List Scan) (laws : PassLa
 
         go :
             (d : Bool) → f a ≡ d →
-            ((s : Search) (q : Model) → Tied e ss Gone low p (length l + n) s q → Tied e ss Gone low p n (visit e l s) (foldl (onTrack (e .hall .config) (e .hall .first .0) ps) q (keep f l))) →
-            Tied e ss Gone low p n (visit e l (trackStep e a s)) (foldl (onTrack (e .hall .config) (e .hall .first .0) ps) q (consIf d a (keep f l)))
+            ((s : Progress) (q : Model) → Tied e ss Gone low p (length l + n) s q → Tied e ss Gone low p n (visit e l s) (foldl (onTrack (e .hall .config) (e .hall .first .0) ps) q (keep f l))) →
+            Tied e ss Gone low p n (visit e l (trackStepOn e a s)) (foldl (onTrack (e .hall .config) (e .hall .first .0) ps) q (consIf d a (keep f l)))
         go true h r =
-            r (trackStep e a s) (onTrack (e .hall .config) (e .hall .first .0) ps q a)
+            r (trackStepOn e a s) (onTrack (e .hall .config) (e .hall .first .0) ps q a)
             (track-tied e ps ss laws Gone low p a (us .0 .0) (us .0 .1) (λ o. let z : _≡_ {A = ℕ} 0 1 = cc (h, o .1) in omega arith) (λ x o. o .0) (length l + n) s q t′)
         go false h r =
             subst (λ s. Tied e ss Gone low p n (visit e l s) (foldl (onTrack (e .hall .config) (e .hall .first .0) ps) q (keep f l)))

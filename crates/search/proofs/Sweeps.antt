@@ -8,15 +8,15 @@ use mathlib.Core.List.{List}
 use lib.ListN.{getD, take, drop}
 use lib.Ieee.{Float}
 use Rattle.engine.specs.Config.{radius}
-use Rattle.windows.specs.declared.moves.Tally.{Tally}
-use Rattle.windows.specs.Rows.{Tabled}
-use Rattle.model.specs.Searching.{square}
-use Rattle.nearness.specs.Near.{anyClose, rowAt, CloseRows}
-use Rattle.windows.specs.Moves.{pairStays}
-use Rattle.search.specs.Pass.{Scene, rowOn, closeOn, pairBest, pairStep, pairIf, sweepOne, sweep, Listed, Rests, Grows, Due, Stands}
+use Rattle.search_rows.specs.declared.moves.Tally.{Tally}
+use Rattle.search_rows.specs.Rows.{Tabled}
+use Rattle.fgo_spec.specs.Searching.{square}
+use Rattle.search_neighbours.specs.Near.{anyClose, rowAt, CloseRows}
+use Rattle.search_rows.specs.Moves.{pairStays}
+use Rattle.search.specs.Pass.{Scene, progressOf, rowOn, closeOn, pairBest, pairStepOn, pairIf, sweepOne, sweep, IdTable, Rests, Grows, Due, Swept}
 use Rattle.search.proofs.Listing.{listed-next, listed-end}
 use Rattle.search.proofs.Meeting.{table-row, table-close}
-use Rattle.search.proofs.Resting.{at, rest-passes, stay-rests, apart-rests, grows-none, grows-on, rests-grow}
+use Rattle.search.proofs.Resting.{rest-passes, stay-rests, apart-rests, grows-none, grows-on, rests-grow}
 
 -- ---- a pair
 
@@ -24,10 +24,10 @@ use Rattle.search.proofs.Resting.{at, rest-passes, stay-rests, apart-re
 abbrev pub Turned : Scene → ℕ → ℕ → ℕ → List ℕ → List ℕ → List ℕ → Tally → List ℕ → List ℕ → Tally → Type 0
 Turned e n i j table rows ids t ids′ moved′ t′ =
     (is : List ℕ) → Tabled (e .starts) is table n rows →
-    (at ids′ t′ ≡ pairIf e (closeOn e (rowOn e is (getD table i 0)) (rowOn e is (getD table j 0))) (getD table i 0) (getD table j 0) (at ids t))
+    (progressOf ids′ t′ ≡ pairIf e (closeOn e (rowOn e is (getD table i 0)) (rowOn e is (getD table j 0))) (getD table i 0) (getD table j 0) (progressOf ids t))
     × Rests e table rows moved′ i j
 
-module _ {e : Scene} {n i j : ℕ} {table rows ids : List ℕ} {costs : List Float} {moved : List ℕ} {logs : List Float} (t : Tally) (h : i < j) (g : j < n) (s : Stands e n table rows ids costs moved logs) where
+module _ {e : Scene} {n i j : ℕ} {table rows ids : List ℕ} {costs : List Float} {moved : List ℕ} {logs : List Float} (t : Tally) (h : i < j) (g : j < n) (s : Swept e n table rows ids costs moved logs) where
   -- neither row changed since the pair was last looked at
   pub turn-rests :
       {due : List ℕ} → Due e n table rows due → (getD due i 0 ≡ 0) × (getD moved i 0 ≡ 0) × (getD due j 0 ≡ 0) × (getD moved j 0 ≡ 0) →
@@ -35,7 +35,7 @@ module _ {e : Scene} {n i j : ℕ} {table rows ids : List ℕ} {costs : List Flo
   turn-rests d m is b =
       let r = d .pair i j h g .pair (m .0) (m .2) in (
         sym
-            (ap (λ (c : List Bool). pairIf e c (getD table i 0) (getD table j 0) (at ids t)) (sym (λ k. closeOn e (table-row b i (omega arith) k) (table-row b j g k)))
+            (ap (λ (c : List Bool). pairIf e c (getD table i 0) (getD table j 0) (progressOf ids t)) (sym (λ k. closeOn e (table-row b i (omega arith) k) (table-row b j g k)))
             ∙ rest-passes e (getD table i 0) (getD table j 0) ids (s .same i (omega arith) (m .1)) (s .same j g (m .3)) t r),
         record { pair = λ p q. r },
       )
@@ -49,7 +49,7 @@ module _ {e : Scene} {n i j : ℕ} {table rows ids : List ℕ} {costs : List Flo
     pub turn-apart : r ≡ false → Turned e n i j table rows ids t ids moved t
     turn-apart z is b =
         let c = closeOn e (rowOn e is (getD table i 0)) (rowOn e is (getD table j 0)) in (
-          sym (ap (λ (u : Bool). cond u (pairStep e c (getD table i 0) (getD table j 0) (at ids t)) (at ids t)) (sym (is-close is b) ∙ z)),
+          sym (ap (λ (u : Bool). cond u (pairStepOn e c (getD table i 0) (getD table j 0) (progressOf ids t)) (progressOf ids t)) (sym (is-close is b) ∙ z)),
           record {
             pair = λ p q.
                 apart-rests e (getD table i 0) (getD table j 0) (rowAt rows i) (rowAt rows j)
@@ -59,15 +59,15 @@ module _ {e : Scene} {n i j : ℕ} {table rows ids : List ℕ} {costs : List Flo
 
     -- its step is made
     pub turn-steps :
-        {ids′ moved′ : List ℕ} {t′ : Tally} → r ≡ true → at ids′ t′ ≡ pairStep e close (getD table i 0) (getD table j 0) (at ids t) → Grows n moved moved′ →
+        {ids′ moved′ : List ℕ} {t′ : Tally} → r ≡ true → progressOf ids′ t′ ≡ pairStepOn e close (getD table i 0) (getD table j 0) (progressOf ids t) → Grows n moved moved′ →
         (getD moved′ i 0 ≡ 0 → pairStays (pairBest e close (getD table i 0) (getD table j 0) ids) ≡ true) → Turned e n i j table rows ids t ids′ moved′ t′
     turn-steps z step grows stays is b =
         let a = getD table i 0 in
         let d = getD table j 0 in
         let c = closeOn e (rowOn e is a) (rowOn e is d) in (
           step
-              ∙ ap (λ (u : List Bool). pairStep e u a d (at ids t)) (found .scans z ∙ (λ k. closeOn e (table-row b i (omega arith) k) (table-row b j g k)))
-              ∙ sym (ap (λ (u : Bool). cond u (pairStep e c a d (at ids t)) (at ids t)) (sym (is-close is b) ∙ z)),
+              ∙ ap (λ (u : List Bool). pairStepOn e u a d (progressOf ids t)) (found .scans z ∙ (λ k. closeOn e (table-row b i (omega arith) k) (table-row b j g k)))
+              ∙ sym (ap (λ (u : Bool). cond u (pairStepOn e c a d (progressOf ids t)) (progressOf ids t)) (sym (is-close is b) ∙ z)),
           record {
             pair = λ p q.
                 stay-rests e a d ids (s .same i (omega arith) (grows .back i (omega arith) p)) (s .same j g (grows .back j g q)) (found .scans z) (stays p);
@@ -80,21 +80,21 @@ module _ {e : Scene} {n i j : ℕ} {table rows ids : List ℕ} {costs : List Flo
 pub record SweptOne (e : Scene) (n i : ℕ) (table rows ids₀ moved₀ : List ℕ) (t₀ : Tally) (ids : List ℕ) (costs : List Float) (moved : List ℕ) (logs : List Float) (t : Tally) (j : ℕ) : Type 0 where
   pub after : i < j
   pub within : j ≤ n
-  pub stands : Stands e n table rows ids costs moved logs
+  pub stands : Swept e n table rows ids costs moved logs
   pub grows : Grows n moved₀ moved
   pub left :
       (is : List ℕ) → Tabled (e .starts) is table n rows →
-      (sweepOne e is (getD table i 0) (drop (i + 1) (take n table)) (at ids₀ t₀) ≡ sweepOne e is (getD table i 0) (drop j (take n table)) (at ids t))
+      (sweepOne e is (getD table i 0) (drop (i + 1) (take n table)) (progressOf ids₀ t₀) ≡ sweepOne e is (getD table i 0) (drop j (take n table)) (progressOf ids t))
       × ((k : ℕ) → i < k → k < j → Rests e table rows moved i k)
 
-module _ {e : Scene} {n i : ℕ} {table rows ids₀ moved₀ : List ℕ} {t₀ : Tally} (listed : Listed n table) where
-  pub one-start : {costs logs : List Float} → i < n → Stands e n table rows ids₀ costs moved₀ logs → SweptOne e n i table rows ids₀ moved₀ t₀ ids₀ costs moved₀ logs t₀ (i + 1)
+module _ {e : Scene} {n i : ℕ} {table rows ids₀ moved₀ : List ℕ} {t₀ : Tally} (listed : IdTable n table) where
+  pub one-start : {costs logs : List Float} → i < n → Swept e n table rows ids₀ costs moved₀ logs → SweptOne e n i table rows ids₀ moved₀ t₀ ids₀ costs moved₀ logs t₀ (i + 1)
   one-start h s = record { after = omega arith; within = omega arith; stands = s; grows = grows-none n moved₀; left = λ is b. (refl, λ k h g. absurd (omega arith)) }
 
   module _ {ids : List ℕ} {costs : List Float} {moved : List ℕ} {logs : List Float} {t : Tally} {j : ℕ} (o : SweptOne e n i table rows ids₀ moved₀ t₀ ids costs moved logs t j) where
     pub one-next :
         {ids′ : List ℕ} {costs′ : List Float} {moved′ : List ℕ} {logs′ : List Float} {t′ : Tally} → j < n → Turned e n i j table rows ids t ids′ moved′ t′ →
-        Stands e n table rows ids′ costs′ moved′ logs′ → Grows n moved moved′ → SweptOne e n i table rows ids₀ moved₀ t₀ ids′ costs′ moved′ logs′ t′ (j + 1)
+        Swept e n table rows ids′ costs′ moved′ logs′ → Grows n moved moved′ → SweptOne e n i table rows ids₀ moved₀ t₀ ids′ costs′ moved′ logs′ t′ (j + 1)
     unfolding sweepOne
     one-next {moved′} h turn s g =
         record {
@@ -104,7 +104,7 @@ module _ {e : Scene} {n i : ℕ} {table rows ids₀ moved₀ : List ℕ} {t₀ :
           grows = grows-on (o .grows) g;
           left = λ is b. (
             o .left is b .0
-                ∙ ap (λ (l : List ℕ). sweepOne e is (getD table i 0) l (at ids t)) (listed-next listed j h)
+                ∙ ap (λ (l : List ℕ). sweepOne e is (getD table i 0) l (progressOf ids t)) (listed-next listed j h)
                 ∙ ap (sweepOne e is (getD table i 0) (drop (j + 1) (take n table))) (sym (turn is b .0)),
             λ k after before. rests k after before (ℕ-discrete k j) (o .left is b .1) (turn is b .1),
           );
@@ -115,11 +115,11 @@ module _ {e : Scene} {n i : ℕ} {table rows ids₀ moved₀ : List ℕ} {t₀ :
         rests k a b (no q) all one = rests-grow g (omega (arith, o .after)) (omega arith) (all k a (omega arith))
 
     pub one-done : n ≤ j → (is : List ℕ) → Tabled (e .starts) is table n rows →
-        (at ids t ≡ sweepOne e is (getD table i 0) (drop (i + 1) (take n table)) (at ids₀ t₀)) × ((k : ℕ) → i < k → k < n → Rests e table rows moved i k)
+        (progressOf ids t ≡ sweepOne e is (getD table i 0) (drop (i + 1) (take n table)) (progressOf ids₀ t₀)) × ((k : ℕ) → i < k → k < n → Rests e table rows moved i k)
     unfolding sweepOne
     one-done h is b =
         let q : j ≡ n = omega (arith, o .within) in (
-          sym (o .left is b .0 ∙ ap (λ (l : List ℕ). sweepOne e is (getD table i 0) l (at ids t)) (ap (λ (k : ℕ). drop k (take n table)) q ∙ listed-end listed)),
+          sym (o .left is b .0 ∙ ap (λ (l : List ℕ). sweepOne e is (getD table i 0) l (progressOf ids t)) (ap (λ (k : ℕ). drop k (take n table)) q ∙ listed-end listed)),
           λ k a c. o .left is b .1 k a (omega arith),
         )
 
@@ -128,22 +128,22 @@ module _ {e : Scene} {n i : ℕ} {table rows ids₀ moved₀ : List ℕ} {t₀ :
 -- the ids before place i are done, each with all after it
 pub record SweptAll (e : Scene) (n : ℕ) (table rows ids₀ : List ℕ) (t₀ : Tally) (ids : List ℕ) (costs : List Float) (moved : List ℕ) (logs : List Float) (t : Tally) (i : ℕ) : Type 0 where
   pub within : i ≤ n
-  pub stands : Stands e n table rows ids costs moved logs
+  pub stands : Swept e n table rows ids costs moved logs
   pub left :
       (is : List ℕ) → Tabled (e .starts) is table n rows →
-      (sweep e is (take n table) (at ids₀ t₀) ≡ sweep e is (drop i (take n table)) (at ids t))
+      (sweep e is (take n table) (progressOf ids₀ t₀) ≡ sweep e is (drop i (take n table)) (progressOf ids t))
       × ((h k : ℕ) → h < i → h < k → k < n → Rests e table rows moved h k)
 
-module _ {e : Scene} {n : ℕ} {table rows ids₀ : List ℕ} {t₀ : Tally} (listed : Listed n table) where
-  pub all-start : {costs : List Float} {moved : List ℕ} {logs : List Float} → Stands e n table rows ids₀ costs moved logs → SweptAll e n table rows ids₀ t₀ ids₀ costs moved logs t₀ 0
+module _ {e : Scene} {n : ℕ} {table rows ids₀ : List ℕ} {t₀ : Tally} (listed : IdTable n table) where
+  pub all-start : {costs : List Float} {moved : List ℕ} {logs : List Float} → Swept e n table rows ids₀ costs moved logs → SweptAll e n table rows ids₀ t₀ ids₀ costs moved logs t₀ 0
   all-start s = record { within = omega arith; stands = s; left = λ is b. (refl, λ h k a c d. absurd (omega arith)) }
 
   module _ {ids : List ℕ} {costs : List Float} {moved : List ℕ} {logs : List Float} {t : Tally} {i : ℕ} (o : SweptAll e n table rows ids₀ t₀ ids costs moved logs t i) where
     pub all-step :
         {ids′ : List ℕ} {costs′ : List Float} {moved′ : List ℕ} {logs′ : List Float} {t′ : Tally} → i < n →
         ((is : List ℕ) → Tabled (e .starts) is table n rows →
-        (at ids′ t′ ≡ sweepOne e is (getD table i 0) (drop (i + 1) (take n table)) (at ids t)) × ((k : ℕ) → i < k → k < n → Rests e table rows moved′ i k)) →
-        Stands e n table rows ids′ costs′ moved′ logs′ → Grows n moved moved′ → SweptAll e n table rows ids₀ t₀ ids′ costs′ moved′ logs′ t′ (i + 1)
+        (progressOf ids′ t′ ≡ sweepOne e is (getD table i 0) (drop (i + 1) (take n table)) (progressOf ids t)) × ((k : ℕ) → i < k → k < n → Rests e table rows moved′ i k)) →
+        Swept e n table rows ids′ costs′ moved′ logs′ → Grows n moved moved′ → SweptAll e n table rows ids₀ t₀ ids′ costs′ moved′ logs′ t′ (i + 1)
     unfolding sweep
     all-step {moved′} h step s g =
         record {
@@ -151,7 +151,7 @@ module _ {e : Scene} {n : ℕ} {table rows ids₀ : List ℕ} {t₀ : Tally} (li
           stands = s;
           left = λ is b. (
             o .left is b .0
-                ∙ ap (λ (l : List ℕ). sweep e is l (at ids t)) (listed-next listed i h)
+                ∙ ap (λ (l : List ℕ). sweep e is l (progressOf ids t)) (listed-next listed i h)
                 ∙ ap (sweep e is (drop (i + 1) (take n table))) (sym (step is b .0)),
             λ m k a c d. rests m k a c d (ℕ-discrete m i) (o .left is b .1) (step is b .1),
           );
@@ -163,10 +163,10 @@ module _ {e : Scene} {n : ℕ} {table rows ids₀ : List ℕ} {t₀ : Tally} (li
         rests m k a c d (no q) all one = rests-grow g (omega arith) d (all m k (omega arith) c d)
 
     pub all-done : n ≤ i → (is : List ℕ) → Tabled (e .starts) is table n rows →
-        (at ids t ≡ sweep e is (take n table) (at ids₀ t₀)) × ((h k : ℕ) → h < k → k < n → Rests e table rows moved h k)
+        (progressOf ids t ≡ sweep e is (take n table) (progressOf ids₀ t₀)) × ((h k : ℕ) → h < k → k < n → Rests e table rows moved h k)
     unfolding sweep
     all-done h is b =
         let q : i ≡ n = omega (arith, o .within) in (
-          sym (o .left is b .0 ∙ ap (λ (l : List ℕ). sweep e is l (at ids t)) (ap (λ (k : ℕ). drop k (take n table)) q ∙ listed-end listed)),
+          sym (o .left is b .0 ∙ ap (λ (l : List ℕ). sweep e is l (progressOf ids t)) (ap (λ (k : ℕ). drop k (take n table)) q ∙ listed-end listed)),
           λ m k c d. o .left is b .1 m k (omega arith) c d,
         )

@@ -9,20 +9,21 @@ use mathlib.Core.List.{List}
 use lib.ListN.{length, getD, set, take, drop, length-set}
 use lib.Seq.{getD-set-same, getD-set-other}
 use lib.Ieee.{Float, nan}
-use Rattle.costs.specs.Cost.{Kept}
-use Rattle.windows.specs.declared.moves.Tally.{Tally}
-use Rattle.windows.specs.Rows.{Starts}
-use Rattle.nearness.specs.Near.{rowAt}
-use Rattle.search.specs.Pass.{Scene, Search, rowOn, costOn, trackStep, trackRest, visit, Listed, Grows, Due, Stands, Visits, Stepped}
+use Rattle.bounds.specs.Bounds.{DETECTIONS}
+use Rattle.cost.specs.Cost.{LogsKept}
+use Rattle.search_rows.specs.declared.moves.Tally.{Tally}
+use Rattle.search_rows.specs.Rows.{Starts}
+use Rattle.search_neighbours.specs.Near.{rowAt}
+use Rattle.search.specs.Pass.{Scene, Progress, progressOf, rowOn, costOn, trackStepOn, trackRest, visit, IdTable, Grows, Due, Swept, Visits, TrackStepped}
 use Rattle.search.proofs.Listing.{listed-apart, listed-next, listed-end}
 use Rattle.search.proofs.Costing.{cost-stays}
 use Rattle.search.proofs.Stepping.{track-step-other}
-use Rattle.search.proofs.Resting.{at, track-passes, grows-none, grows-on}
+use Rattle.search.proofs.Resting.{track-passes, grows-none, grows-on}
 
 -- ---- the step of a track
 
-module _ {e : Scene} {i a : ℕ} {base : Float} {ids : List ℕ} {costs : List Float} {moved : List ℕ} (all : length ids ≡ 128) (long : length costs ≡ 128) (marks : length moved ≡ 128) where
-  pub stepped-none : base ≡ costOn e ids a → trackRest e a (rowOn e ids a) ≡ true → Stepped e i a base ids costs moved ids costs moved
+module _ {e : Scene} {i a : ℕ} {base : Float} {ids : List ℕ} {costs : List Float} {moved : List ℕ} (all : length ids ≡ DETECTIONS) (long : length costs ≡ DETECTIONS) (marks : length moved ≡ DETECTIONS) where
+  pub stepped-none : base ≡ costOn e ids a → trackRest e a (rowOn e ids a) ≡ true → TrackStepped e i a base ids costs moved ids costs moved
   stepped-none q r =
       record {
         all = all;
@@ -35,7 +36,7 @@ module _ {e : Scene} {i a : ℕ} {base : Float} {ids : List ℕ} {costs : List F
         rested = λ z. r;
       }
 
-  pub stepped-made : {ids′ : List ℕ} → i < 128 → length ids′ ≡ 128 → (v : Float) → v ≡ costOn e ids′ a → Stepped e i a base ids costs moved ids′ (set costs i v) (set moved i 2)
+  pub stepped-made : {ids′ : List ℕ} → i < DETECTIONS → length ids′ ≡ DETECTIONS → (v : Float) → v ≡ costOn e ids′ a → TrackStepped e i a base ids costs moved ids′ (set costs i v) (set moved i 2)
   stepped-made h l v q =
       record {
         all = l;
@@ -53,7 +54,7 @@ module _ {e : Scene} {i a : ℕ} {base : Float} {ids : List ℕ} {costs : List F
 
 -- ---- a turn of the loop
 
-pub visits-start : {e : Scene} {n : ℕ} {table rows ids : List ℕ} {costs : List Float} {moved : List ℕ} {logs : List Float} (next : ℕ) → Stands e n table rows ids costs moved logs → Visits e n table rows next 0 ids costs moved logs
+pub visits-start : {e : Scene} {n : ℕ} {table rows ids : List ℕ} {costs : List Float} {moved : List ℕ} {logs : List Float} (next : ℕ) → Swept e n table rows ids costs moved logs → Visits e n table rows next 0 ids costs moved logs
 visits-start next s =
     record {
       all = s .costed .all;
@@ -66,11 +67,11 @@ visits-start next s =
       rested = λ k h l z. absurd (omega arith);
     }
 
-module _ {e : Scene} {n : ℕ} {table rows : List ℕ} {next i : ℕ} {ids : List ℕ} {costs : List Float} {moved : List ℕ} {logs : List Float} (listed : Listed n table) (h : i < n) (v : Visits e n table rows next i ids costs moved logs) where
+module _ {e : Scene} {n : ℕ} {table rows : List ℕ} {next i : ℕ} {ids : List ℕ} {costs : List Float} {moved : List ℕ} {logs : List Float} (listed : IdTable n table) (h : i < n) (v : Visits e n table rows next i ids costs moved logs) where
   -- its row did not change since it was last visited
   pub visits-past :
       {due : List ℕ} (t : Tally) → Due e n table rows due → getD table i 0 < next → (getD due i 0 < 2) × (getD moved i 0 ≡ 0) →
-      (at ids t ≡ trackStep e (getD table i 0) (at ids t)) × Visits e n table rows next (i + 1) ids costs moved logs
+      (progressOf ids t ≡ trackStepOn e (getD table i 0) (progressOf ids t)) × Visits e n table rows next (i + 1) ids costs moved logs
   visits-past t d b m = (
     track-passes e (getD table i 0) ids t rest,
     record {
@@ -93,12 +94,12 @@ module _ {e : Scene} {n : ℕ} {table rows : List ℕ} {next i : ℕ} {ids : Lis
       rested k l below z (no q) = v .rested k (omega arith) below z
 
   -- its step was made
-  module _ (t : Tally) {t′ : Tally} {base : Float} {ids′ : List ℕ} {costs′ : List Float} {moved′ : List ℕ} (begins : Starts (e .starts)) (from : next ≤ t .next) (step : at ids′ t′ ≡ trackStep e (getD table i 0) (at ids t)) (s : Stepped e i (getD table i 0) base ids costs moved ids′ costs′ moved′) where
+  module _ (t : Tally) {t′ : Tally} {base : Float} {ids′ : List ℕ} {costs′ : List Float} {moved′ : List ℕ} (begins : Starts (e .starts)) (from : next ≤ t .«next_id» .0) (step : progressOf ids′ t′ ≡ trackStepOn e (getD table i 0) (progressOf ids t)) (s : TrackStepped e i (getD table i 0) base ids costs moved ids′ costs′ moved′) where
     -- the rows of the others are as before
     others : (k : ℕ) → k < n → getD table k 0 < next → (k ≡ i → ⊥) → rowOn e ids′ (getD table k 0) ≡ rowOn e ids (getD table k 0)
     others k b below q =
-        ap (λ (s : Search). rowOn e (s .ids) (getD table k 0)) step
-        ∙ track-step-other e begins (getD table i 0) (at ids t) (v .all) .0 (getD table k 0) (listed .above k b) (listed-apart listed k i b h q) (le-trans below from)
+        ap (λ (s : Progress). rowOn e (s .ids) (getD table k 0)) step
+        ∙ track-step-other e begins (getD table i 0) (progressOf ids t) (v .all) .0 (getD table k 0) (listed .above k b) (listed-apart listed k i b h q) (le-trans below from)
 
     pub visits-grow : Grows n moved moved′
     visits-grow = record { back = λ k b z. go k z (ℕ-discrete k i) }
@@ -130,7 +131,7 @@ module _ {e : Scene} {n : ℕ} {table rows : List ℕ} {next i : ℕ} {ids : Lis
         ap (trackRest e (getD table k 0)) (others k (omega arith) below q)
         ∙ v .rested k (omega arith) below (subst (λ (m : ℕ). m < 2) (s .marks-other k q) z)
 
-    pub visits-on : {logs′ : List Float} → (getD table i 0 < next → getD costs i nan ≡ base) → Kept logs′ → Visits e n table rows next (i + 1) ids′ costs′ moved′ logs′
+    pub visits-on : {logs′ : List Float} → (getD table i 0 < next → getD costs i nan ≡ base) → LogsKept logs′ → Visits e n table rows next (i + 1) ids′ costs′ moved′ logs′
     visits-on paid kept =
         record {
           all = s .all;
@@ -148,38 +149,38 @@ module _ {e : Scene} {n : ℕ} {table rows : List ℕ} {next i : ℕ} {ids : Lis
 -- those before place i are done
 pub record Visited (e : Scene) (n : ℕ) (table rows ids₀ moved₀ : List ℕ) (t₀ : Tally) (ids : List ℕ) (costs : List Float) (moved : List ℕ) (logs : List Float) (t : Tally) (i : ℕ) : Type 0 where
   pub within : i ≤ n
-  pub from : t₀ .next ≤ t .next
-  pub visits : Visits e n table rows (t₀ .next) i ids costs moved logs
+  pub from : t₀ .«next_id» .0 ≤ t .«next_id» .0
+  pub visits : Visits e n table rows (t₀ .«next_id» .0) i ids costs moved logs
   pub grows : Grows n moved₀ moved
-  pub left : visit e (take n table) (at ids₀ t₀) ≡ visit e (drop i (take n table)) (at ids t)
+  pub left : visit e (take n table) (progressOf ids₀ t₀) ≡ visit e (drop i (take n table)) (progressOf ids t)
 
-module _ {e : Scene} {n : ℕ} {table rows ids₀ moved₀ : List ℕ} {t₀ : Tally} (listed : Listed n table) where
-  pub visit-start : {costs logs : List Float} → Stands e n table rows ids₀ costs moved₀ logs → Visited e n table rows ids₀ moved₀ t₀ ids₀ costs moved₀ logs t₀ 0
-  visit-start s = record { within = omega arith; from = le-refl (t₀ .next); visits = visits-start (t₀ .next) s; grows = grows-none n moved₀; left = refl }
+module _ {e : Scene} {n : ℕ} {table rows ids₀ moved₀ : List ℕ} {t₀ : Tally} (listed : IdTable n table) where
+  pub visit-start : {costs logs : List Float} → Swept e n table rows ids₀ costs moved₀ logs → Visited e n table rows ids₀ moved₀ t₀ ids₀ costs moved₀ logs t₀ 0
+  visit-start s = record { within = omega arith; from = le-refl (t₀ .«next_id» .0); visits = visits-start (t₀ .«next_id» .0) s; grows = grows-none n moved₀; left = refl }
 
   module _ {ids : List ℕ} {costs : List Float} {moved : List ℕ} {logs : List Float} {t : Tally} {i : ℕ} (o : Visited e n table rows ids₀ moved₀ t₀ ids costs moved logs t i) where
     pub visit-step :
         {ids′ : List ℕ} {costs′ : List Float} {moved′ : List ℕ} {logs′ : List Float} {t′ : Tally} → Starts (e .starts) → i < n →
-        at ids′ t′ ≡ trackStep e (getD table i 0) (at ids t) → Visits e n table rows (t₀ .next) (i + 1) ids′ costs′ moved′ logs′ → Grows n moved moved′ →
+        progressOf ids′ t′ ≡ trackStepOn e (getD table i 0) (progressOf ids t) → Visits e n table rows (t₀ .«next_id» .0) (i + 1) ids′ costs′ moved′ logs′ → Grows n moved moved′ →
         Visited e n table rows ids₀ moved₀ t₀ ids′ costs′ moved′ logs′ t′ (i + 1)
     unfolding visit
     visit-step begins h step v g =
         record {
           within = omega arith;
-          from = le-trans (o .from) (subst (λ (s : Search). t .next ≤ s .tally .next) (sym step) (track-step-other e begins (getD table i 0) (at ids t) (o .visits .all) .1));
+          from = le-trans (o .from) (subst (λ (s : Progress). t .«next_id» .0 ≤ s .tally .«next_id» .0) (sym step) (track-step-other e begins (getD table i 0) (progressOf ids t) (o .visits .all) .1));
           visits = v;
           grows = grows-on (o .grows) g;
           left =
               o .left
-              ∙ ap (λ (l : List ℕ). visit e l (at ids t)) (listed-next listed i h)
+              ∙ ap (λ (l : List ℕ). visit e l (progressOf ids t)) (listed-next listed i h)
               ∙ ap (visit e (drop (i + 1) (take n table))) (sym step);
         }
 
-    pub visit-done : n ≤ i → (at ids t ≡ visit e (take n table) (at ids₀ t₀)) × Visits e n table rows (t₀ .next) n ids costs moved logs × Grows n moved₀ moved
+    pub visit-done : n ≤ i → (progressOf ids t ≡ visit e (take n table) (progressOf ids₀ t₀)) × Visits e n table rows (t₀ .«next_id» .0) n ids costs moved logs × Grows n moved₀ moved
     unfolding visit
     visit-done h =
         let q : i ≡ n = omega (arith, o .within) in (
-          sym (o .left ∙ ap (λ (l : List ℕ). visit e l (at ids t)) (ap (λ (k : ℕ). drop k (take n table)) q ∙ listed-end listed)),
-          subst (λ (k : ℕ). Visits e n table rows (t₀ .next) k ids costs moved logs) q (o .visits),
+          sym (o .left ∙ ap (λ (l : List ℕ). visit e l (progressOf ids t)) (ap (λ (k : ℕ). drop k (take n table)) q ∙ listed-end listed)),
+          subst (λ (k : ℕ). Visits e n table rows (t₀ .«next_id» .0) k ids costs moved logs) q (o .visits),
           o .grows,
         )

@@ -9,15 +9,15 @@ use lib.ListN.{length, take, drop}
 use lib.Dec.{ltb, leb}
 use borrow.Author.Tests.{ne-eqb}
 use Rattle.engine.specs.declared.config.FgoConfig.{FgoConfig}
-use Rattle.costs.specs.Cost.{Det, View, detAt, dets}
-use Rattle.model.specs.Lists.{keep, consIf}
-use Rattle.model.specs.Windows.{Dot, detOf}
-use Rattle.model.specs.Rule.{All}
-use Rattle.model.specs.Faithful.{before, from, joined}
-use Rattle.model.proofs.All.{map-All}
-use Rattle.model.proofs.Merging.{join-left, join-right, join-both}
-use Rattle.pricing.specs.Price.{crossed}
-use Rattle.merging.specs.Merge.{keptSlot, mergedRow}
+use Rattle.cost.specs.Cost.{Measurement, View, measurementAt, measurements}
+use Rattle.fgo_spec.specs.Lists.{keep, consIf}
+use Rattle.fgo_spec.specs.Windows.{Detection, measure}
+use Rattle.fgo_spec.specs.Rule.{All}
+use Rattle.fgo_spec.specs.Faithful.{before, from, joined}
+use Rattle.fgo_spec.proofs.All.{map-All}
+use Rattle.fgo_spec.proofs.Merging.{join-left, join-right, join-both}
+use Rattle.cost_row.specs.Price.{crossed}
+use Rattle.search_merge.specs.Merge.{keptSlot, mergedRow}
 use Rattle.search.proofs.RowDets.{dets-from, dets-before, dets-onward, dets-cut}
 
 -- ---- lists
@@ -75,42 +75,42 @@ kept-both own i j = rw (ne-eqb (suc i) 0 (λ e. omega arith), ne-eqb (suc j) 0 (
 
 module _ (c : FgoConfig) (v : View) where
   -- the window's detections are the row's
-  abbrev pub Rowed : List Dot → List ℕ → Type 0
-  Rowed w r = map (detOf c) w ≡ dets v 0 r
+  abbrev pub Rowed : List Detection → List ℕ → Type 0
+  Rowed w r = map (measure c) w ≡ measurements v 0 r
 
-  pub row-before : (n : ℕ) (w : List Dot) (r : List ℕ) → Rowed w r → map (detOf c) (before (v .first + n) w) ≡ dets v 0 (take n r)
+  pub row-before : (n : ℕ) (w : List Detection) (r : List ℕ) → Rowed w r → map (measure c) (before (v .first + n) w) ≡ measurements v 0 (take n r)
   row-before n w r h =
-      let g : Det → Bool = λ d. ltb (d .scan) (v .first + n) in
-      map-keep (detOf c) g w ∙ ap (keep g) h ∙ dets-before v n r
+      let g : Measurement → Bool = λ d. ltb (d .scan) (v .first + n) in
+      map-keep (measure c) g w ∙ ap (keep g) h ∙ dets-before v n r
 
-  pub row-from : (n : ℕ) (w : List Dot) (r : List ℕ) → Rowed w r → map (detOf c) (from (v .first + n) w) ≡ dets v n (drop n r)
+  pub row-from : (n : ℕ) (w : List Detection) (r : List ℕ) → Rowed w r → map (measure c) (from (v .first + n) w) ≡ measurements v n (drop n r)
   row-from n w r h =
-      let g : Det → Bool = λ d. leb (v .first + n) (d .scan) in
-      map-keep (detOf c) g w ∙ ap (keep g) h ∙ dets-onward v n r
+      let g : Measurement → Bool = λ d. leb (v .first + n) (d .scan) in
+      map-keep (measure c) g w ∙ ap (keep g) h ∙ dets-onward v n r
 
   -- one window's part before a cut and another's from it on
   pub row-crossed :
-      (n : ℕ) (w u : List Dot) (a b : List ℕ) → length a ≡ length b → Rowed w a → Rowed u b →
+      (n : ℕ) (w u : List Detection) (a b : List ℕ) → length a ≡ length b → Rowed w a → Rowed u b →
       Rowed (before (v .first + n) w ++ from (v .first + n) u) (crossed n a b)
   row-crossed n w u a b e h g =
-      map-append (detOf c) (before (v .first + n) w) (from (v .first + n) u)
+      map-append (measure c) (before (v .first + n) w) (from (v .first + n) u)
       ∙ (λ i. row-before n w a h i ++ row-from n u b g i)
       ∙ sym (dets-cut v n a b e)
 
   -- ---- two windows as one
 
   -- of a row from place k + 1 on, later than scan k
-  row-later : (k : ℕ) (r : List ℕ) (w : List Dot) → map (detOf c) w ≡ dets v (suc k) r → All (λ (d : Dot). suc (v .first + k) ≤ d .scan) w
+  row-later : (k : ℕ) (r : List ℕ) (w : List Detection) → map (measure c) w ≡ measurements v (suc k) r → All (λ (d : Detection). suc (v .first + k) ≤ d .scan) w
   row-later k r w h =
-      map-All Later (detOf c) w (subst (All Later) (sym h) (subst (λ (n : ℕ). All (λ (d : Det). n ≤ d .scan) (dets v (suc k) r)) (add-suc (v .first) k) (dets-from v (suc k) r)))
+      map-All Later (measure c) w (subst (All Later) (sym h) (subst (λ (n : ℕ). All (λ (d : Measurement). n ≤ d .scan) (measurements v (suc k) r)) (add-suc (v .first) k) (dets-from v (suc k) r)))
     where
-      Later : Det → Type 0
+      Later : Measurement → Type 0
       Later d = suc (v .first + k) ≤ d .scan
 
   pub row-joined :
-      (own : Bool) (k : ℕ) (a b : List ℕ) (w u : List Dot) → length a ≡ length b → map (detOf c) w ≡ dets v k a → map (detOf c) u ≡ dets v k b →
-      map (detOf c) (joined own w u) ≡ dets v k (mergedRow own a b)
-  unfolding dets mergedRow
+      (own : Bool) (k : ℕ) (a b : List ℕ) (w u : List Detection) → length a ≡ length b → map (measure c) w ≡ measurements v k a → map (measure c) u ≡ measurements v k b →
+      map (measure c) (joined own w u) ≡ measurements v k (mergedRow own a b)
+  unfolding measurements mergedRow
   row-joined own k [] (y ∷ b) w u e h g = absurd (omega arith)
   row-joined own k (x ∷ a) [] w u e h g = absurd (omega arith)
   row-joined own k [] [] (d ∷ w) u e h g = absurd (cons≢nil h)
@@ -119,18 +119,18 @@ module _ (c : FgoConfig) (v : View) where
   row-joined own k (zero ∷ a) (zero ∷ b) w u e h g = row-joined own (suc k) a b w u (omega arith) h g
   row-joined own k (suc i ∷ a) (zero ∷ b) [] u e h g = absurd (nil≢cons h)
   row-joined own k (suc i ∷ a) (zero ∷ b) (d ∷ w) u e h g =
-      ap (map (detOf c)) (join-left own (v .first + k) d (ap (λ (d : Det). d .scan) (head-eq-of-cons-eq h)) w u (row-later k b u g))
+      ap (map (measure c)) (join-left own (v .first + k) d (ap (λ (d : Measurement). d .scan) (head-eq-of-cons-eq h)) w u (row-later k b u g))
       ∙ (λ z. head-eq-of-cons-eq h z ∷ row-joined own (suc k) a b w u (omega arith) (tail-eq-of-cons-eq h) g z)
-      ∙ ap (λ (s : ℕ). dets v k (s ∷ mergedRow own a b)) (sym (kept-left own i))
+      ∙ ap (λ (s : ℕ). measurements v k (s ∷ mergedRow own a b)) (sym (kept-left own i))
   row-joined own k (zero ∷ a) (suc j ∷ b) w [] e h g = absurd (nil≢cons g)
   row-joined own k (zero ∷ a) (suc j ∷ b) w (d ∷ u) e h g =
-      ap (map (detOf c)) (join-right own (v .first + k) d (ap (λ (d : Det). d .scan) (head-eq-of-cons-eq g)) w u (row-later k a w h))
+      ap (map (measure c)) (join-right own (v .first + k) d (ap (λ (d : Measurement). d .scan) (head-eq-of-cons-eq g)) w u (row-later k a w h))
       ∙ (λ z. head-eq-of-cons-eq g z ∷ row-joined own (suc k) a b w u (omega arith) h (tail-eq-of-cons-eq g) z)
   row-joined own k (suc i ∷ a) (suc j ∷ b) [] u e h g = absurd (nil≢cons h)
   row-joined own k (suc i ∷ a) (suc j ∷ b) (d ∷ w) [] e h g = absurd (nil≢cons g)
   row-joined own k (suc i ∷ a) (suc j ∷ b) (d ∷ w) (m ∷ u) e h g =
       let p = head-eq-of-cons-eq h in
       let q = head-eq-of-cons-eq g in
-      ap (map (detOf c)) (join-both own (v .first + k) d (ap (λ (d : Det). d .scan) p) m (ap (λ (d : Det). d .scan) q) w u)
-      ∙ (λ z. (cond-ap (detOf c) own d m ∙ (λ y. cond own (p y) (q y)) ∙ sym (cond-ap (detAt v k) own i j)) z ∷ row-joined own (suc k) a b w u (omega arith) (tail-eq-of-cons-eq h) (tail-eq-of-cons-eq g) z)
-      ∙ ap (λ (s : ℕ). dets v k (s ∷ mergedRow own a b)) (sym (kept-both own i j))
+      ap (map (measure c)) (join-both own (v .first + k) d (ap (λ (d : Measurement). d .scan) p) m (ap (λ (d : Measurement). d .scan) q) w u)
+      ∙ (λ z. (cond-ap (measure c) own d m ∙ (λ y. cond own (p y) (q y)) ∙ sym (cond-ap (measurementAt v k) own i j)) z ∷ row-joined own (suc k) a b w u (omega arith) (tail-eq-of-cons-eq h) (tail-eq-of-cons-eq g) z)
+      ∙ ap (λ (s : ℕ). measurements v k (s ∷ mergedRow own a b)) (sym (kept-both own i j))

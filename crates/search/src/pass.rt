@@ -1,49 +1,46 @@
 // The passes of the search: every pair of tracks that come close, then every track.
-use costs::cost::DETECTIONS;
-use costs::cost::DOTS;
-use costs::cost::LOGS;
-use costs::cost::SCANS;
+use bounds::DETECTIONS;
+use bounds::DOTS;
+use bounds::FILTERS;
+use bounds::LOGS;
+use bounds::PARTS;
+use bounds::ROW;
+use bounds::ROWS;
+use bounds::SCANS;
+use bounds::STARTS;
+use cost_row::Hall;
 use engine::types::RefinedId;
-use model::moves::FgoCounters;
-use nearness::near;
-use pair_moves::pair;
-use pricing::price;
-use pricing::price::FILTERS;
-use pricing::price::Hall;
-use pricing::price::TRACKS;
-use track_moves::track;
-use windows::moves;
-use windows::moves::Tally;
-use windows::rows;
-use windows::rows::ENTRY;
-use windows::rows::ROWS;
-use windows::rows::STARTS;
+use fgo_spec::moves::FgoCounters;
+use search_rows::moves;
+use search_rows::moves::Tally;
+use search_rows::rows;
 ghost use mathlib.Core.Path.{_≡_};
 ghost use mathlib.Core.Bool.{true, false};
 ghost use mathlib.Core.List.{List};
 ghost use Prim.Native.Nat.{ℕ, _+_, _-_, _≤_, _<_, max, min};
 ghost use lib.ListN.{length, getD, take, drop, replicate};
-ghost use Rattle.costs.specs.Cost.{Kept};
-ghost use Rattle.model.specs.Windows.{Scan, Prefix};
+ghost use Rattle.bounds.specs.Bounds.{SCANS, DETECTIONS, ROWS};
+ghost use Rattle.cost.specs.Cost.{LogsKept};
+ghost use Rattle.fgo_spec.specs.Windows.{Scan, Prefix};
 ghost use Rattle.engine.specs.Config.{radius, maxPasses};
-ghost use Rattle.model.specs.Searching.{square};
-ghost use Rattle.nearness.specs.Near.{rowAt, Entered, CloseRows};
-ghost use Rattle.windows.specs.Moves.{pairStays};
-ghost use Rattle.windows.specs.Rows.{Starts, rowOf, presentIn, Begins, Tabled};
-ghost use Rattle.search.specs.Pass.{Search, sceneOf, rowOn, costOn, closeOn, pairBest, pairStep, pairIf, trackStep, sweepOne, sweep, visit, passOver, passesOver, Able, Listed, Rests, Grows, Due, Stands, Visits, Stepped, Left, Carried, Tables};
-ghost use Rattle.search.specs.Gathered.{Gathered, Finds};
+ghost use Rattle.fgo_spec.specs.Searching.{square};
+ghost use Rattle.search_neighbours.specs.Near.{rowAt, Entered, CloseRows};
+ghost use Rattle.search_rows.specs.Moves.{pairStays};
+ghost use Rattle.search_rows.specs.Rows.{Starts, rowOf, presentIn, Begins, Tabled};
+ghost use Rattle.search.specs.Pass.{progressOf, sceneOf, rowOn, costOn, closeOn, pairBest, pairStepOn, pairIf, trackStepOn, sweepOne, sweep, visit, passOver, passesOver, Able, IdTable, Rests, Grows, Due, Swept, Visits, TrackStepped, Left, Carried, Tables};
+ghost use Rattle.search.specs.Represents.{Represents, Finds};
 
-// The marks of a pass: 0 for a row that has not moved in it, 1 for one that a pair moved, 2 for one that its own track's step moved. So they say what is due in the next: nothing,
-// the row's pairs, or its pairs and its track; 2 for a track that is new.
+// The marks of a pass: 0 for a row that has not moved in it, 1 for one that a pair moved, 2 for one that its own track's step moved. So they say what is due in
+// the next: nothing, the row's pairs, or its pairs and its track; 2 for a track that is new.
 
 // What a pass leaves to the next beside its tables: how many tracks it listed, and the next id before it visited them.
 struct Last {
     count: usize,
-    next: u64,
+    next_id: RefinedId,
 }
 
 // A pass that ran: its tally, and what it leaves.
-struct Passed {
+struct PassDone {
     tally: Tally,
     last: Last,
 }
@@ -51,31 +48,33 @@ struct Passed {
 // What the window of x costs.
 fn track_cost<'a>(
     hall: Hall,
-    x: u64,
+    x: RefinedId,
     starts: &'a [usize; STARTS],
     dots: &'a [f64; DOTS],
-    tracks: &'a [u64; TRACKS],
+    tracks: &'a [u64; PARTS],
     filters: &'a [f64; FILTERS],
     ids: &'a [u64; DETECTIONS],
     logs: &mut [f64; LOGS],
 ) -> f64
-    requires { ⌜ Able (sceneOf hall (now starts) (now dots) (now tracks) (now filters)) × (length (now ids) ≡ 128) × Kept (now logs) ⌝ }
-    ensures { λ r. ⌜ (r ≡ costOn (sceneOf hall (now (starts .entry)) (now (dots .entry)) (now (tracks .entry)) (now (filters .entry))) (now (ids .entry)) x) × Kept (now (logs .exit)) ⌝ }
+    requires { let e = sceneOf hall (now starts) (now dots) (now tracks) (now filters) in ⌜ Able e × (length (now ids) ≡ DETECTIONS) × LogsKept (now logs) ⌝ }
+    ensures { λ r. let e = sceneOf hall (now (starts .entry)) (now (dots .entry)) (now (tracks .entry)) (now (filters .entry)) in
+        ⌜ r ≡ costOn e (now (ids .entry)) (x .0) ⌝ }
+    ensures { λ r. ⌜ LogsKept (now (logs .exit)) ⌝ }
 {
     let mut row = [0usize; SCANS];
     rows::fill_row(x, starts, ids, &mut row);
-    let p = price::part_of(x, hall.frozen, tracks, filters);
+    let p = cost_row::fold_from(x, hall.frozen, tracks, filters);
     let end = rows::end_of(&row);
-    price::row_cost(hall, p, &row, end, dots, logs)
+    cost_row::row_cost(hall, p, &row, end, dots, logs)
 }
 
 // The first place, from one on, whose id is not below x; n where there is none.
-fn seek(x: u64, from: usize, n: usize, table: &[u64; DETECTIONS]) -> usize
-    requires { ⌜ (n ≤ 128) × (length (now table) ≡ 128) ⌝ }
+fn seek(x: RefinedId, from: usize, n: usize, table: &[u64; DETECTIONS]) -> usize
+    requires { ⌜ (n ≤ DETECTIONS) × (length (now table) ≡ DETECTIONS) ⌝ }
 {
     let mut k = from;
     while k < n {
-        if x <= table[k] {
+        if x.0 <= table[k] {
             return k;
         }
         k += 1;
@@ -84,13 +83,13 @@ fn seek(x: u64, from: usize, n: usize, table: &[u64; DETECTIONS]) -> usize
 }
 
 // The id x stood at place k of the last pass, and was given out before that pass began.
-fn stood(x: u64, k: usize, last: Last, old: &[u64; DETECTIONS]) -> bool
-    requires { ⌜ (last .count ≤ 128) × (length (now old) ≡ 128) ⌝ }
-    ensures { λ r. ⌜ (r ≡ true → (k < last .count) × (x < last .next) × (getD (now (old .entry)) k 0 ≡ x)) ⌝ }
+fn stood(x: RefinedId, k: usize, last: Last, old: &[u64; DETECTIONS]) -> bool
+    requires { ⌜ (last .count ≤ DETECTIONS) × (length (now old) ≡ DETECTIONS) ⌝ }
+    ensures { λ r. ⌜ (r ≡ true → (k < last .count) × (x .0 < last .«next_id» .0) × (getD (now (old .entry)) k 0 ≡ x .0)) ⌝ }
 {
     if k < last.count {
-        if x < last.next {
-            return old[k] == x;
+        if x.0 < last.next_id.0 {
+            return old[k] == x.0;
         }
     }
     false
@@ -108,17 +107,21 @@ fn carry<'a>(
     table: &'a [u64; DETECTIONS],
     starts: &'a [usize; STARTS],
     dots: &'a [f64; DOTS],
-    tracks: &'a [u64; TRACKS],
+    tracks: &'a [u64; PARTS],
     filters: &'a [f64; FILTERS],
     ids: &'a [u64; DETECTIONS],
     costs: &mut [f64; DETECTIONS],
     due: &mut [u64; DETECTIONS],
     logs: &mut [f64; LOGS],
 )
-    requires { ⌜ Able (sceneOf hall (now starts) (now dots) (now tracks) (now filters)) × (i < 128) × (length (now table) ≡ 128) × Left (sceneOf hall (now starts) (now dots) (now tracks) (now filters)) (last .count) (last .next) (now old) (now ids) (now paid) (now moved) × Carried (sceneOf hall (now starts) (now dots) (now tracks) (now filters)) (last .count) (last .next) (now old) (now moved) (now table) (now ids) i (now costs) (now due) (now logs) ⌝ }
-    ensures { λ r. ⌜ Carried (sceneOf hall (now (starts .entry)) (now (dots .entry)) (now (tracks .entry)) (now (filters .entry))) (last .count) (last .next) (now (old .entry)) (now (moved .entry)) (now (table .entry)) (now (ids .entry)) (i + 1) (now (costs .exit)) (now (due .exit)) (now (logs .exit)) ⌝ }
+    requires { let e = sceneOf hall (now starts) (now dots) (now tracks) (now filters) in
+        ⌜ Able e × (i < DETECTIONS) × (length (now table) ≡ DETECTIONS) × Left e (last .count) (last .«next_id» .0) (now old) (now ids) (now paid) (now moved)
+        × Carried e (last .count) (last .«next_id» .0) (now old) (now moved) (now table) (now ids) i (now costs) (now due) (now logs) ⌝ }
+    ensures { λ r. let e = sceneOf hall (now (starts .entry)) (now (dots .entry)) (now (tracks .entry)) (now (filters .entry)) in
+        ⌜ Carried e (last .count) (last .«next_id» .0) (now (old .entry)) (now (moved .entry)) (now (table .entry)) (now (ids .entry)) (i + 1)
+        (now (costs .exit)) (now (due .exit)) (now (logs .exit)) ⌝ }
 {
-    let x = table[i];
+    let x = RefinedId(table[i]);
     if stood(x, k, last, old) {
         costs[i] = paid[k];
         due[i] = moved[k];
@@ -139,21 +142,25 @@ fn carry_all<'a>(
     table: &'a [u64; DETECTIONS],
     starts: &'a [usize; STARTS],
     dots: &'a [f64; DOTS],
-    tracks: &'a [u64; TRACKS],
+    tracks: &'a [u64; PARTS],
     filters: &'a [f64; FILTERS],
     ids: &'a [u64; DETECTIONS],
     costs: &mut [f64; DETECTIONS],
     due: &mut [u64; DETECTIONS],
     logs: &mut [f64; LOGS],
 )
-    requires { ⌜ Able (sceneOf hall (now starts) (now dots) (now tracks) (now filters)) × (n ≤ 128) × (length (now table) ≡ 128) × Left (sceneOf hall (now starts) (now dots) (now tracks) (now filters)) (last .count) (last .next) (now old) (now ids) (now paid) (now moved) × Carried (sceneOf hall (now starts) (now dots) (now tracks) (now filters)) (last .count) (last .next) (now old) (now moved) (now table) (now ids) 0 (now costs) (now due) (now logs) ⌝ }
-    ensures { λ r. ⌜ Carried (sceneOf hall (now (starts .entry)) (now (dots .entry)) (now (tracks .entry)) (now (filters .entry))) (last .count) (last .next) (now (old .entry)) (now (moved .entry)) (now (table .entry)) (now (ids .entry)) n (now (costs .exit)) (now (due .exit)) (now (logs .exit)) ⌝ }
+    requires { let e = sceneOf hall (now starts) (now dots) (now tracks) (now filters) in
+        ⌜ Able e × (n ≤ DETECTIONS) × (length (now table) ≡ DETECTIONS) × Left e (last .count) (last .«next_id» .0) (now old) (now ids) (now paid) (now moved)
+        × Carried e (last .count) (last .«next_id» .0) (now old) (now moved) (now table) (now ids) 0 (now costs) (now due) (now logs) ⌝ }
+    ensures { λ r. let e = sceneOf hall (now (starts .entry)) (now (dots .entry)) (now (tracks .entry)) (now (filters .entry)) in
+        ⌜ Carried e (last .count) (last .«next_id» .0) (now (old .entry)) (now (moved .entry)) (now (table .entry)) (now (ids .entry)) n
+        (now (costs .exit)) (now (due .exit)) (now (logs .exit)) ⌝ }
 {
     let count = last.count;
     let mut k: usize = 0;
     let mut i: usize = 0;
     while i < n {
-        k = seek(table[i], k, count, old);
+        k = seek(RefinedId(table[i]), k, count, old);
         carry(
             hall,
             last,
@@ -185,10 +192,10 @@ fn wide(x: u8) -> usize
 
 // The row at place i of the table of rows.
 fn copy_row(i: usize, rows: &[u8; ROWS], row: &mut [usize; SCANS])
-    requires { ⌜ (i < 128) × (length (now rows) ≡ 2432) × (length (now row) ≡ 17) ⌝ }
+    requires { ⌜ (i < DETECTIONS) × (length (now rows) ≡ ROWS) × (length (now row) ≡ SCANS) ⌝ }
     ensures { λ r. ⌜ now (row .exit) ≡ rowAt (now (rows .entry)) i ⌝ }
 {
-    let at = ENTRY * i;
+    let at = ROW * i;
     let mut k: usize = 0;
     while k < SCANS {
         row[k] = wide(rows[at + k]);
@@ -200,14 +207,15 @@ fn copy_row(i: usize, rows: &[u8; ROWS], row: &mut [usize; SCANS])
 fn row_now<'a>(
     same: bool,
     i: usize,
-    x: u64,
+    x: RefinedId,
     rows: &'a [u8; ROWS],
     starts: &'a [usize; STARTS],
     ids: &'a [u64; DETECTIONS],
     row: &mut [usize; SCANS],
 )
-    requires { ⌜ (i < 128) × (length (now rows) ≡ 2432) × Starts (now starts) × (length (now ids) ≡ 128) × (length (now row) ≡ 17) × (same ≡ true → rowOf (now starts) (now ids) x ≡ rowAt (now rows) i) ⌝ }
-    ensures { λ r. ⌜ now (row .exit) ≡ rowOf (now (starts .entry)) (now (ids .entry)) x ⌝ }
+    requires { ⌜ (i < DETECTIONS) × (length (now rows) ≡ ROWS) × Starts (now starts) × (length (now ids) ≡ DETECTIONS) × (length (now row) ≡ SCANS)
+        × (same ≡ true → rowOf (now starts) (now ids) (x .0) ≡ rowAt (now rows) i) ⌝ }
+    ensures { λ r. ⌜ now (row .exit) ≡ rowOf (now (starts .entry)) (now (ids .entry)) (x .0) ⌝ }
 {
     if same {
         copy_row(i, rows, row);
@@ -228,27 +236,33 @@ fn pair_step<'a>(
     rows: &'a [u8; ROWS],
     starts: &'a [usize; STARTS],
     dots: &'a [f64; DOTS],
-    tracks: &'a [u64; TRACKS],
+    tracks: &'a [u64; PARTS],
     filters: &'a [f64; FILTERS],
     ids: &mut [u64; DETECTIONS],
     costs: &mut [f64; DETECTIONS],
     moved: &mut [u64; DETECTIONS],
     logs: &mut [f64; LOGS],
 ) -> Tally
-    requires { ⌜ Able (sceneOf hall (now starts) (now dots) (now tracks) (now filters)) × (i < j) × (j < n) × Listed n (now table) × (length (now close) ≡ 17) × Stands (sceneOf hall (now starts) (now dots) (now tracks) (now filters)) n (now table) (now rows) (now ids) (now costs) (now moved) (now logs) ⌝ }
-    ensures { λ r. ⌜ (_≡_ {A = Search} (record { ids = now (ids .exit); tally = r }) (pairStep (sceneOf hall (now (starts .entry)) (now (dots .entry)) (now (tracks .entry)) (now (filters .entry))) (now (close .entry)) (getD (now (table .entry)) i 0) (getD (now (table .entry)) j 0) (record { ids = now (ids .entry); tally = t }))) × Stands (sceneOf hall (now (starts .entry)) (now (dots .entry)) (now (tracks .entry)) (now (filters .entry))) n (now (table .entry)) (now (rows .entry)) (now (ids .exit)) (now (costs .exit)) (now (moved .exit)) (now (logs .exit)) × Grows n (now (moved .entry)) (now (moved .exit)) × (getD (now (moved .exit)) i 0 ≡ 0 → pairStays (pairBest (sceneOf hall (now (starts .entry)) (now (dots .entry)) (now (tracks .entry)) (now (filters .entry))) (now (close .entry)) (getD (now (table .entry)) i 0) (getD (now (table .entry)) j 0) (now (ids .entry))) ≡ true) ⌝ }
+    requires { let e = sceneOf hall (now starts) (now dots) (now tracks) (now filters) in
+        ⌜ Able e × (i < j) × (j < n) × IdTable n (now table) × (length (now close) ≡ SCANS)
+        × Swept e n (now table) (now rows) (now ids) (now costs) (now moved) (now logs) ⌝ }
+    ensures { λ r. let e = sceneOf hall (now (starts .entry)) (now (dots .entry)) (now (tracks .entry)) (now (filters .entry)) in
+        let a = getD (now (table .entry)) i 0 in
+        let b = getD (now (table .entry)) j 0 in
+        ⌜ (progressOf (now (ids .exit)) r ≡ pairStepOn e (now (close .entry)) a b (progressOf (now (ids .entry)) t))
+        × Swept e n (now (table .entry)) (now (rows .entry)) (now (ids .exit)) (now (costs .exit)) (now (moved .exit)) (now (logs .exit))
+        × Grows n (now (moved .entry)) (now (moved .exit))
+        × (getD (now (moved .exit)) i 0 ≡ 0 → pairStays (pairBest e (now (close .entry)) a b (now (ids .entry))) ≡ true) ⌝ }
 {
-    let a = table[i];
-    let b = table[j];
-    let x = RefinedId(a);
-    let y = RefinedId(b);
+    let x = RefinedId(table[i]);
+    let y = RefinedId(table[j]);
     let mut ra = [0usize; SCANS];
     let mut rb = [0usize; SCANS];
-    row_now(moved[i] == 0, i, a, rows, starts, ids, &mut ra);
-    row_now(moved[j] == 0, j, b, rows, starts, ids, &mut rb);
-    let pa = price::part_of(a, hall.frozen, tracks, filters);
-    let pb = price::part_of(b, hall.frozen, tracks, filters);
-    let m = pair::best_of_pair(
+    row_now(moved[i] == 0, i, x, rows, starts, ids, &mut ra);
+    row_now(moved[j] == 0, j, y, rows, starts, ids, &mut rb);
+    let pa = cost_row::fold_from(x, hall.frozen, tracks, filters);
+    let pb = cost_row::fold_from(y, hall.frozen, tracks, filters);
+    let m = search_pair::best_of_pair(
         hall,
         x,
         y,
@@ -266,8 +280,8 @@ fn pair_step<'a>(
         return t;
     }
     moves::apply_pair(m, hall.first, x, y, &ra, &rb, starts, ids);
-    costs[i] = track_cost(hall, a, starts, dots, tracks, filters, ids, logs);
-    costs[j] = track_cost(hall, b, starts, dots, tracks, filters, ids, logs);
+    costs[i] = track_cost(hall, x, starts, dots, tracks, filters, ids, logs);
+    costs[j] = track_cost(hall, y, starts, dots, tracks, filters, ids, logs);
     moved[i] = 1;
     moved[j] = 1;
     t.count_pair(m)
@@ -303,8 +317,8 @@ fn close_to(a: u8, b: u8) -> usize
     b as usize
 }
 
-// Two entries of the table of rows are close: in which scans, and whether in any. Most pairs have no scan in common or beside each other; the others are looked at only there.
-// It asks that the entries say where their rows begin and end, and that no scan is noted yet.
+// Two entries of the table of rows are close: in which scans, and whether in any. Most pairs have no scan in common or beside each other; the others are looked
+// at only there. It asks that the entries say where their rows begin and end, and that no scan is noted yet.
 fn close_rows<'a>(
     hall: Hall,
     i: usize,
@@ -313,26 +327,28 @@ fn close_rows<'a>(
     dots: &'a [f64; DOTS],
     close: &mut [bool; SCANS],
 ) -> bool
-    requires { ⌜ (i < 128) × (j < 128) × (length (now rows) ≡ 2432) × Entered (now rows) i × Entered (now rows) j × (now close ≡ replicate 17 false) ⌝ }
-    ensures { λ r. ⌜ (length (now (close .exit)) ≡ 17) × CloseRows (square (radius (hall .config))) (now (dots .entry)) (now (rows .entry)) i j r (now (close .exit)) ⌝ }
+    requires { ⌜ (i < DETECTIONS) × (j < DETECTIONS) × (length (now rows) ≡ ROWS) × Entered (now rows) i × Entered (now rows) j
+        × (now close ≡ replicate SCANS false) ⌝ }
+    ensures { λ r. ⌜ (length (now (close .exit)) ≡ SCANS)
+        × CloseRows (square (radius (hall .config))) (now (dots .entry)) (now (rows .entry)) i j r (now (close .exit)) ⌝ }
 {
-    if near::meet(rows, i, j) {
-        let a = ENTRY * i;
-        let b = ENTRY * j;
+    if search_neighbours::meet(rows, i, j) {
+        let a = ROW * i;
+        let b = ROW * j;
         let ea = a + SCANS;
         let eb = b + SCANS;
         let from = close_from(rows[ea], rows[eb]);
         let to = close_to(rows[ea + 1], rows[eb + 1]);
         let q = hall.config.radius_m * hall.config.radius_m;
         let all = &rows[..];
-        return near::close_scans(q, &all[a..ea], &all[b..eb], from, to, dots, close);
+        return search_neighbours::close_scans(q, &all[a..ea], &all[b..eb], from, to, dots, close);
     }
     false
 }
 
 // The row at place i has not changed since its pairs were last looked at.
 fn pairs_rest<'a>(i: usize, due: &'a [u64; DETECTIONS], moved: &'a [u64; DETECTIONS]) -> bool
-    requires { ⌜ (i < 128) × (length (now due) ≡ 128) × (length (now moved) ≡ 128) ⌝ }
+    requires { ⌜ (i < DETECTIONS) × (length (now due) ≡ DETECTIONS) × (length (now moved) ≡ DETECTIONS) ⌝ }
     ensures { λ r. ⌜ (r ≡ true → (getD (now (due .entry)) i 0 ≡ 0) × (getD (now (moved .entry)) i 0 ≡ 0)) ⌝ }
 {
     if due[i] == 0 {
@@ -348,8 +364,9 @@ fn pair_rests<'a>(
     due: &'a [u64; DETECTIONS],
     moved: &'a [u64; DETECTIONS],
 ) -> bool
-    requires { ⌜ (i < 128) × (j < 128) × (length (now due) ≡ 128) × (length (now moved) ≡ 128) ⌝ }
-    ensures { λ r. ⌜ (r ≡ true → (getD (now (due .entry)) i 0 ≡ 0) × (getD (now (moved .entry)) i 0 ≡ 0) × (getD (now (due .entry)) j 0 ≡ 0) × (getD (now (moved .entry)) j 0 ≡ 0)) ⌝ }
+    requires { ⌜ (i < DETECTIONS) × (j < DETECTIONS) × (length (now due) ≡ DETECTIONS) × (length (now moved) ≡ DETECTIONS) ⌝ }
+    ensures { λ r. ⌜ (r ≡ true → (getD (now (due .entry)) i 0 ≡ 0) × (getD (now (moved .entry)) i 0 ≡ 0)
+        × (getD (now (due .entry)) j 0 ≡ 0) × (getD (now (moved .entry)) j 0 ≡ 0)) ⌝ }
 {
     if pairs_rest(i, due, moved) {
         return pairs_rest(j, due, moved);
@@ -369,15 +386,24 @@ fn pair_turn<'a>(
     due: &'a [u64; DETECTIONS],
     starts: &'a [usize; STARTS],
     dots: &'a [f64; DOTS],
-    tracks: &'a [u64; TRACKS],
+    tracks: &'a [u64; PARTS],
     filters: &'a [f64; FILTERS],
     ids: &mut [u64; DETECTIONS],
     costs: &mut [f64; DETECTIONS],
     moved: &mut [u64; DETECTIONS],
     logs: &mut [f64; LOGS],
 ) -> Tally
-    requires { ⌜ Able (sceneOf hall (now starts) (now dots) (now tracks) (now filters)) × (i < j) × (j < n) × Listed n (now table) × Due (sceneOf hall (now starts) (now dots) (now tracks) (now filters)) n (now table) (now rows) (now due) × Stands (sceneOf hall (now starts) (now dots) (now tracks) (now filters)) n (now table) (now rows) (now ids) (now costs) (now moved) (now logs) ⌝ }
-    ensures { λ r. ⌜ ((is : List ℕ) → Tabled (now (starts .entry)) is (now (table .entry)) n (now (rows .entry)) → (_≡_ {A = Search} (record { ids = now (ids .exit); tally = r }) (pairIf (sceneOf hall (now (starts .entry)) (now (dots .entry)) (now (tracks .entry)) (now (filters .entry))) (closeOn (sceneOf hall (now (starts .entry)) (now (dots .entry)) (now (tracks .entry)) (now (filters .entry))) (rowOn (sceneOf hall (now (starts .entry)) (now (dots .entry)) (now (tracks .entry)) (now (filters .entry))) is (getD (now (table .entry)) i 0)) (rowOn (sceneOf hall (now (starts .entry)) (now (dots .entry)) (now (tracks .entry)) (now (filters .entry))) is (getD (now (table .entry)) j 0))) (getD (now (table .entry)) i 0) (getD (now (table .entry)) j 0) (record { ids = now (ids .entry); tally = t }))) × Rests (sceneOf hall (now (starts .entry)) (now (dots .entry)) (now (tracks .entry)) (now (filters .entry))) (now (table .entry)) (now (rows .entry)) (now (moved .exit)) i j) × Stands (sceneOf hall (now (starts .entry)) (now (dots .entry)) (now (tracks .entry)) (now (filters .entry))) n (now (table .entry)) (now (rows .entry)) (now (ids .exit)) (now (costs .exit)) (now (moved .exit)) (now (logs .exit)) × Grows n (now (moved .entry)) (now (moved .exit)) ⌝ }
+    requires { let e = sceneOf hall (now starts) (now dots) (now tracks) (now filters) in
+        ⌜ Able e × (i < j) × (j < n) × IdTable n (now table) × Due e n (now table) (now rows) (now due)
+        × Swept e n (now table) (now rows) (now ids) (now costs) (now moved) (now logs) ⌝ }
+    ensures { λ r. let e = sceneOf hall (now (starts .entry)) (now (dots .entry)) (now (tracks .entry)) (now (filters .entry)) in
+        let a = getD (now (table .entry)) i 0 in
+        let b = getD (now (table .entry)) j 0 in
+        ⌜ ((is : List ℕ) → Tabled (now (starts .entry)) is (now (table .entry)) n (now (rows .entry)) →
+        (progressOf (now (ids .exit)) r ≡ pairIf e (closeOn e (rowOn e is a) (rowOn e is b)) a b (progressOf (now (ids .entry)) t))
+        × Rests e (now (table .entry)) (now (rows .entry)) (now (moved .exit)) i j)
+        × Swept e n (now (table .entry)) (now (rows .entry)) (now (ids .exit)) (now (costs .exit)) (now (moved .exit)) (now (logs .exit))
+        × Grows n (now (moved .entry)) (now (moved .exit)) ⌝ }
 {
     if pair_rests(i, j, due, moved) {
         return t;
@@ -417,15 +443,23 @@ fn sweep_one<'a>(
     due: &'a [u64; DETECTIONS],
     starts: &'a [usize; STARTS],
     dots: &'a [f64; DOTS],
-    tracks: &'a [u64; TRACKS],
+    tracks: &'a [u64; PARTS],
     filters: &'a [f64; FILTERS],
     ids: &mut [u64; DETECTIONS],
     costs: &mut [f64; DETECTIONS],
     moved: &mut [u64; DETECTIONS],
     logs: &mut [f64; LOGS],
 ) -> Tally
-    requires { ⌜ Able (sceneOf hall (now starts) (now dots) (now tracks) (now filters)) × (i < n) × Listed n (now table) × Due (sceneOf hall (now starts) (now dots) (now tracks) (now filters)) n (now table) (now rows) (now due) × Stands (sceneOf hall (now starts) (now dots) (now tracks) (now filters)) n (now table) (now rows) (now ids) (now costs) (now moved) (now logs) ⌝ }
-    ensures { λ r. ⌜ ((is : List ℕ) → Tabled (now (starts .entry)) is (now (table .entry)) n (now (rows .entry)) → (_≡_ {A = Search} (record { ids = now (ids .exit); tally = r }) (sweepOne (sceneOf hall (now (starts .entry)) (now (dots .entry)) (now (tracks .entry)) (now (filters .entry))) is (getD (now (table .entry)) i 0) (drop (i + 1) (take n (now (table .entry)))) (record { ids = now (ids .entry); tally = t0 }))) × ((j : ℕ) → i < j → j < n → Rests (sceneOf hall (now (starts .entry)) (now (dots .entry)) (now (tracks .entry)) (now (filters .entry))) (now (table .entry)) (now (rows .entry)) (now (moved .exit)) i j)) × Stands (sceneOf hall (now (starts .entry)) (now (dots .entry)) (now (tracks .entry)) (now (filters .entry))) n (now (table .entry)) (now (rows .entry)) (now (ids .exit)) (now (costs .exit)) (now (moved .exit)) (now (logs .exit)) × Grows n (now (moved .entry)) (now (moved .exit)) ⌝ }
+    requires { let e = sceneOf hall (now starts) (now dots) (now tracks) (now filters) in
+        ⌜ Able e × (i < n) × IdTable n (now table) × Due e n (now table) (now rows) (now due)
+        × Swept e n (now table) (now rows) (now ids) (now costs) (now moved) (now logs) ⌝ }
+    ensures { λ r. let e = sceneOf hall (now (starts .entry)) (now (dots .entry)) (now (tracks .entry)) (now (filters .entry)) in
+        ⌜ ((is : List ℕ) → Tabled (now (starts .entry)) is (now (table .entry)) n (now (rows .entry)) →
+        (progressOf (now (ids .exit)) r
+        ≡ sweepOne e is (getD (now (table .entry)) i 0) (drop (i + 1) (take n (now (table .entry)))) (progressOf (now (ids .entry)) t0))
+        × ((j : ℕ) → i < j → j < n → Rests e (now (table .entry)) (now (rows .entry)) (now (moved .exit)) i j))
+        × Swept e n (now (table .entry)) (now (rows .entry)) (now (ids .exit)) (now (costs .exit)) (now (moved .exit)) (now (logs .exit))
+        × Grows n (now (moved .entry)) (now (moved .exit)) ⌝ }
 {
     let mut t = t0;
     let mut j = i + 1;
@@ -463,15 +497,21 @@ fn sweep_pairs<'a>(
     due: &'a [u64; DETECTIONS],
     starts: &'a [usize; STARTS],
     dots: &'a [f64; DOTS],
-    tracks: &'a [u64; TRACKS],
+    tracks: &'a [u64; PARTS],
     filters: &'a [f64; FILTERS],
     ids: &mut [u64; DETECTIONS],
     costs: &mut [f64; DETECTIONS],
     moved: &mut [u64; DETECTIONS],
     logs: &mut [f64; LOGS],
 ) -> Tally
-    requires { ⌜ Able (sceneOf hall (now starts) (now dots) (now tracks) (now filters)) × Listed n (now table) × Due (sceneOf hall (now starts) (now dots) (now tracks) (now filters)) n (now table) (now rows) (now due) × Stands (sceneOf hall (now starts) (now dots) (now tracks) (now filters)) n (now table) (now rows) (now ids) (now costs) (now moved) (now logs) ⌝ }
-    ensures { λ r. ⌜ ((is : List ℕ) → Tabled (now (starts .entry)) is (now (table .entry)) n (now (rows .entry)) → (_≡_ {A = Search} (record { ids = now (ids .exit); tally = r }) (sweep (sceneOf hall (now (starts .entry)) (now (dots .entry)) (now (tracks .entry)) (now (filters .entry))) is (take n (now (table .entry))) (record { ids = now (ids .entry); tally = t0 }))) × ((i j : ℕ) → i < j → j < n → Rests (sceneOf hall (now (starts .entry)) (now (dots .entry)) (now (tracks .entry)) (now (filters .entry))) (now (table .entry)) (now (rows .entry)) (now (moved .exit)) i j)) × Stands (sceneOf hall (now (starts .entry)) (now (dots .entry)) (now (tracks .entry)) (now (filters .entry))) n (now (table .entry)) (now (rows .entry)) (now (ids .exit)) (now (costs .exit)) (now (moved .exit)) (now (logs .exit)) ⌝ }
+    requires { let e = sceneOf hall (now starts) (now dots) (now tracks) (now filters) in
+        ⌜ Able e × IdTable n (now table) × Due e n (now table) (now rows) (now due)
+        × Swept e n (now table) (now rows) (now ids) (now costs) (now moved) (now logs) ⌝ }
+    ensures { λ r. let e = sceneOf hall (now (starts .entry)) (now (dots .entry)) (now (tracks .entry)) (now (filters .entry)) in
+        ⌜ ((is : List ℕ) → Tabled (now (starts .entry)) is (now (table .entry)) n (now (rows .entry)) →
+        (progressOf (now (ids .exit)) r ≡ sweep e is (take n (now (table .entry))) (progressOf (now (ids .entry)) t0))
+        × ((i j : ℕ) → i < j → j < n → Rests e (now (table .entry)) (now (rows .entry)) (now (moved .exit)) i j))
+        × Swept e n (now (table .entry)) (now (rows .entry)) (now (ids .exit)) (now (costs .exit)) (now (moved .exit)) (now (logs .exit)) ⌝ }
 {
     let mut t = t0;
     let mut i: usize = 0;
@@ -502,39 +542,44 @@ fn sweep_pairs<'a>(
 fn track_step<'a>(
     hall: Hall,
     i: usize,
-    a: u64,
+    a: RefinedId,
     base: f64,
     t: Tally,
     row: &'a [usize; SCANS],
     starts: &'a [usize; STARTS],
     dots: &'a [f64; DOTS],
-    tracks: &'a [u64; TRACKS],
+    tracks: &'a [u64; PARTS],
     filters: &'a [f64; FILTERS],
     ids: &mut [u64; DETECTIONS],
     costs: &mut [f64; DETECTIONS],
     moved: &mut [u64; DETECTIONS],
     logs: &mut [f64; LOGS],
 ) -> Tally
-    requires { ⌜ Able (sceneOf hall (now starts) (now dots) (now tracks) (now filters)) × (i < 128) × (length (now ids) ≡ 128) × (length (now costs) ≡ 128) × (length (now moved) ≡ 128) × (now row ≡ rowOn (sceneOf hall (now starts) (now dots) (now tracks) (now filters)) (now ids) a) × (base ≡ costOn (sceneOf hall (now starts) (now dots) (now tracks) (now filters)) (now ids) a) × Kept (now logs) ⌝ }
-    ensures { λ r. ⌜ (_≡_ {A = Search} (record { ids = now (ids .exit); tally = r }) (trackStep (sceneOf hall (now (starts .entry)) (now (dots .entry)) (now (tracks .entry)) (now (filters .entry))) a (record { ids = now (ids .entry); tally = t }))) × Stepped (sceneOf hall (now (starts .entry)) (now (dots .entry)) (now (tracks .entry)) (now (filters .entry))) i a base (now (ids .entry)) (now (costs .entry)) (now (moved .entry)) (now (ids .exit)) (now (costs .exit)) (now (moved .exit)) × Kept (now (logs .exit)) ⌝ }
+    requires { let e = sceneOf hall (now starts) (now dots) (now tracks) (now filters) in
+        ⌜ Able e × (i < DETECTIONS) × (length (now ids) ≡ DETECTIONS) × (length (now costs) ≡ DETECTIONS) × (length (now moved) ≡ DETECTIONS)
+        × (now row ≡ rowOn e (now ids) (a .0)) × (base ≡ costOn e (now ids) (a .0)) × LogsKept (now logs) ⌝ }
+    ensures { λ r. let e = sceneOf hall (now (starts .entry)) (now (dots .entry)) (now (tracks .entry)) (now (filters .entry)) in
+        ⌜ (progressOf (now (ids .exit)) r ≡ trackStepOn e (a .0) (progressOf (now (ids .entry)) t))
+        × TrackStepped e i (a .0) base (now (ids .entry)) (now (costs .entry)) (now (moved .entry)) (now (ids .exit)) (now (costs .exit)) (now (moved .exit))
+        × LogsKept (now (logs .exit)) ⌝ }
 {
-    let p = price::part_of(a, hall.frozen, tracks, filters);
-    let m = track::best_of_track(hall, p, row, base, dots, logs);
+    let p = cost_row::fold_from(a, hall.frozen, tracks, filters);
+    let m = search_track::best_of_track(hall, p, row, base, dots, logs);
     if moves::track_stays(m) {
         return t;
     }
-    moves::apply_track(m, hall.first, RefinedId(a), RefinedId(t.next), starts, ids);
+    moves::apply_track(m, hall.first, a, t.next_id, starts, ids);
     costs[i] = track_cost(hall, a, starts, dots, tracks, filters, ids, logs);
     moved[i] = 2;
     t.count_track(m)
 }
 
 // The row at place i, of the id x, has not changed in this pass. That of an id from `new` on may have: another track may be given it.
-fn unmoved(i: usize, x: u64, new: u64, moved: &[u64; DETECTIONS]) -> bool
-    requires { ⌜ (i < 128) × (length (now moved) ≡ 128) ⌝ }
-    ensures { λ r. ⌜ (r ≡ true → (x < new) × (getD (now (moved .entry)) i 0 ≡ 0)) ⌝ }
+fn unmoved(i: usize, x: RefinedId, new: RefinedId, moved: &[u64; DETECTIONS]) -> bool
+    requires { ⌜ (i < DETECTIONS) × (length (now moved) ≡ DETECTIONS) ⌝ }
+    ensures { λ r. ⌜ (r ≡ true → (x .0 < new .0) × (getD (now (moved .entry)) i 0 ≡ 0)) ⌝ }
 {
-    if x < new {
+    if x.0 < new.0 {
         return moved[i] == 0;
     }
     false
@@ -543,13 +588,13 @@ fn unmoved(i: usize, x: u64, new: u64, moved: &[u64; DETECTIONS]) -> bool
 // The row at place i, of the id x, has not changed since its track was last visited.
 fn track_rests<'a>(
     i: usize,
-    x: u64,
-    new: u64,
+    x: RefinedId,
+    new: RefinedId,
     due: &'a [u64; DETECTIONS],
     moved: &'a [u64; DETECTIONS],
 ) -> bool
-    requires { ⌜ (i < 128) × (length (now due) ≡ 128) × (length (now moved) ≡ 128) ⌝ }
-    ensures { λ r. ⌜ (r ≡ true → (x < new) × (getD (now (due .entry)) i 0 < 2) × (getD (now (moved .entry)) i 0 ≡ 0)) ⌝ }
+    requires { ⌜ (i < DETECTIONS) × (length (now due) ≡ DETECTIONS) × (length (now moved) ≡ DETECTIONS) ⌝ }
+    ensures { λ r. ⌜ (r ≡ true → (x .0 < new .0) × (getD (now (due .entry)) i 0 < 2) × (getD (now (moved .entry)) i 0 ≡ 0)) ⌝ }
 {
     if due[i] < 2 {
         return unmoved(i, x, new, moved);
@@ -560,20 +605,22 @@ fn track_rests<'a>(
 // What the window of x costs: as it was kept, if x is below `new` and so no other track is given it.
 fn cost_now<'a>(
     hall: Hall,
-    x: u64,
+    x: RefinedId,
     kept: f64,
-    new: u64,
+    new: RefinedId,
     starts: &'a [usize; STARTS],
     dots: &'a [f64; DOTS],
-    tracks: &'a [u64; TRACKS],
+    tracks: &'a [u64; PARTS],
     filters: &'a [f64; FILTERS],
     ids: &'a [u64; DETECTIONS],
     logs: &mut [f64; LOGS],
 ) -> f64
-    requires { ⌜ Able (sceneOf hall (now starts) (now dots) (now tracks) (now filters)) × (length (now ids) ≡ 128) × (x < new → kept ≡ costOn (sceneOf hall (now starts) (now dots) (now tracks) (now filters)) (now ids) x) × Kept (now logs) ⌝ }
-    ensures { λ r. ⌜ (r ≡ costOn (sceneOf hall (now (starts .entry)) (now (dots .entry)) (now (tracks .entry)) (now (filters .entry))) (now (ids .entry)) x) × (x < new → r ≡ kept) × Kept (now (logs .exit)) ⌝ }
+    requires { let e = sceneOf hall (now starts) (now dots) (now tracks) (now filters) in
+        ⌜ Able e × (length (now ids) ≡ DETECTIONS) × (x .0 < new .0 → kept ≡ costOn e (now ids) (x .0)) × LogsKept (now logs) ⌝ }
+    ensures { λ r. let e = sceneOf hall (now (starts .entry)) (now (dots .entry)) (now (tracks .entry)) (now (filters .entry)) in
+        ⌜ (r ≡ costOn e (now (ids .entry)) (x .0)) × (x .0 < new .0 → r ≡ kept) × LogsKept (now (logs .exit)) ⌝ }
 {
-    if x < new {
+    if x.0 < new.0 {
         return kept;
     }
     track_cost(hall, x, starts, dots, tracks, filters, ids, logs)
@@ -584,24 +631,29 @@ fn track_turn<'a>(
     hall: Hall,
     n: usize,
     i: usize,
-    new: u64,
+    new: RefinedId,
     t: Tally,
     table: &'a [u64; DETECTIONS],
     rows: &'a [u8; ROWS],
     due: &'a [u64; DETECTIONS],
     starts: &'a [usize; STARTS],
     dots: &'a [f64; DOTS],
-    tracks: &'a [u64; TRACKS],
+    tracks: &'a [u64; PARTS],
     filters: &'a [f64; FILTERS],
     ids: &mut [u64; DETECTIONS],
     costs: &mut [f64; DETECTIONS],
     moved: &mut [u64; DETECTIONS],
     logs: &mut [f64; LOGS],
 ) -> Tally
-    requires { ⌜ Able (sceneOf hall (now starts) (now dots) (now tracks) (now filters)) × (i < n) × Listed n (now table) × Due (sceneOf hall (now starts) (now dots) (now tracks) (now filters)) n (now table) (now rows) (now due) × (new ≤ t .next) × Visits (sceneOf hall (now starts) (now dots) (now tracks) (now filters)) n (now table) (now rows) new i (now ids) (now costs) (now moved) (now logs) ⌝ }
-    ensures { λ r. ⌜ (_≡_ {A = Search} (record { ids = now (ids .exit); tally = r }) (trackStep (sceneOf hall (now (starts .entry)) (now (dots .entry)) (now (tracks .entry)) (now (filters .entry))) (getD (now (table .entry)) i 0) (record { ids = now (ids .entry); tally = t }))) × Visits (sceneOf hall (now (starts .entry)) (now (dots .entry)) (now (tracks .entry)) (now (filters .entry))) n (now (table .entry)) (now (rows .entry)) new (i + 1) (now (ids .exit)) (now (costs .exit)) (now (moved .exit)) (now (logs .exit)) × Grows n (now (moved .entry)) (now (moved .exit)) ⌝ }
+    requires { let e = sceneOf hall (now starts) (now dots) (now tracks) (now filters) in
+        ⌜ Able e × (i < n) × IdTable n (now table) × Due e n (now table) (now rows) (now due) × (new .0 ≤ t .«next_id» .0)
+        × Visits e n (now table) (now rows) (new .0) i (now ids) (now costs) (now moved) (now logs) ⌝ }
+    ensures { λ r. let e = sceneOf hall (now (starts .entry)) (now (dots .entry)) (now (tracks .entry)) (now (filters .entry)) in
+        ⌜ (progressOf (now (ids .exit)) r ≡ trackStepOn e (getD (now (table .entry)) i 0) (progressOf (now (ids .entry)) t))
+        × Visits e n (now (table .entry)) (now (rows .entry)) (new .0) (i + 1) (now (ids .exit)) (now (costs .exit)) (now (moved .exit)) (now (logs .exit))
+        × Grows n (now (moved .entry)) (now (moved .exit)) ⌝ }
 {
-    let a = table[i];
+    let a = RefinedId(table[i]);
     if track_rests(i, a, new, due, moved) {
         return t;
     }
@@ -647,17 +699,22 @@ fn visit_tracks<'a>(
     due: &'a [u64; DETECTIONS],
     starts: &'a [usize; STARTS],
     dots: &'a [f64; DOTS],
-    tracks: &'a [u64; TRACKS],
+    tracks: &'a [u64; PARTS],
     filters: &'a [f64; FILTERS],
     ids: &mut [u64; DETECTIONS],
     costs: &mut [f64; DETECTIONS],
     moved: &mut [u64; DETECTIONS],
     logs: &mut [f64; LOGS],
 ) -> Tally
-    requires { ⌜ Able (sceneOf hall (now starts) (now dots) (now tracks) (now filters)) × Listed n (now table) × Due (sceneOf hall (now starts) (now dots) (now tracks) (now filters)) n (now table) (now rows) (now due) × Stands (sceneOf hall (now starts) (now dots) (now tracks) (now filters)) n (now table) (now rows) (now ids) (now costs) (now moved) (now logs) ⌝ }
-    ensures { λ r. ⌜ (_≡_ {A = Search} (record { ids = now (ids .exit); tally = r }) (visit (sceneOf hall (now (starts .entry)) (now (dots .entry)) (now (tracks .entry)) (now (filters .entry))) (take n (now (table .entry))) (record { ids = now (ids .entry); tally = t0 }))) × Visits (sceneOf hall (now (starts .entry)) (now (dots .entry)) (now (tracks .entry)) (now (filters .entry))) n (now (table .entry)) (now (rows .entry)) (t0 .next) n (now (ids .exit)) (now (costs .exit)) (now (moved .exit)) (now (logs .exit)) × Grows n (now (moved .entry)) (now (moved .exit)) ⌝ }
+    requires { let e = sceneOf hall (now starts) (now dots) (now tracks) (now filters) in
+        ⌜ Able e × IdTable n (now table) × Due e n (now table) (now rows) (now due)
+        × Swept e n (now table) (now rows) (now ids) (now costs) (now moved) (now logs) ⌝ }
+    ensures { λ r. let e = sceneOf hall (now (starts .entry)) (now (dots .entry)) (now (tracks .entry)) (now (filters .entry)) in
+        ⌜ (progressOf (now (ids .exit)) r ≡ visit e (take n (now (table .entry))) (progressOf (now (ids .entry)) t0))
+        × Visits e n (now (table .entry)) (now (rows .entry)) (t0 .«next_id» .0) n (now (ids .exit)) (now (costs .exit)) (now (moved .exit)) (now (logs .exit))
+        × Grows n (now (moved .entry)) (now (moved .exit)) ⌝ }
 {
-    let new = t0.next;
+    let new = t0.next_id;
     let mut t = t0;
     let mut i: usize = 0;
     while i < n {
@@ -690,7 +747,7 @@ fn begin_pass<'a>(
     last: Last,
     starts: &'a [usize; STARTS],
     dots: &'a [f64; DOTS],
-    tracks: &'a [u64; TRACKS],
+    tracks: &'a [u64; PARTS],
     filters: &'a [f64; FILTERS],
     ids: &'a [u64; DETECTIONS],
     table: &mut [u64; DETECTIONS],
@@ -700,8 +757,13 @@ fn begin_pass<'a>(
     moved: &mut [u64; DETECTIONS],
     logs: &mut [f64; LOGS],
 ) -> usize
-    requires { ⌜ Able (sceneOf hall (now starts) (now dots) (now tracks) (now filters)) × Tables (sceneOf hall (now starts) (now dots) (now tracks) (now filters)) (last .count) (last .next) (now ids) (now table) (now rows) (now costs) (now due) (now moved) (now logs) ⌝ }
-    ensures { λ r. ⌜ Begins (presentIn (hall .detections) (now (ids .entry))) r (now (table .exit)) × Tabled (now (starts .entry)) (now (ids .entry)) (now (table .exit)) r (now (rows .exit)) × Stands (sceneOf hall (now (starts .entry)) (now (dots .entry)) (now (tracks .entry)) (now (filters .entry))) r (now (table .exit)) (now (rows .exit)) (now (ids .entry)) (now (costs .exit)) (now (moved .exit)) (now (logs .exit)) × Due (sceneOf hall (now (starts .entry)) (now (dots .entry)) (now (tracks .entry)) (now (filters .entry))) r (now (table .exit)) (now (rows .exit)) (now (due .exit)) ⌝ }
+    requires { let e = sceneOf hall (now starts) (now dots) (now tracks) (now filters) in
+        ⌜ Able e × Tables e (last .count) (last .«next_id» .0) (now ids) (now table) (now rows) (now costs) (now due) (now moved) (now logs) ⌝ }
+    ensures { λ r. let e = sceneOf hall (now (starts .entry)) (now (dots .entry)) (now (tracks .entry)) (now (filters .entry)) in
+        ⌜ Begins (presentIn (hall .detections) (now (ids .entry))) r (now (table .exit))
+        × Tabled (now (starts .entry)) (now (ids .entry)) (now (table .exit)) r (now (rows .exit))
+        × Swept e r (now (table .exit)) (now (rows .exit)) (now (ids .entry)) (now (costs .exit)) (now (moved .exit)) (now (logs .exit))
+        × Due e r (now (table .exit)) (now (rows .exit)) (now (due .exit)) ⌝ }
 {
     let old = *table;
     let paid = *costs;
@@ -739,15 +801,22 @@ fn move_all<'a>(
     due: &'a [u64; DETECTIONS],
     starts: &'a [usize; STARTS],
     dots: &'a [f64; DOTS],
-    tracks: &'a [u64; TRACKS],
+    tracks: &'a [u64; PARTS],
     filters: &'a [f64; FILTERS],
     ids: &mut [u64; DETECTIONS],
     costs: &mut [f64; DETECTIONS],
     moved: &mut [u64; DETECTIONS],
     logs: &mut [f64; LOGS],
-) -> Passed
-    requires { ⌜ Able (sceneOf hall (now starts) (now dots) (now tracks) (now filters)) × Listed n (now table) × Due (sceneOf hall (now starts) (now dots) (now tracks) (now filters)) n (now table) (now rows) (now due) × Stands (sceneOf hall (now starts) (now dots) (now tracks) (now filters)) n (now table) (now rows) (now ids) (now costs) (now moved) (now logs) ⌝ }
-    ensures { λ r. ⌜ ((is : List ℕ) → Tabled (now (starts .entry)) is (now (table .entry)) n (now (rows .entry)) → (_≡_ {A = Search} (record { ids = now (ids .exit); tally = r .tally }) (visit (sceneOf hall (now (starts .entry)) (now (dots .entry)) (now (tracks .entry)) (now (filters .entry))) (take n (now (table .entry))) (sweep (sceneOf hall (now (starts .entry)) (now (dots .entry)) (now (tracks .entry)) (now (filters .entry))) is (take n (now (table .entry))) (record { ids = now (ids .entry); tally = t0 })))) × Left (sceneOf hall (now (starts .entry)) (now (dots .entry)) (now (tracks .entry)) (now (filters .entry))) (r .last .count) (r .last .next) (now (table .entry)) (now (ids .exit)) (now (costs .exit)) (now (moved .exit))) × Kept (now (logs .exit)) ⌝ }
+) -> PassDone
+    requires { let e = sceneOf hall (now starts) (now dots) (now tracks) (now filters) in
+        ⌜ Able e × IdTable n (now table) × Due e n (now table) (now rows) (now due)
+        × Swept e n (now table) (now rows) (now ids) (now costs) (now moved) (now logs) ⌝ }
+    ensures { λ r. let e = sceneOf hall (now (starts .entry)) (now (dots .entry)) (now (tracks .entry)) (now (filters .entry)) in
+        ⌜ ((is : List ℕ) → Tabled (now (starts .entry)) is (now (table .entry)) n (now (rows .entry)) →
+        (progressOf (now (ids .exit)) (r .tally)
+        ≡ visit e (take n (now (table .entry))) (sweep e is (take n (now (table .entry))) (progressOf (now (ids .entry)) t0)))
+        × Left e (r .last .count) (r .last .«next_id» .0) (now (table .entry)) (now (ids .exit)) (now (costs .exit)) (now (moved .exit))) ⌝ }
+    ensures { λ r. ⌜ LogsKept (now (logs .exit)) ⌝ }
 {
     let t = sweep_pairs(
         hall,
@@ -765,10 +834,8 @@ fn move_all<'a>(
         moved,
         logs,
     );
-    let last = Last {
-        count: n,
-        next: t.next,
-    };
+    let next_id = t.next_id;
+    let last = Last { count: n, next_id };
     let tally = visit_tracks(
         hall,
         n,
@@ -785,7 +852,7 @@ fn move_all<'a>(
         moved,
         logs,
     );
-    Passed { tally, last }
+    PassDone { tally, last }
 }
 
 // One pass. What it leaves in the tables goes to the next.
@@ -795,7 +862,7 @@ fn run_pass<'a>(
     t0: Tally,
     starts: &'a [usize; STARTS],
     dots: &'a [f64; DOTS],
-    tracks: &'a [u64; TRACKS],
+    tracks: &'a [u64; PARTS],
     filters: &'a [f64; FILTERS],
     ids: &mut [u64; DETECTIONS],
     table: &mut [u64; DETECTIONS],
@@ -804,9 +871,13 @@ fn run_pass<'a>(
     due: &mut [u64; DETECTIONS],
     moved: &mut [u64; DETECTIONS],
     logs: &mut [f64; LOGS],
-) -> Passed
-    requires { ⌜ Able (sceneOf hall (now starts) (now dots) (now tracks) (now filters)) × Tables (sceneOf hall (now starts) (now dots) (now tracks) (now filters)) (last .count) (last .next) (now ids) (now table) (now rows) (now costs) (now due) (now moved) (now logs) ⌝ }
-    ensures { λ r. ⌜ (_≡_ {A = Search} (record { ids = now (ids .exit); tally = r .tally }) (passOver (sceneOf hall (now (starts .entry)) (now (dots .entry)) (now (tracks .entry)) (now (filters .entry))) (record { ids = now (ids .entry); tally = t0 }))) × Tables (sceneOf hall (now (starts .entry)) (now (dots .entry)) (now (tracks .entry)) (now (filters .entry))) (r .last .count) (r .last .next) (now (ids .exit)) (now (table .exit)) (now (rows .exit)) (now (costs .exit)) (now (due .exit)) (now (moved .exit)) (now (logs .exit)) ⌝ }
+) -> PassDone
+    requires { let e = sceneOf hall (now starts) (now dots) (now tracks) (now filters) in
+        ⌜ Able e × Tables e (last .count) (last .«next_id» .0) (now ids) (now table) (now rows) (now costs) (now due) (now moved) (now logs) ⌝ }
+    ensures { λ r. let e = sceneOf hall (now (starts .entry)) (now (dots .entry)) (now (tracks .entry)) (now (filters .entry)) in
+        ⌜ (progressOf (now (ids .exit)) (r .tally) ≡ passOver e (progressOf (now (ids .entry)) t0))
+        × Tables e (r .last .count) (r .last .«next_id» .0) (now (ids .exit)) (now (table .exit)) (now (rows .exit)) (now (costs .exit))
+        (now (due .exit)) (now (moved .exit)) (now (logs .exit)) ⌝ }
 {
     let n = begin_pass(
         hall,
@@ -847,12 +918,14 @@ fn run_passes<'a>(
     t0: Tally,
     starts: &'a [usize; STARTS],
     dots: &'a [f64; DOTS],
-    tracks: &'a [u64; TRACKS],
+    tracks: &'a [u64; PARTS],
     filters: &'a [f64; FILTERS],
     ids: &mut [u64; DETECTIONS],
 ) -> Tally
-    requires { ⌜ Able (sceneOf hall (now starts) (now dots) (now tracks) (now filters)) × (length (now ids) ≡ 128) ⌝ }
-    ensures { λ r. ⌜ (_≡_ {A = Search} (record { ids = now (ids .exit); tally = r }) (passesOver (sceneOf hall (now (starts .entry)) (now (dots .entry)) (now (tracks .entry)) (now (filters .entry))) (maxPasses (hall .config)) (record { ids = now (ids .entry); tally = t0 }) (t0 .moved))) × (length (now (ids .exit)) ≡ 128) ⌝ }
+    requires { let e = sceneOf hall (now starts) (now dots) (now tracks) (now filters) in ⌜ Able e × (length (now ids) ≡ DETECTIONS) ⌝ }
+    ensures { λ r. let e = sceneOf hall (now (starts .entry)) (now (dots .entry)) (now (tracks .entry)) (now (filters .entry)) in
+        ⌜ progressOf (now (ids .exit)) r ≡ passesOver e (maxPasses (hall .config)) (progressOf (now (ids .entry)) t0) (t0 .moved) ⌝ }
+    ensures { λ r. ⌜ length (now (ids .exit)) ≡ DETECTIONS ⌝ }
 {
     let mut table = [0u64; DETECTIONS];
     let mut rows = [0u8; ROWS];
@@ -861,7 +934,10 @@ fn run_passes<'a>(
     let mut moved = [0u64; DETECTIONS];
     let mut logs = [0.0; LOGS];
     let mut t = t0;
-    let mut last = Last { count: 0, next: 0 };
+    let mut last = Last {
+        count: 0,
+        next_id: RefinedId(0),
+    };
     let mut left = hall.config.max_passes;
     while 0 < left {
         if !t.moved {
@@ -897,15 +973,18 @@ pub fn improve<'a>(
     counters: FgoCounters,
     starts: &'a [usize; STARTS],
     dots: &'a [f64; DOTS],
-    tracks: &'a [u64; TRACKS],
+    tracks: &'a [u64; PARTS],
     filters: &'a [f64; FILTERS],
     ids: &mut [u64; DETECTIONS],
 ) -> Tally
-    requires { ⌜ Able (sceneOf hall (now starts) (now dots) (now tracks) (now filters)) × (length (now ids) ≡ 128) ⌝ }
-    ensures { λ r. ⌜ (length (now (ids .exit)) ≡ 128) × ((ps : List (ℕ × Prefix)) (ss : List Scan) → Gathered (sceneOf hall (now (starts .entry)) (now (dots .entry)) (now (tracks .entry)) (now (filters .entry))) (next .0) counters (now (ids .entry)) ps ss → Finds (sceneOf hall (now (starts .entry)) (now (dots .entry)) (now (tracks .entry)) (now (filters .entry))) (next .0) counters ps ss (now (ids .exit)) r) ⌝ }
+    requires { let e = sceneOf hall (now starts) (now dots) (now tracks) (now filters) in ⌜ Able e × (length (now ids) ≡ DETECTIONS) ⌝ }
+    ensures { λ r. ⌜ length (now (ids .exit)) ≡ DETECTIONS ⌝ }
+    ensures { λ r. let e = sceneOf hall (now (starts .entry)) (now (dots .entry)) (now (tracks .entry)) (now (filters .entry)) in
+        ⌜ ((ps : List (ℕ × Prefix)) (ss : List Scan) → Represents e (next .0) counters (now (ids .entry)) ps ss →
+        Finds e (next .0) counters ps ss (now (ids .exit)) r) ⌝ }
 {
     let t = Tally {
-        next: next.0,
+        next_id: next,
         counters,
         passes: 0,
         moved: true,

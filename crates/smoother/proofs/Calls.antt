@@ -5,131 +5,151 @@ use mathlib.Core.Bool.{true, false}
 use mathlib.Core.List.{List, [], _∷_, _++_}
 use native.Mathlib.Omega.{arith}
 use native.Mathlib.Nat.{sub-zero}
+use lib.ListN.{length}
 use lib.Ieee.{Float}
 use borrow.Author.Tests.{lt-ltb, le-ltb}
-use Rattle.ring.specs.declared.FixedLagSmoother.{FixedLagSmoother}
-use Rattle.smoother.specs.declared.Answer.the-variants.{Refused}
-use Rattle.smoother.specs.declared.Told.{Told}
-use Rattle.refined.specs.Frame.{SmootherFrame, wellFormed}
-use Rattle.backward.specs.Pass.{emitted}
-use Rattle.smoother.specs.Smoother.{State, Lent, unopened, opensBy, refused, waits, gives, held, laterRefusal, release, settle, pushBy, push, takesBy, takes}
-use Rattle.ring.specs.Window.{frameIn, framesFrom, framesIn, allFormed, fewer, more, Fitting, AllCounted, Stored}
-use Rattle.smoother.specs.Promise.{stateIn, Buffers, buffers, lengths, answerOf, Released, Promised}
-use Rattle.buffers.specs.Buffers.{over}
-use Rattle.backward.specs.Oldest.{oldest}
-use Rattle.ring.proofs.Forms.{frames-long, formed-more}
-use Rattle.backward.proofs.Chains.{one-more}
-use Rattle.ring.proofs.Storing.{released}
-use Rattle.smoother.proofs.Refusals.{Passing, all-counted}
+use Rattle.buffers.specs.declared.Answer.the-variants.{Held}
+use Rattle.buffers.specs.Answer.{Op, pushed, Reply, refused, waits, gives, Written, Ends, checked}
+use Rattle.buffers.proofs.Checking.{check-refused}
+use Rattle.smoother_frame.specs.Frame.{wellFormed}
+use Rattle.smoother_window.specs.declared.FixedLagSmoother.{FixedLagSmoother}
+use Rattle.smoother_window.specs.Config.{lag, most}
+use Rattle.smoother_window.specs.Window.{heldFrame, framesFrom, framesIn, allFormed, more, fewer, Fitting, AllCounted, Stored}
+use Rattle.smoother_window.proofs.Forms.{frames-long, formed-more, all-counted, one-more}
+use Rattle.smoother_window.proofs.Storing.{released}
+use Rattle.smoother_pass.specs.Pass.{emitted}
+use Rattle.smoother_pass.specs.Oldest.{oldest}
+use Rattle.smoother.specs.declared.Pushed.{Pushed}
+use Rattle.smoother.specs.Smoother.{State, held, emitOldest, settle, push, takes, reply}
+use Rattle.smoother.specs.Promise.{Window, stateIn, laterRefusal, due, Promised, refusedAs, Emits}
+use Rattle.smoother.proofs.Refusals.{passing}
 
--- ---- a refusal
+-- ---- what is due
 
-pub refuses : (s : FixedLagSmoother) (b : Buffers) (n : ℕ) → Promised s b (refused n, stateIn s (b .window) (b .values)) (record { answer = Refused n; state = s }) b
-unfolding over
-refuses s b n =
-    record { answer = refl; state = refl; words = refl; numbers = refl; sizes = refl; kept = record { state = refl; window = refl; values = refl } }
+module _ (o : Op Written) (s : FixedLagSmoother) (w : Window) (ws : List ℕ) (ns : List Float) where
+  -- 2, 3 or 4
+  pub due-refused : {n : ℕ} → n ≡ laterRefusal s w (length ws) (length ns) → (n ≡ 0 → ⊥) → due s w o ws ns ≡ (refused n, stateIn s w)
+  unfolding due
+  due-refused {n} e h = ap (λ n. checked n (stateIn s w) (reply (stateIn s w) o)) (sym e) ∙ check-refused n (stateIn s w) (reply (stateIn s w) o) h
 
-pub open-refused : (n : ℕ) (s : State) → (n ≡ 0 → ⊥) → unopened n ≡ opensBy n s
-open-refused zero s h = absurd (h refl)
-open-refused (suc n) s h = refl
+  -- none of them
+  pub due-passed : laterRefusal s w (length ws) (length ns) ≡ 0 → due s w o ws ns ≡ reply (stateIn s w) o
+  unfolding due
+  due-passed e = rw e
 
-module _ (st : State) (b : Lent) (n : ℕ) (e : n ≡ laterRefusal st b) where
-  pub push-refused : (f : SmootherFrame) → (n ≡ 0 → ⊥) → (refused n, st) ≡ push st b f
+module _ (st : State) (f : Written) where
+  -- 5
+  pub push-malformed : wellFormed (most (st .config)) f ≡ false → push st f ≡ (refused 5, st)
   unfolding push
-  push-refused f h = go n h ∙ ap (λ n. pushBy n st f) e
-    where
-      go : (n : ℕ) → (n ≡ 0 → ⊥) → (refused n, st) ≡ pushBy n st f
-      go zero h = absurd (h refl)
-      go (suc n) h = refl
+  push-malformed h = rw h
 
-  pub take-refused : (n ≡ 0 → ⊥) → (refused n, st) ≡ takes st b
-  unfolding takes
-  take-refused h = go n h ∙ ap (λ n. takesBy n st) e
-    where
-      go : (n : ℕ) → (n ≡ 0 → ⊥) → (refused n, st) ≡ takesBy n st
-      go zero h = absurd (h refl)
-      go (suc n) h = refl
-
--- ---- none of 2, 3 and 4
-
-module _ (st : State) (b : Lent) (e : laterRefusal st b ≡ 0) where
-  pub push-malformed : (f : SmootherFrame) → wellFormed (st .most) f ≡ false → (refused 5, st) ≡ push st b f
+  pub push-formed : wellFormed (most (st .config)) f ≡ true → push st f ≡ settle (held st f)
   unfolding push
-  push-malformed f h = rw (e, h)
+  push-formed h = rw h
 
-  pub push-formed : (f : SmootherFrame) → wellFormed (st .most) f ≡ true → settle (held st f) ≡ push st b f
-  unfolding push
-  push-formed f h = rw (e, h)
-
-  pub take-passed : release st (st .frames) ≡ takes st b
-  unfolding takes
-  take-passed = rw e
-
--- ---- a frame is stored
-
-module _ (s : FixedLagSmoother) (win : List ℕ) (nums : List Float) where
-  pub settle-held : s .held ≤ s .lag → settle (stateIn s win nums) ≡ (waits, stateIn s win nums)
+module _ (s : FixedLagSmoother) (w : Window) where
+  pub settle-held : s .held ≤ lag (s .config) → settle (stateIn s w) ≡ (waits, stateIn s w)
   unfolding settle stateIn
-  settle-held h = rw (frames-long s win nums 0 (s .held), le-ltb (s .lag) (s .held) h)
+  settle-held h = rw (frames-long s (w .words) (w .numbers) 0 (s .held), le-ltb (lag (s .config)) (s .held) h)
 
-  pub settle-gives : s .lag < s .held → settle (stateIn s win nums) ≡ release (stateIn s win nums) (framesIn s win nums)
+  pub settle-gives : lag (s .config) < s .held → settle (stateIn s w) ≡ emitOldest (stateIn s w) (stateIn s w .frames)
   unfolding settle stateIn
-  settle-gives h = rw (frames-long s win nums 0 (s .held), lt-ltb (s .lag) (s .held) h)
+  settle-gives h = rw (frames-long s (w .words) (w .numbers) 0 (s .held), lt-ltb (lag (s .config)) (s .held) h)
 
--- the oldest frame may be released
-pub record Ready (s : FixedLagSmoother) (win : List ℕ) (nums : List Float) : Type 0 where
-  pub fits : Fitting s win nums
-  pub few : s .held ≤ s .lag + 1
+  -- 13
+  pub none-held : s .held ≡ 0 → takes (stateIn s w) ≡ (refused 13, stateIn s w)
+  unfolding takes emitOldest stateIn framesFrom
+  none-held h = ap (λ n. emitOldest (stateIn s w) (framesFrom s (w .words) (w .numbers) 0 n)) h
+
+  -- the oldest one leaves
+  pub oldest-leaves : 0 < s .held → emitOldest (stateIn s w) (stateIn s w .frames) ≡ (gives (oldest s (w .words) (w .numbers)), stateIn (fewer s) w)
+  unfolding emitOldest stateIn oldest
+  oldest-leaves h =
+      let f = heldFrame s (w .words) (w .numbers) 0 in
+      let fs = framesFrom s (w .words) (w .numbers) 1 (s .held - 1) in
+      let e : framesIn s (w .words) (w .numbers) ≡ f ∷ fs = ap (framesFrom s (w .words) (w .numbers) 0) (sym (sub-zero (s .held))) ∙ one-more s (w .words) (w .numbers) 0 h in
+      let g : framesIn (fewer s) (w .words) (w .numbers) ≡ fs = released s (w .words) (w .numbers) 0 (s .held - 1) in
+      ap (emitOldest (stateIn s w)) e ∙ (λ i. (gives (emitted (s .config) (sym e i) f), record { config = s .config; frames = sym g i }))
+
+-- ---- what is promised
+
+module _ (o : Op Written) (s : FixedLagSmoother) (w : Window) (ws : List ℕ) (ns : List Float) where
+  -- of a refusal
+  pub refuses : {p : Pushed} (n : ℕ) → due s w o ws ns ≡ (refused n, stateIn s w) → p ≡ refusedAs s n → Promised o s w ws ns p w ws ns
+  refuses {p} n e q =
+      record {
+        ends =
+            subst (λ a. Ends (λ f. f) stateIn a s w ws ns (p .answer) (p .state) w ws ns) (sym e)
+            (record { answered = ap (λ p. p .answer) q; state = ap (λ p. stateIn (p .state) w) q; words = refl; numbers = refl; unchanged = (ap (λ p. p .state) q, refl) });
+        window-words = refl;
+        window-numbers = refl;
+        words = refl;
+        numbers = refl;
+      }
+
+  -- of the oldest that leaves of what r and w′ hold
+  pub gives-oldest : (r : FixedLagSmoother) (w′ : Window) {p : Pushed} {ws′ : List ℕ} {ns′ : List Float} → length (w′ .words) ≡ length (w .words) → length (w′ .numbers) ≡ length (w .numbers)
+      → due s w o ws ns ≡ emitOldest (stateIn r w′) (stateIn r w′ .frames) → 0 < r .held → Emits r w′ ws ns p ws′ ns′ → length ws′ ≡ length ws → length ns′ ≡ length ns
+      → Promised o s w ws ns p w′ ws′ ns′
+  gives-oldest r w′ {p} {ws′} {ns′} k l e h d m n =
+      record {
+        ends =
+            subst (λ a. Ends (λ f. f) stateIn a s w ws ns (p .answer) (p .state) w′ ws′ ns′) (sym (e ∙ oldest-leaves r w′ h))
+            (record { answered = d .answer; state = ap (λ r. stateIn r w′) (d .state); words = d .words; numbers = d .numbers; unchanged = tt });
+        window-words = k;
+        window-numbers = l;
+        words = m;
+        numbers = n;
+      }
+
+-- ---- a push that stores the frame
+
+-- the oldest frame may leave
+pub record Ready (s : FixedLagSmoother) (w : Window) : Type 0 where
+  pub fits : Fitting s (w .words) (w .numbers)
+  pub few : s .held ≤ lag (s .config) + 1
   pub some : 0 < s .held
-  pub counts : AllCounted s win
+  pub counts : AllCounted s (w .words)
 
-module _ (s : FixedLagSmoother) (win : List ℕ) (nums : List Float) (f : SmootherFrame) (r : FixedLagSmoother) (win′ : List ℕ) (nums′ : List Float) (d : Stored s win nums f r win′ nums′) where
-  stored-frames : framesIn (more s) win′ nums′ ≡ framesIn s win nums ++ (f ∷ [])
-  stored-frames = ap (λ r. framesIn r win′ nums′) (sym (d .state)) ∙ d .frames
+module _ (s : FixedLagSmoother) (w : Window) (ws : List ℕ) (ns : List Float) (f : Written) (e : laterRefusal s w (length ws) (length ns) ≡ 0) (h : wellFormed (most (s .config)) f ≡ true)
+    (r : FixedLagSmoother) (w′ : Window) (d : Stored s (w .words) (w .numbers) f r (w′ .words) (w′ .numbers)) where
+  stored-frames : framesIn (more s) (w′ .words) (w′ .numbers) ≡ framesIn s (w .words) (w .numbers) ++ (f ∷ [])
+  stored-frames = ap (λ r. framesIn r (w′ .words) (w′ .numbers)) (sym (d .state)) ∙ d .frames
 
-  pub stored-state : stateIn r win′ nums′ ≡ held (stateIn s win nums) f
+  stored-state : stateIn r w′ ≡ held (stateIn s w) f
   unfolding stateIn
-  stored-state =
-      let g = stored-frames in
-      ap (λ r. stateIn r win′ nums′) (d .state) ∙ (λ i. record { lag = s .lag; density = s .density; most = s .most; frames = g i })
+  stored-state = let g = stored-frames in ap (λ r. stateIn r w′) (d .state) ∙ (λ i. record { config = s .config; frames = g i })
 
-  pub stored-ready : (words : List ℕ) (numbers : List Float) → Passing s (buffers win nums words numbers) → wellFormed (s .most) f ≡ true → Ready r win′ nums′
-  stored-ready words numbers p h = subst (λ r. Ready r win′ nums′) (sym (d .state))
+  push-due : due s w (pushed f) ws ns ≡ settle (stateIn r w′)
+  unfolding stateIn
+  push-due = due-passed (pushed f) s w ws ns e ∙ push-formed (stateIn s w) f h ∙ ap settle (sym stored-state)
+
+  pub push-ready : Ready r w′
+  push-ready =
+      let p = passing s w (length ws) (length ns) e in
+      let g : Fitting (more s) (w′ .words) (w′ .numbers) = record { lags = p .fits .lags; tracks = p .fits .tracks; words = d .words ∙ p .fits .words; numbers = d .numbers ∙ p .fits .numbers } in
+      subst (λ r. Ready r w′) (sym (d .state))
       (record {
-        fits = record { lag = p .fits .lag; most = p .fits .most; words = d .words ∙ p .fits .words; numbers = d .numbers ∙ p .fits .numbers };
+        fits = g;
         few = omega (arith, p .few);
         some = omega arith;
         counts =
-            all-counted (more s) win′ nums′ (d .words ∙ p .fits .words)
-            (subst (λ l. allFormed (s .most) l ≡ true) (sym stored-frames) (formed-more (s .most) (framesIn s win nums) f (p .formed) h));
+            all-counted (more s) (w′ .words) (w′ .numbers) g
+            (subst (λ l. allFormed (most (s .config)) l ≡ true) (sym stored-frames) (formed-more (most (s .config)) (framesIn s (w .words) (w .numbers)) f (p .formed) h));
       })
 
--- ---- the oldest frame leaves
+  pub push-holds : r .held ≤ lag (r .config) → Promised (pushed f) s w ws ns (record { answer = Held; state = r }) w′ ws ns
+  push-holds l =
+      record {
+        ends =
+            subst (λ a. Ends (λ f. f) stateIn a s w ws ns Held r w′ ws ns) (sym (push-due ∙ settle-held r w′ l))
+            (record { answered = refl; state = refl; words = refl; numbers = refl; unchanged = tt });
+        window-words = d .words;
+        window-numbers = d .numbers;
+        words = refl;
+        numbers = refl;
+      }
 
-module _ (given s : FixedLagSmoother) (win₀ win : List ℕ) (nums₀ nums : List Float) (words words′ : List ℕ) (numbers numbers′ : List Float) (r : Told) where
-  -- the held frames are the oldest and the rest
-  pub gives-oldest : 0 < s .held → Released s (buffers win nums words numbers) r words′ numbers′
-      → lengths (buffers win nums words′ numbers′) ≡ lengths (buffers win₀ nums₀ words numbers)
-      → Promised given (buffers win₀ nums₀ words numbers) (release (stateIn s win nums) (framesIn s win nums)) r (buffers win nums words′ numbers′)
-  unfolding release stateIn oldest
-  gives-oldest h d z =
-      let f = frameIn s win nums 0 in
-      let fs = framesFrom s win nums 1 (s .held - 1) in
-      let n = sub-zero (s .held) in
-      let e : framesIn s win nums ≡ f ∷ fs = ap (framesFrom s win nums 0) (sym n) ∙ one-more s win nums 0 h in
-      let g : framesIn (fewer s) win nums ≡ fs = released s win nums 0 (s .held - 1) in
-      let o : oldest s win nums ≡ emitted (s .lag) (s .density) (f ∷ fs) f = ap (λ l. emitted (s .lag) (s .density) l f) e in
-      subst (λ l. Promised given (buffers win₀ nums₀ words numbers) (release (stateIn s win nums) l) r (buffers win nums words′ numbers′)) (sym e)
-      (record {
-        answer = d .answer ∙ ap (λ o. answerOf (gives o)) o;
-        state = ap (λ r. stateIn r win nums) (d .state) ∙ (λ i. record { lag = s .lag; density = s .density; most = s .most; frames = g i });
-        words = d .words ∙ ap (λ o. over 0 (o .words) words) o;
-        numbers = d .numbers ∙ ap (λ o. over 0 (o .numbers) numbers) o;
-        sizes = z;
-        kept = tt;
-      })
-
--- 13
-pub none-held : (s : FixedLagSmoother) (win : List ℕ) (nums : List Float) → s .held ≡ 0 → (refused 13, stateIn s win nums) ≡ release (stateIn s win nums) (stateIn s win nums .frames)
-unfolding release stateIn framesFrom
-none-held s win nums h = ap (λ l. release (stateIn s win nums) l) (ap (framesFrom s win nums 0) (sym h))
+  pub push-gives : {p : Pushed} {ws′ : List ℕ} {ns′ : List Float} → lag (r .config) < r .held → Emits r w′ ws ns p ws′ ns′ → length ws′ ≡ length ws → length ns′ ≡ length ns
+      → Promised (pushed f) s w ws ns p w′ ws′ ns′
+  push-gives l = gives-oldest (pushed f) s w ws ns r w′ (d .words) (d .numbers) (push-due ∙ settle-gives r w′ l) (omega arith)

@@ -1,100 +1,71 @@
 -- What opening, push and take promise, for any values that a caller hands over. Definitions only.
-use Prim.Native.Nat.{ℕ}
+use Prim.Native.Nat.{ℕ, zero, suc}
 use mathlib.Core.Path.{_≡_}
-use mathlib.Core.List.{List, []}
+use mathlib.Core.Bool.{cond, _&&_}
+use mathlib.Core.List.{List}
 use lib.ListN.{length}
 use lib.Ieee.{Float}
-use Rattle.ring.specs.declared.FixedLagSmoother.{FixedLagSmoother}
+use Rattle.buffers.specs.declared.Answer.the-variants.{Refused}
+use Rattle.buffers.specs.Answer.{Opening, opened, unopened, Op, Reply, refused, gives, Written, roomy, checked, answerOf, Ends}
+use Rattle.buffers.specs.Buffers.{over}
+use Rattle.smoother_window.specs.declared.FixedLagSmoother.{FixedLagSmoother}
+use Rattle.smoother_window.specs.Config.{bounded}
+use Rattle.smoother_window.specs.Window.{framesIn, fewer}
+use Rattle.smoother_pass.specs.Oldest.{oldest}
 use Rattle.smoother.specs.declared.Opened.{Opened}
 use Rattle.smoother.specs.declared.Opened.the-variants.{Refused as NotOpened, Ready}
-use Rattle.smoother.specs.declared.Answer.{Answer}
-use Rattle.smoother.specs.declared.Answer.the-variants.{Refused, Held, Frame}
-use Rattle.smoother.specs.declared.Told.{Told}
-use Rattle.smoother.specs.Smoother as Smoother
-use Rattle.smoother.specs.Smoother.{State, Lent, Opening, opened, unopened, refused, waits, gives}
-use Rattle.ring.specs.Window.{framesIn, fewer}
-use Rattle.buffers.specs.Buffers.{over}
-use Rattle.backward.specs.Oldest.{oldest}
+use Rattle.smoother.specs.declared.Pushed.{Pushed}
+use Rattle.smoother.specs.Smoother.{State, windowFits, ruleOk, reply}
 
--- what a struct and its window buffers stand for
-unfoldable pub stateIn : FixedLagSmoother → List ℕ → List Float → State
-stateIn s win nums = record { lag = s .lag; density = s .density; most = s .most; frames = framesIn s win nums }
-
--- what the lent buffers hold
-pub record Buffers : Type 0 where
-  pub window : List ℕ
-  pub values : List Float
+-- the two window buffers, which go with a smoother from call to call
+pub record Window : Type 0 where
   pub words : List ℕ
   pub numbers : List Float
 
--- the buffers that hold these four lists
-abbrev pub buffers : List ℕ → List Float → List ℕ → List Float → Buffers
-buffers win nums words numbers = record { window = win; values = nums; words = words; numbers = numbers }
+-- the window of two buffers
+abbrev pub window : List ℕ → List Float → Window
+window win nums = record { words = win; numbers = nums }
 
--- how long the lent buffers are
-abbrev pub lengths : Buffers → Lent
-lengths b =
-    record {
-      windowWords = length (b .window);
-      windowNumbers = length (b .values);
-      outWords = length (b .words);
-      outNumbers = length (b .numbers);
-    }
+-- what a struct and its window stand for
+unfoldable pub stateIn : FixedLagSmoother → Window → State
+stateIn s w = record { config = s .config; frames = framesIn s (w .words) (w .numbers) }
 
--- ---- document 01's number for each answer, and its values
+-- ---- opening
 
--- an opening: the number of a refusal, or what the new state stands for with these window buffers
-abbrev pub openingOf : Opened → List ℕ → List Float → Opening
-openingOf (NotOpened n) win nums = unopened n
-openingOf (Ready s) win nums = opened (stateIn s win nums)
+-- document 01's number for an opening that is refused, or what the new state stands for with this window
+abbrev pub openingOf : Opened → Window → Opening State
+openingOf (NotOpened n) w = unopened n
+openingOf (Ready s) w = opened (stateIn s w)
 
--- an answer of push and take: the number of a refusal; "held"; or a frame, with the numbers of its words and numbers
-abbrev pub answerOf : Smoother.Answer → Answer
-answerOf (refused n) = Refused n
-answerOf waits = Held
-answerOf (gives f) = Frame (length (f .words)) (length (f .numbers))
+-- ---- push and take
 
--- the words that are put out
-abbrev pub wordsOut : Smoother.Answer → List ℕ
-wordsOut (refused n) = []
-wordsOut waits = []
-wordsOut (gives f) = f .words
+-- push and take, with output buffers of so many words and numbers: 2, 3, 4 in the table's order; 0 for none
+unfoldable pub laterRefusal : FixedLagSmoother → Window → ℕ → ℕ → ℕ
+laterRefusal s w words numbers =
+    cond (bounded (s .config) && windowFits (s .config) (length (w .words)) (length (w .numbers)))
+    (cond (ruleOk (stateIn s w)) (cond (roomy words numbers) 0 4) 3)
+    2
 
--- the numbers that are put out
-abbrev pub numbersOut : Smoother.Answer → List Float
-numbersOut (refused n) = []
-numbersOut waits = []
-numbersOut (gives f) = f .numbers
+-- the reply to a push or a take with the output buffers ws and ns, and the state after it
+unfoldable pub due : FixedLagSmoother → Window → Op Written → List ℕ → List Float → Reply Written × State
+due s w o ws ns = checked (laterRefusal s w (length ws) (length ns)) (stateIn s w) (reply (stateIn s w) o)
 
--- ---- the oldest frame leaves: it is put over the front of the output buffers, and "The rest stays"
+-- A call of o that is given the struct s, the window w and the output buffers ws and ns gives p and leaves w′, ws′ and ns′: answer, state and output. Of a
+-- window only what it stands for is promised, unless the call is refused; and all buffers keep their lengths.
+pub record Promised (o : Op Written) (s : FixedLagSmoother) (w : Window) (ws : List ℕ) (ns : List Float) (p : Pushed) (w′ : Window) (ws′ : List ℕ) (ns′ : List Float) : Type 0 where
+  pub ends : Ends (λ f. f) stateIn (due s w o ws ns) s w ws ns (p .answer) (p .state) w′ ws′ ns′
+  pub window-words : length (w′ .words) ≡ length (w .words)
+  pub window-numbers : length (w′ .numbers) ≡ length (w .numbers)
+  pub words : length ws′ ≡ length ws
+  pub numbers : length ns′ ≡ length ns
 
--- after the oldest frame left: the answer, the state and the output buffers
-pub record Released (s : FixedLagSmoother) (b : Buffers) (r : Told) (words′ : List ℕ) (numbers′ : List Float) : Type 0 where
-  pub answer : r .answer ≡ answerOf (gives (oldest s (b .window) (b .values)))
-  pub state : r .state ≡ fewer s
-  pub words : words′ ≡ over 0 (oldest s (b .window) (b .values) .words) (b .words)
-  pub numbers : numbers′ ≡ over 0 (oldest s (b .window) (b .values) .numbers) (b .numbers)
+-- a refusal, which keeps the struct
+abbrev pub refusedAs : FixedLagSmoother → ℕ → Pushed
+refusedAs s n = record { answer = Refused n; state = s }
 
--- ---- what a call owes
-
--- "After it the state and the lent buffers hold what they held before the call": of the output buffers `Promised` says so for every answer
-pub record Kept (given : FixedLagSmoother) (b : Buffers) (r : Told) (a : Buffers) : Type 0 where
-  pub state : r .state ≡ given
-  pub window : a .window ≡ b .window
-  pub values : a .values ≡ b .values
-
--- `Kept`, where the answer is a refusal
-abbrev pub KeptIf : Smoother.Answer → FixedLagSmoother → Buffers → Told → Buffers → Type 0
-KeptIf (refused n) given b r a = Kept given b r a
-KeptIf waits given b r a = Unit
-KeptIf (gives f) given b r a = Unit
-
--- A call from the state given and the buffers b gives r and leaves the buffers a, where p is what the definition says: answer, state, window and output.
--- Of a window only what it stands for is promised, unless the call is refused.
-pub record Promised (given : FixedLagSmoother) (b : Buffers) (p : Smoother.Answer × State) (r : Told) (a : Buffers) : Type 0 where
-  pub answer : r .answer ≡ answerOf (p .0)
-  pub state : stateIn (r .state) (a .window) (a .values) ≡ p .1
-  pub words : a .words ≡ over 0 (wordsOut (p .0)) (b .words)
-  pub numbers : a .numbers ≡ over 0 (numbersOut (p .0)) (b .numbers)
-  pub sizes : lengths a ≡ lengths b
-  pub kept : KeptIf (p .0) given b r a
+-- after the oldest frame left: it is put over the front of the output buffers, and "The rest stays"
+pub record Emits (s : FixedLagSmoother) (w : Window) (ws : List ℕ) (ns : List Float) (p : Pushed) (ws′ : List ℕ) (ns′ : List Float) : Type 0 where
+  pub answer : p .answer ≡ answerOf (λ f. f) (gives (oldest s (w .words) (w .numbers)))
+  pub state : p .state ≡ fewer s
+  pub words : ws′ ≡ over 0 (oldest s (w .words) (w .numbers) .words) ws
+  pub numbers : ns′ ≡ over 0 (oldest s (w .words) (w .numbers) .numbers) ns

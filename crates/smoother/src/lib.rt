@@ -1,20 +1,26 @@
 // Fixed-lag smoothing of refined frames, over window buffers that the caller lends: open, push and take, and what they refuse.
-use backward::emit::emit_numbers;
-use backward::emit::emit_words;
-use refined::frame;
-use ring::FixedLagSmoother;
-use ring::window::all_formed;
-use ring::window::dropped;
-use ring::window::store;
+use bounds::LAG;
+use bounds::TRACKS;
+use buffers::Answer;
 use scalar::bits;
+use smoother_frame::frame;
+use smoother_pass::emit::emit_numbers;
+use smoother_pass::emit::emit_words;
+use smoother_window::FixedLagSmoother;
+use smoother_window::SmootherConfig;
+use smoother_window::window;
 ghost use mathlib.Core.Path.{_≡_};
 ghost use Prim.Native.Nat.{_+_, _<_, _≤_};
 ghost use lib.ListN.{length};
-ghost use Rattle.refined.specs.Frame.{frame as frameOf};
+ghost use Rattle.bounds.specs.Bounds.{LAG, TRACKS, WORDS, NUMBERS};
+ghost use Rattle.buffers.specs.Answer.{pushed, taken};
+ghost use Rattle.smoother_frame.specs.Frame.{frame as frameOf};
+ghost use Rattle.smoother_window.specs.Config as Config;
+ghost use Rattle.smoother_window.specs.Config.{lag, most};
+ghost use Rattle.smoother_window.specs.Window.{Fitting, AllCounted};
 ghost use Rattle.smoother.specs.Smoother as Smoother;
-ghost use Rattle.smoother.specs.Smoother.{openRefusal, laterRefusal};
-ghost use Rattle.ring.specs.Window.{Fitting, AllCounted};
-ghost use Rattle.smoother.specs.Promise.{stateIn, buffers, lengths, openingOf, Released, Promised};
+ghost use Rattle.smoother.specs.Promise as Promise;
+ghost use Rattle.smoother.specs.Promise.{stateIn, openingOf, laterRefusal, Promised, Emits};
 
 // What opening answers: refusal 1 or 2, or a smoother that holds nothing.
 pub enum Opened {
@@ -22,72 +28,63 @@ pub enum Opened {
     Ready(FixedLagSmoother),
 }
 
-// What push and take answer: a refusal; a frame is held and none is given; or a frame, at the front of the output buffers, with its numbers of words and numbers.
-pub enum Answer {
-    Refused(u8),
-    Held,
-    Frame { words: usize, numbers: usize },
-}
-
-// An answer and the state after it.
-pub struct Told {
+// What push and take answer, and the state after it.
+pub struct Pushed {
     pub answer: Answer,
     pub state: FixedLagSmoother,
 }
 
+// ---- what is refused
+
 // Lag 0 to 16, C 1 to 128.
-fn bounded(lag: usize, most: usize) -> bool
-    ensures { λ r. ⌜ r ≡ Smoother.bounded lag most ⌝ }
+fn bounded(c: SmootherConfig) -> bool
+    ensures { λ r. ⌜ r ≡ Config.bounded c ⌝ }
 {
-    if 16 < lag {
+    if LAG < c.lag_frames {
         return false;
     }
-    if most < 1 {
+    if c.max_tracks < 1 {
         return false;
     }
-    most <= 128
+    c.max_tracks <= TRACKS
 }
 
 // The window buffers have their lengths.
-fn window_fits(lag: usize, most: usize, words: usize, numbers: usize) -> bool
-    requires { ⌜ (lag ≤ 16) × (most ≤ 128) ⌝ }
-    ensures { λ r. ⌜ r ≡ Smoother.windowFits lag most words numbers ⌝ }
+fn window_fits(c: SmootherConfig, words: usize, numbers: usize) -> bool
+    requires { ⌜ (lag c ≤ LAG) × (most c ≤ TRACKS) ⌝ }
+    ensures { λ r. ⌜ r ≡ Smoother.windowFits c words numbers ⌝ }
 {
-    if words != (lag + 1) * (142 + 6 * most) {
+    if words != window::window_words(c.lag_frames, c.max_tracks) {
         return false;
     }
-    numbers == (lag + 1) * (32 + 42 * most)
+    numbers == window::window_numbers(c.lag_frames, c.max_tracks)
 }
 
 // The refusal that an opening gets: 1, 2, or 0 for none.
-fn open_refusal(lag: usize, density: f64, most: usize, words: usize, numbers: usize) -> u8
-    ensures { λ r. ⌜ r ≡ openRefusal lag density most words numbers ⌝ }
+fn open_refusal(c: SmootherConfig, words: usize, numbers: usize) -> u8
+    ensures { λ r. ⌜ r ≡ Smoother.openRefusal c words numbers ⌝ }
 {
-    if !bounded(lag, most) {
+    if !bounded(c) {
         return 1;
     }
-    if !bits::is_finite(density) {
+    if !bits::is_finite(c.accel_spectral_density) {
         return 1;
     }
-    if window_fits(lag, most, words, numbers) {
-        0
-    } else {
-        2
-    }
+    if window_fits(c, words, numbers) { 0 } else { 2 }
 }
 
 // The state keeps its rule: density finite, at most lag frames held, each well formed.
 fn rule_ok<'a>(s: FixedLagSmoother, win: &'a [u64], nums: &'a [f64]) -> bool
     requires { ⌜ Fitting s (now win) (now nums) ⌝ }
-    ensures { λ r. ⌜ r ≡ Smoother.ruleOk (stateIn s (now (win .entry)) (now (nums .entry))) ⌝ }
+    ensures { λ r. ⌜ r ≡ Smoother.ruleOk (stateIn s (Promise.window (now (win .entry)) (now (nums .entry)))) ⌝ }
 {
-    if !bits::is_finite(s.density) {
+    if !bits::is_finite(s.config.accel_spectral_density) {
         return false;
     }
-    if s.lag < s.held {
+    if s.config.lag_frames < s.held {
         return false;
     }
-    all_formed(s, win, nums)
+    window::all_formed(s, win, nums)
 }
 
 // The refusal that push and take get alike: 2, 3, 4, or 0 for none.
@@ -98,67 +95,65 @@ fn later_refusal<'a>(
     words: usize,
     numbers: usize,
 ) -> u8
-    ensures { λ r. ⌜ r ≡ laterRefusal (stateIn s (now (win .entry)) (now (nums .entry))) (record { windowWords = length (now (win .entry)); windowNumbers = length (now (nums .entry)); outWords = words; outNumbers = numbers }) ⌝ }
+    ensures { λ r. ⌜ r ≡ laterRefusal s (Promise.window (now (win .entry)) (now (nums .entry))) words numbers ⌝ }
 {
-    if !bounded(s.lag, s.most) {
+    if !bounded(s.config) {
         return 2;
     }
-    if !window_fits(s.lag, s.most, win.len(), nums.len()) {
+    if !window_fits(s.config, win.len(), nums.len()) {
         return 2;
     }
     if !rule_ok(s, win, nums) {
         return 3;
     }
-    if words < 910 {
-        return 4;
+    if buffers::is_roomy(words, numbers) {
+        0
+    } else {
+        4
     }
-    if numbers < 5408 {
-        return 4;
-    }
-    0
 }
 
+// A refusal, which keeps the state.
+fn refused(s: FixedLagSmoother, n: u8) -> Pushed
+    ensures { λ p. ⌜ p ≡ Promise.refusedAs s n ⌝ }
+{
+    let answer = Answer::Refused(n);
+    Pushed { answer, state: s }
+}
+
+// ---- the entry points
+
 // The oldest frame leaves, smoothed.
-fn release<'a, 'b, 'c>(
+fn emit_oldest<'a, 'b, 'c>(
     s: FixedLagSmoother,
     win: &'c [u64],
     nums: &'c [f64],
     words: &'a mut [u64],
     numbers: &'b mut [f64],
-) -> Told
-    requires { ⌜ Fitting s (now win) (now nums) × (s .held ≤ s .lag + 1) × (0 < s .held) × AllCounted s (now win) × (910 ≤ length (now words)) × (5408 ≤ length (now numbers)) ⌝ }
-    ensures { λ r. ⌜ Released s (buffers (now (win .entry)) (now (nums .entry)) (now (words .entry)) (now (numbers .entry))) r (now (words .exit)) (now (numbers .exit)) ⌝ }
+) -> Pushed
+    requires { ⌜ Fitting s (now win) (now nums) × (s .held ≤ lag (s .config) + 1) × (0 < s .held) × AllCounted s (now win) × (WORDS ≤ length (now words)) × (NUMBERS ≤ length (now numbers)) ⌝ }
+    ensures { λ p. ⌜ Emits s (Promise.window (now (win .entry)) (now (nums .entry))) (now (words .entry)) (now (numbers .entry)) p (now (words .exit)) (now (numbers .exit)) ⌝ }
 {
     let n = emit_words(words, s, win);
     let m = emit_numbers(numbers, s, win, nums);
-    let state = dropped(s);
-    Told {
-        answer: Answer::Frame {
-            words: n,
-            numbers: m,
-        },
-        state,
-    }
+    let state = window::dropped(s);
+    let answer = Answer::Frame {
+        words: n,
+        numbers: m,
+    };
+    Pushed { answer, state }
 }
 
 // A smoother that holds nothing, over these window buffers, into which it writes nothing yet. The density must be the tracker's.
-pub fn open<'a>(
-    lag: usize,
-    density: f64,
-    most: usize,
-    window: &'a [u64],
-    values: &'a [f64],
-) -> Opened
-    ensures { λ r. ⌜ openingOf r (now (window .entry)) (now (values .entry)) ≡ Smoother.opens lag density most (length (now (window .entry))) (length (now (values .entry))) ⌝ }
+pub fn open<'a>(config: SmootherConfig, window: &'a [u64], values: &'a [f64]) -> Opened
+    ensures { λ r. ⌜ openingOf r (Promise.window (now (window .entry)) (now (values .entry))) ≡ Smoother.opens config (length (now (window .entry))) (length (now (values .entry))) ⌝ }
 {
-    let n = open_refusal(lag, density, most, window.len(), values.len());
+    let n = open_refusal(config, window.len(), values.len());
     if n != 0 {
         return Opened::Refused(n);
     }
     Opened::Ready(FixedLagSmoother {
-        lag,
-        density,
-        most,
+        config,
         first: 0,
         held: 0,
     })
@@ -173,30 +168,22 @@ pub fn push<'a, 'b, 'c, 'd, 'e>(
     fx: &'c [f64],
     words: &'d mut [u64],
     numbers: &'e mut [f64],
-) -> Told
-    ensures { λ r. ⌜ Promised given (buffers (now (window .entry)) (now (values .entry)) (now (words .entry)) (now (numbers .entry))) (Smoother.push (stateIn given (now (window .entry)) (now (values .entry))) (lengths (buffers (now (window .entry)) (now (values .entry)) (now (words .entry)) (now (numbers .entry)))) (frameOf (now (fw .entry)) (now (fx .entry)))) r (buffers (now (window .exit)) (now (values .exit)) (now (words .exit)) (now (numbers .exit))) ⌝ }
+) -> Pushed
+    ensures { λ p. ⌜ Promised (pushed (frameOf (now (fw .entry)) (now (fx .entry)))) given (Promise.window (now (window .entry)) (now (values .entry))) (now (words .entry)) (now (numbers .entry)) p (Promise.window (now (window .exit)) (now (values .exit))) (now (words .exit)) (now (numbers .exit)) ⌝ }
 {
     let n = later_refusal(given, window, values, words.len(), numbers.len());
     if n != 0 {
-        return Told {
-            answer: Answer::Refused(n),
-            state: given,
-        };
+        return refused(given, n);
     }
-    if !frame::well_formed(given.most, fw, fx) {
-        return Told {
-            answer: Answer::Refused(5),
-            state: given,
-        };
+    if !frame::well_formed(given.config.max_tracks, fw, fx) {
+        return refused(given, 5);
     }
-    let s = store(given, window, values, fw, fx);
-    if s.held <= s.lag {
-        return Told {
-            answer: Answer::Held,
-            state: s,
-        };
+    let s = window::store(given, window, values, fw, fx);
+    if s.held <= s.config.lag_frames {
+        let answer = Answer::Held;
+        return Pushed { answer, state: s };
     }
-    release(s, window, values, words, numbers)
+    emit_oldest(s, window, values, words, numbers)
 }
 
 // The oldest held frame.
@@ -206,21 +193,15 @@ pub fn take<'a, 'b, 'c>(
     values: &'c [f64],
     words: &'a mut [u64],
     numbers: &'b mut [f64],
-) -> Told
-    ensures { λ r. ⌜ Promised given (buffers (now (window .entry)) (now (values .entry)) (now (words .entry)) (now (numbers .entry))) (Smoother.takes (stateIn given (now (window .entry)) (now (values .entry))) (lengths (buffers (now (window .entry)) (now (values .entry)) (now (words .entry)) (now (numbers .entry))))) r (buffers (now (window .entry)) (now (values .entry)) (now (words .exit)) (now (numbers .exit))) ⌝ }
+) -> Pushed
+    ensures { λ p. ⌜ Promised taken given (Promise.window (now (window .entry)) (now (values .entry))) (now (words .entry)) (now (numbers .entry)) p (Promise.window (now (window .entry)) (now (values .entry))) (now (words .exit)) (now (numbers .exit)) ⌝ }
 {
     let n = later_refusal(given, window, values, words.len(), numbers.len());
     if n != 0 {
-        return Told {
-            answer: Answer::Refused(n),
-            state: given,
-        };
+        return refused(given, n);
     }
     if given.held == 0 {
-        return Told {
-            answer: Answer::Refused(13),
-            state: given,
-        };
+        return refused(given, 13);
     }
-    release(given, window, values, words, numbers)
+    emit_oldest(given, window, values, words, numbers)
 }

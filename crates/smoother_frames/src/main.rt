@@ -4,25 +4,29 @@
 // The input is of 64-bit words, little-endian: lag, density, C; then one call after the other: 0 takes; 1, a number of words, a number of numbers, those
 // words and those numbers push a frame. It ends with the input, or with anything else. In `stdin` there are ids that stand twice, dense and broken
 // covariances, NaN and infinities, times that are equal or go back, takes in between, and frames malformed in each way.
+use bounds::LAG;
+use bounds::NUMBERS;
+use bounds::TRACKS;
+use bounds::VALUES;
+use bounds::WINDOW;
+use bounds::WORDS;
+use buffers::Answer;
 use engine::little;
 use libc::STDIN_FILENO;
-use lines::ROOM;
-use ring::FixedLagSmoother;
+use print::lines;
+use print::lines::ROOM;
 use scalar::bits;
-use smoother::Answer;
 use smoother::Opened;
+use smoother_window::FixedLagSmoother;
+use smoother_window::SmootherConfig;
+use smoother_window::window::window_numbers;
+use smoother_window::window::window_words;
 ghost use mathlib.Core.Path.{_≡_};
-ghost use Prim.Native.Nat.{_+_, _<_, _≤_};
+ghost use Prim.Native.Nat.{_+_, _^_, _<_, _≤_};
+ghost use Rattle.bounds.specs.Bounds.{WINDOW, VALUES};
 
-// The words and numbers of the longest frame.
-const WORDS: usize = 910;
-
-const NUMBERS: usize = 5408;
-
-// Those of the longest window: 17 frames.
-const WINDOW: usize = 15470;
-
-const VALUES: usize = 91936;
+// Where no input reaches: a run that is over stands there.
+const OVER: usize = 0x2000_0000_0000_0000;
 
 // Word i of the input, 0 past its end.
 fn word(s: &[u8], i: usize) -> u64 {
@@ -34,7 +38,7 @@ fn word(s: &[u8], i: usize) -> u64 {
 
 // As many words from word i on as fill the list.
 fn read_words(s: &[u8], i: usize, words: &mut [u64])
-    requires { ⌜ i < 4611686018427387904 ⌝ }
+    requires { ⌜ i < 2 ^ 62 ⌝ }
 {
     let mut k: usize = 0;
     while k < words.len() {
@@ -45,7 +49,7 @@ fn read_words(s: &[u8], i: usize, words: &mut [u64])
 
 // The same, read as numbers.
 fn read_numbers(s: &[u8], i: usize, numbers: &mut [f64])
-    requires { ⌜ i < 4611686018427387904 ⌝ }
+    requires { ⌜ i < 2 ^ 62 ⌝ }
 {
     let mut k: usize = 0;
     while k < numbers.len() {
@@ -88,7 +92,7 @@ fn take_one<'a, 'b, 'c, 'd>(
     numbers: &'b mut [f64],
     out: &'c mut [u8; ROOM],
 ) -> Player
-    requires { ⌜ p .at < 4611686018427387904 ⌝ }
+    requires { ⌜ p .at < 2 ^ 62 ⌝ }
     ensures { λ q. ⌜ q .at ≡ p .at + 1 ⌝ }
 {
     let state = p.state;
@@ -107,14 +111,14 @@ fn take_one<'a, 'b, 'c, 'd>(
 
 // A run that is over.
 fn ended(p: Player) -> Player
-    requires { ⌜ p .at < 2305843009213693952 ⌝ }
+    requires { ⌜ p .at < 2 ^ 61 ⌝ }
     ensures { λ q. ⌜ p .at < q .at ⌝ }
 {
     let state = p.state;
     Player {
         state,
         gathered: p.gathered,
-        at: 2305843009213693952,
+        at: OVER,
     }
 }
 
@@ -129,7 +133,7 @@ fn push_one<'a, 'b, 'c, 'd, 'e, 'f>(
     numbers: &'d mut [f64],
     out: &'e mut [u8; ROOM],
 ) -> Player
-    requires { ⌜ p .at < 2305843009213693952 ⌝ }
+    requires { ⌜ p .at < 2 ^ 61 ⌝ }
     ensures { λ q. ⌜ p .at < q .at ⌝ }
 {
     let state = p.state;
@@ -158,7 +162,7 @@ fn call<'a, 'b, 'c, 'd, 'e, 'f, 'g, 'h>(
     numbers: &'f mut [f64],
     out: &'g mut [u8; ROOM],
 ) -> Player
-    requires { ⌜ p .at < 2305843009213693952 ⌝ }
+    requires { ⌜ p .at < 2 ^ 61 ⌝ }
     ensures { λ q. ⌜ p .at < q .at ⌝ }
 {
     let at = p.at;
@@ -211,12 +215,23 @@ fn play<'a, 'b, 'c>(
     lines::flush(&out, p.gathered);
 }
 
+// The settings, which the input begins with.
+fn settings(s: &[u8]) -> SmootherConfig {
+    SmootherConfig {
+        lag_frames: word(s, 0) as usize,
+        accel_spectral_density: bits::from_bits(word(s, 1)),
+        max_tracks: word(s, 2) as usize,
+    }
+}
+
 // The calls, or the refusal that opening gets.
-fn open<'a, 'b, 'c>(s: &'c [u8], window: &'a mut [u64], values: &'b mut [f64]) {
-    let density = bits::from_bits(word(s, 1));
-    let lag = word(s, 0) as usize;
-    let most = word(s, 2) as usize;
-    let o = smoother::open(lag, density, most, window, values);
+fn open<'a, 'b, 'c>(
+    s: &'c [u8],
+    config: SmootherConfig,
+    window: &'a mut [u64],
+    values: &'b mut [f64],
+) {
+    let o = smoother::open(config, window, values);
     match o {
         Opened::Refused(code) => {
             let mut out = [0u8; ROOM];
@@ -229,32 +244,40 @@ fn open<'a, 'b, 'c>(s: &'c [u8], window: &'a mut [u64], values: &'b mut [f64]) {
     }
 }
 
-// What so many slots of a window hold.
-fn room(slots: usize, each: usize) -> usize
-    requires { ⌜ (slots ≤ 17) × (each ≤ 5408) ⌝ }
+// The words of the window that these settings ask for; none where they are out of bounds.
+fn words_of(c: SmootherConfig) -> usize
+    ensures { λ r. ⌜ r ≤ WINDOW ⌝ }
 {
-    slots * each
+    if LAG < c.lag_frames {
+        return 0;
+    }
+    if TRACKS < c.max_tracks {
+        return 0;
+    }
+    window_words(c.lag_frames, c.max_tracks)
 }
 
-// A run with a window of the length that lag and C ask for, where these are in bounds.
-fn begin<'a, 'b, 'c>(s: &'c [u8], window: &'a mut [u64], values: &'b mut [f64]) {
-    let slots = (word(s, 0) % 17 + 1) as usize;
-    let most = (word(s, 2) % 129) as usize;
-    let w = room(slots, 142 + 6 * most);
-    let x = room(slots, 32 + 42 * most);
-    if window.len() < w {
-        return;
+// Its numbers.
+fn numbers_of(c: SmootherConfig) -> usize
+    ensures { λ r. ⌜ r ≤ VALUES ⌝ }
+{
+    if LAG < c.lag_frames {
+        return 0;
     }
-    if values.len() < x {
-        return;
+    if TRACKS < c.max_tracks {
+        return 0;
     }
-    open(s, &mut window[..w], &mut values[..x]);
+    window_numbers(c.lag_frames, c.max_tracks)
 }
 
 fn main() {
     let mut buffer = io::large_buffer();
     let n = io::read_full(STDIN_FILENO, &mut buffer);
+    let s = &buffer[..n];
     let mut window = [0u64; WINDOW];
     let mut values = [0.0; VALUES];
-    begin(&buffer[..n], &mut window, &mut values);
+    let config = settings(s);
+    let w = words_of(config);
+    let x = numbers_of(config);
+    open(s, config, &mut window[..w], &mut values[..x]);
 }

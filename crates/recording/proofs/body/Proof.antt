@@ -42,7 +42,7 @@ use denote.Triple.Table.{entered, cited}
 use denote.Triple.Walked.{says, Stays, stay-none, walkOf, goes-none, Walks, ends-at, walked, walk-meets}
 use denote.Exit.{yes}
 use denote.Triple.Clauses.{ensured, lasts}
-use Rattle.recording.specs.Recording.{bodyAt}
+use Rattle.recording.specs.Recording.{recordedBody}
 use Rattle.recording.specs.declared.Reader.{Reader}
 use Rattle.recording.proofs.Reader as T
 use Rattle.recording.proofs.Reader.Laws as T′
@@ -76,7 +76,7 @@ module _ {M : Type 1} (𝓤 : URA M) (H : Heap 𝓤) (A : Atoms 𝓤) (W : Given
   v = sliceVal (d .recording .ptr) (length (d .recording .now))
 
   abbrev found : List ℕ
-  found = bodyAt (now (d .recording)) (d .entry)
+  found = recordedBody (now (d .recording)) (d .entry)
 
   -- the result's type
   abbrev R : RattleType

@@ -3,7 +3,7 @@ use Prim.Native.Nat.{_+_, _-_}
 use mathlib.Core.Path.{_≡_, sym, _∙_}
 use native.Mathlib.Omega.{arith}
 use borrow.Author.Tests.{not-true, not-false}
-use Rattle.recording.specs.Recording.{bodyAt}
+use Rattle.recording.specs.Recording.{recordedBody}
 use Rattle.recording.proofs.Recorded.{held}
 use borrow.Author.Needs.{needs}
 use Rattle.recording.proofs.body_at.Statement.{statement}
@@ -22,7 +22,7 @@ part-result-end : tie.Need-part-result-end
 part-result-end c = search needs
 
 returns : tie.Need-returns
-unfolding bodyAt
+unfolding recordedBody
 returns c = rw (sym (c .before .before .entry-holds .ensures) ∙ not-true _ (c .before .if1 .taken))
 
 offset-of-requires : tie.Need-offset-of-requires
@@ -44,7 +44,7 @@ part-result-end-2 : tie.Need-part-result-end-2
 part-result-end-2 c = omega (arith, held (c .before .before .before .before .before .args .s .now) (c .before .before .before .before .before .args .i) (sym (c .before .before .before .entry-holds .ensures) ∙ not-false _ (c .before .before .if1 .left)) .1, c .before .offset-of .ensures, c .size-of .ensures)
 
 returns-2 : tie.Need-returns-2
-unfolding bodyAt
+unfolding recordedBody
 returns-2 c = let e : c .before .before .offset-of .result + c .before .size-of .result - c .before .before .offset-of .result ≡ c .before .size-of .result = omega arith in rw (sym (c .before .before .before .before .entry-holds .ensures) ∙ not-false _ (c .before .before .before .if1 .left), e, c .before .before .offset-of .ensures, c .before .size-of .ensures)
 
 pub body-at-spec : {M : Type 1} → statement M

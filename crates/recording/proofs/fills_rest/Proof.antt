@@ -1,11 +1,12 @@
 -- `recording::fills_rest` meets its contract. Assumes nothing.
-use Prim.Native.Nat.{ℕ, _+_, _*_, _-_, _≤_}
+use Prim.Native.Nat.{ℕ, _+_, _*_, _^_, _-_, _≤_}
 use mathlib.Core.Path.{_≡_, sym, ap}
 use mathlib.Core.Bool.{true}
 use native.Mathlib.Omega.{arith}
 use lib.Dec.{eqb}
 use borrow.Author.Needs.{needs}
 use borrow.Author.Tests.{eq-eqb, ne-eqb}
+use Rattle.bounds.specs.Bounds.{CONTENTS, ENTRY, RECORDING}
 use Rattle.engine.specs.Body.{all}
 use Rattle.engine.proofs.Bytes.{little-below}
 use Rattle.engine.proofs.Every.{all-none, all-more, all-less}
@@ -15,7 +16,7 @@ use Rattle.recording.proofs.fills_rest.Statement.{statement}
 use Rattle.recording.proofs.fills_rest.Tie as tie
 
 abbrev Inv-loop : tie.InvT-loop
-Inv-loop s n at₀ i₀ at i = (i ≤ n) × (n ≡ count s) × (at ≡ start s i) × (at ≤ 65536 + 4294967296 * i) × (all (λ k. eqb (offset s k) (start s k)) i ≡ true)
+Inv-loop s n at₀ i₀ at i = (i ≤ n) × (n ≡ count s) × (at ≡ start s i) × (at ≤ RECORDING + 2 ^ 32 * i) × (all (λ k. eqb (offset s k) (start s k)) i ≡ true)
 
 abbrev μ-loop : tie.MeasureT-loop
 μ-loop s n at₀ i₀ at i = n - i
@@ -31,7 +32,7 @@ add-at c = search needs
 
 loop-holds : tie.Need-loop-holds Inv-loop μ-loop
 unfolding start
-loop-holds c = (omega arith, c .count-of .ensures, ap (λ (n : ℕ). 92 + 8 * n) (c .count-of .ensures), omega (arith, c .count-of .ensures), all-none _)
+loop-holds c = (omega arith, c .count-of .ensures, ap (λ (n : ℕ). CONTENTS + ENTRY * n) (c .count-of .ensures), omega (arith, c .count-of .ensures), all-none _)
 
 offset-of-requires : tie.Need-offset-of-requires Inv-loop μ-loop
 offset-of-requires c κs = search needs
@@ -44,7 +45,7 @@ size-of-requires : tie.Need-size-of-requires Inv-loop μ-loop
 size-of-requires c κs = search needs
 
 add-at-2 : tie.Need-add-at-2 Inv-loop μ-loop
-add-at-2 c = record { fits = omega (arith, c .size-of .ensures, little-below 4 (c .before .before .before .before .before .before .before .args .s .now) (96 + 8 * c .before .before .before .before .loop .i) (c .before .before .before .before .before .before .shared-slice-known .given)) }
+add-at-2 c = record { fits = omega (arith, c .size-of .ensures, little-below 4 (c .before .before .before .before .before .before .before .args .s .now) (CONTENTS + ENTRY * c .before .before .before .before .loop .i + 4) (c .before .before .before .before .before .before .shared-slice-known .given)) }
 
 add-i : tie.Need-add-i Inv-loop μ-loop
 add-i c = search needs
@@ -53,7 +54,7 @@ loop-less : tie.Need-loop-less Inv-loop μ-loop
 loop-less c = search needs
 
 loop-again : tie.Need-loop-again Inv-loop μ-loop
-loop-again c = (omega arith, c .before .before .before .before .loop .inv .1, rw (c .size-of .ensures, c .before .before .before .before .loop .inv .2) (sym (start-more _ _)), omega (arith, c .size-of .ensures, little-below 4 (c .before .before .before .before .before .before .before .args .s .now) (96 + 8 * c .before .before .before .before .loop .i) (c .before .before .before .before .before .before .shared-slice-known .given)), all-more _ (c .before .before .before .before .loop .i) (c .before .before .before .before .loop .inv .4) (eq-eqb (offset (c .before .before .before .before .before .before .before .args .s .now) (c .before .before .before .before .loop .i)) (start (c .before .before .before .before .before .before .before .args .s .now) (c .before .before .before .before .loop .i)) (omega (arith, c .before .before .offset-of .ensures, c .before .before .before .before .loop .inv .2))))
+loop-again c = (omega arith, c .before .before .before .before .loop .inv .1, rw (c .size-of .ensures, c .before .before .before .before .loop .inv .2) (sym (start-more _ _)), omega (arith, c .size-of .ensures, little-below 4 (c .before .before .before .before .before .before .before .args .s .now) (CONTENTS + ENTRY * c .before .before .before .before .loop .i + 4) (c .before .before .before .before .before .before .shared-slice-known .given)), all-more _ (c .before .before .before .before .loop .i) (c .before .before .before .before .loop .inv .4) (eq-eqb (offset (c .before .before .before .before .before .before .before .args .s .now) (c .before .before .before .before .loop .i)) (start (c .before .before .before .before .before .before .before .args .s .now) (c .before .before .before .before .loop .i)) (omega (arith, c .before .before .offset-of .ensures, c .before .before .before .before .loop .inv .2))))
 
 returns-2 : tie.Need-returns-2 Inv-loop μ-loop
 unfolding fills

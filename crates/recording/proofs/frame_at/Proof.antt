@@ -40,7 +40,7 @@ use denote.Triple.Clauses.{ensured, lasts}
 use Rattle.recording.specs.declared.Reader.{Reader}
 use Rattle.recording.proofs.Reader as T
 use Rattle.recording.proofs.Reader.Laws as T′
-use Rattle.recording.specs.Recording.{bodyAt}
+use Rattle.recording.specs.Recording.{recordedBody}
 use Rattle.recording.proofs.new as new
 use Rattle.recording.proofs.new.Symbol as new-def
 use Rattle.recording.proofs.new.Symbol.{name as #recording·new}
@@ -129,20 +129,20 @@ module _ {M : Type 1} (𝓤 : URA M) (H : Heap 𝓤) (A : Atoms 𝓤) (W : Given
   goes-body : (r : Reader) (u : Val) → ent 𝓤 (⋆ 𝓤 H A (‵ (B (κ, tt) .own r (u ∷ [])) ∷ (‵ (flft κ q) ⊛ ‵ ftrue) ∷ [])) (Body 𝓤 H A mem run .pre (to-body r u))
   goes-body r u = qed W (‵ (B (κ, tt) .own r (u ∷ [])) ∷ (‵ (flft κ q) ⊛ ‵ ftrue) ∷ []) ∵ nothing ! $ move ! (1 ∷ 0 ∷ []) $ fjoin ! $ move ! (1 ∷ 0 ∷ []) $ join ! $ frame ! $ done !
 
-  body-said : (r′ : Reader) (t : RefT (List ℕ)) → ent 𝓤 (ensured 𝓤 H A body.ended (body.clauses 𝓤 H A mem run) (κ, tt) (r′, tt) tt t) (fact 𝓤 (now t ≡ bodyAt (now (r′ .recording)) (r′ .entry)))
-  body-said r′ t = exE 𝓤 _ (λ ws. snd∗ 𝓤 (sem 𝓤 H A (lasts body.ended (κ, tt) (r′, tt) ws)) (fact 𝓤 (now t ≡ bodyAt (now (r′ .recording)) (r′ .entry))))
+  body-said : (r′ : Reader) (t : RefT (List ℕ)) → ent 𝓤 (ensured 𝓤 H A body.ended (body.clauses 𝓤 H A mem run) (κ, tt) (r′, tt) tt t) (fact 𝓤 (now t ≡ recordedBody (now (r′ .recording)) (r′ .entry)))
+  body-said r′ t = exE 𝓤 _ (λ ws. snd∗ 𝓤 (sem 𝓤 H A (lasts body.ended (κ, tt) (r′, tt) ws)) (fact 𝓤 (now t ≡ recordedBody (now (r′ .recording)) (r′ .entry))))
 
-  exits : (t : RefT (List ℕ)) (u : Val) → now t ≡ bodyAt (now s) i → ent 𝓤 (⋆ 𝓤 H A (‵ (R .own t (u ∷ [])) ∷ (‵ (flft κ q) ⊛ ‵ ftrue) ∷ ‵ Own ∷ [])) (Post u)
+  exits : (t : RefT (List ℕ)) (u : Val) → now t ≡ recordedBody (now s) i → ent 𝓤 (⋆ 𝓤 H A (‵ (R .own t (u ∷ [])) ∷ (‵ (flft κ q) ⊛ ‵ ftrue) ∷ ‵ Own ∷ [])) (Post u)
   exits t u e =
       qed W (‵ (R .own t (u ∷ [])) ∷ (‵ (flft κ q) ⊛ ‵ ftrue) ∷ ‵ Own ∷ []) ∵
       suffices ! _ (ends-at 𝓤 H A frame-at.ended stayed (frame-at.clauses 𝓤 H A mem run) W (((κ, tt), (q, tt), tt, (s, (i, tt)), at), tt) u t (tt, (tt, tt)) (tt, (tt, tt))) $ says ! e $
       move ! (1 ∷ []) $ frame ! $ nothing ! $ owned ! usize (Is usize) (uint-makes 𝓤 H A W w64) i _ (refl, fits) $ fjoin ! $ move ! (2 ∷ 0 ∷ []) $ fjoin ! $ frame ! $ done !
 
   -- what is found at the struct that `body` is passed
-  found-at : (r r′ : Reader) (t : RefT (List ℕ)) → ((r .recording ≡ s) × (r .entry ≡ 0)) → ((r′ .recording ≡ r .recording) × (r′ .entry ≡ i)) → (now t ≡ bodyAt (now (r′ .recording)) (r′ .entry)) → now t ≡ bodyAt (now s) i
+  found-at : (r r′ : Reader) (t : RefT (List ℕ)) → ((r .recording ≡ s) × (r .entry ≡ 0)) → ((r′ .recording ≡ r .recording) × (r′ .entry ≡ i)) → (now t ≡ recordedBody (now (r′ .recording)) (r′ .entry)) → now t ≡ recordedBody (now s) i
   found-at r r′ t e e′ e″ =
       let p : r′ .recording ≡ s = e′ .0 ∙ e .0 in
-      e″ ∙ (ap (λ (x : RefT (List ℕ)). bodyAt (now x) (r′ .entry)) p ∙ ap (bodyAt (now s)) (e′ .1))
+      e″ ∙ (ap (λ (x : RefT (List ℕ)). recordedBody (now x) (r′ .entry)) p ∙ ap (recordedBody (now s)) (e′ .1))
 
   module _ (C : Calls 𝓤 H) (Λ : Loops 𝓤 H) (fm : FmC 𝓤 H (W .laws) C) (known-new : Triple 𝓤 (C #recording·new) (New 𝓤 H A mem run)) (known-moved : Triple 𝓤 (C #recording·moved) (Moved 𝓤 H A mem run)) (known-body : Triple 𝓤 (C #recording·body) (Body 𝓤 H A mem run)) where
     walk : Is (ShrSlice (named 0) κ u8) s (v ∷ []) → ent 𝓤 (onEntry 𝓤 H A frame-at.signature (κ, tt) (q, tt) (s, (i, tt)) at) (WpFn 𝓤 H C Λ code.function (v ∷ vint w64 i ∷ []) Post)
@@ -167,7 +167,7 @@ module _ {M : Type 1} (𝓤 : URA M) (H : Heap 𝓤) (A : Atoms 𝓤) (W : Given
         use2 W (raw (Body 𝓤 H A mem run .pre (to-body r′ u′))) (goes-body r′ u′) $
         calls-at ! fm (Body 𝓤 H A mem run) known-body (to-body r′ u′) (and-then ! (load ! (from ! (stop !)) (look ! 4 refl)) (no-more !)) (λ u″.
         use1 W (later (some (λ (t : RefT (List ℕ)). ((‵ (flft κ q) ⊛ ‵ ftrue) ⊛ ‵ (R .own t (u″ ∷ []))) ⊛ raw (ensured 𝓤 H A body.ended (body.clauses 𝓤 H A mem run) (κ, tt) (r′, tt) tt t)))) (id⊢ 𝓤 _) $ await ! tt $ pick ! (λ t.
-        split ! $ move ! (1 ∷ []) $ use1 W (raw (fact 𝓤 (now t ≡ bodyAt (now (r′ .recording)) (r′ .entry)))) (body-said r′ t) $ heard ! (now t ≡ bodyAt (now (r′ .recording)) (r′ .entry)) (λ e″. split ! $ move ! (1 ∷ []) $
+        split ! $ move ! (1 ∷ []) $ use1 W (raw (fact 𝓤 (now t ≡ recordedBody (now (r′ .recording)) (r′ .entry)))) (body-said r′ t) $ heard ! (now t ≡ recordedBody (now (r′ .recording)) (r′ .entry)) (λ e″. split ! $ move ! (1 ∷ []) $
         -- [the result; the token; what s owns; _4; …; _3; …; _2; …; _1; …; room for _0; …]
         peeks ! R (Is R) (shows 𝓤 H A R) t (u″ ∷ []) (λ is″.
         land ! (from ! (stop !)) (init ! 11 refl (shr-slice-lawful 𝓤 H A W (named 0) κ u8 .typed t (u″ ∷ []) is″ .0)) $

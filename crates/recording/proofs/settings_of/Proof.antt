@@ -17,29 +17,56 @@ u64-at-requires c κs = search needs
 f64-at-requires : tie.Need-f64-at-requires
 f64-at-requires c κs = search needs
 
+mul-f64-at : tie.Need-mul-f64-at
+mul-f64-at c = search needs
+
 f64-at-requires-2 : tie.Need-f64-at-requires-2
 f64-at-requires-2 c κs = search needs
+
+mul-f64-at-2 : tie.Need-mul-f64-at-2
+mul-f64-at-2 c = search needs
 
 f64-at-requires-3 : tie.Need-f64-at-requires-3
 f64-at-requires-3 c κs = search needs
 
+mul-f64-at-3 : tie.Need-mul-f64-at-3
+mul-f64-at-3 c = search needs
+
 f64-at-requires-4 : tie.Need-f64-at-requires-4
 f64-at-requires-4 c κs = search needs
+
+mul-f64-at-4 : tie.Need-mul-f64-at-4
+mul-f64-at-4 c = search needs
 
 f64-at-requires-5 : tie.Need-f64-at-requires-5
 f64-at-requires-5 c κs = search needs
 
+mul-f64-at-5 : tie.Need-mul-f64-at-5
+mul-f64-at-5 c = search needs
+
 f64-at-requires-6 : tie.Need-f64-at-requires-6
 f64-at-requires-6 c κs = search needs
+
+mul-f64-at-6 : tie.Need-mul-f64-at-6
+mul-f64-at-6 c = search needs
 
 f64-at-requires-7 : tie.Need-f64-at-requires-7
 f64-at-requires-7 c κs = search needs
 
+mul-i64-at : tie.Need-mul-i64-at
+mul-i64-at c = search needs
+
 i64-at-requires : tie.Need-i64-at-requires
 i64-at-requires c κs = search needs
 
+mul-i64-at-2 : tie.Need-mul-i64-at-2
+mul-i64-at-2 c = search needs
+
 i64-at-requires-2 : tie.Need-i64-at-requires-2
 i64-at-requires-2 c κs = search needs
+
+mul-u64-at : tie.Need-mul-u64-at
+mul-u64-at c = search needs
 
 u64-at-requires-2 : tie.Need-u64-at-requires-2
 u64-at-requires-2 c κs = search needs
@@ -54,13 +81,22 @@ settings-of-spec =
     (tie.spec
     u64-at-requires
     f64-at-requires
+    mul-f64-at
     f64-at-requires-2
+    mul-f64-at-2
     f64-at-requires-3
+    mul-f64-at-3
     f64-at-requires-4
+    mul-f64-at-4
     f64-at-requires-5
+    mul-f64-at-5
     f64-at-requires-6
+    mul-f64-at-6
     f64-at-requires-7
+    mul-i64-at
     i64-at-requires
+    mul-i64-at-2
     i64-at-requires-2
+    mul-u64-at
     u64-at-requires-2
     returns)

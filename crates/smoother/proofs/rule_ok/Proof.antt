@@ -1,9 +1,9 @@
 -- `smoother::rule_ok` meets its contract. Assumes nothing.
 use mathlib.Core.Path.{sym, _∙_}
 use borrow.Author.Tests.{le-leb, lt-leb, not-true, not-false}
+use Rattle.smoother_window.proofs.Forms.{frames-long}
 use Rattle.smoother.specs.Smoother as Smoother
 use Rattle.smoother.specs.Promise.{stateIn}
-use Rattle.ring.proofs.Forms.{frames-long}
 use borrow.Author.Needs.{needs}
 use Rattle.smoother.proofs.rule_ok.Statement.{statement}
 use Rattle.smoother.proofs.rule_ok.Tie as tie
@@ -22,10 +22,4 @@ returns-3 c = let g = c .before .before .before .before .before .before .before 
 
 pub rule-ok-spec : {M : Type 1} → statement M
 rule-ok-spec =
-    tie.close
-    (tie.spec
-    (λ c κs. search needs)
-    returns
-    returns-2
-    (λ c κs. search needs)
-    returns-3)
+    tie.close (tie.spec (λ c κs. search needs) returns returns-2 (λ c κs. search needs) returns-3)

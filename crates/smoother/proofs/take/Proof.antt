@@ -1,61 +1,58 @@
 -- `smoother::take` meets its contract. Assumes nothing.
-use mathlib.Core.Path.{_≡_, sym, _∙_, subst}
-use lib.ListN.{length}
+use mathlib.Core.Path.{refl, sym, _∙_}
 use native.Mathlib.Omega.{arith}
-use Rattle.smoother.specs.declared.Answer.the-variants.{Refused}
-use Rattle.smoother.specs.Smoother.{laterRefusal}
-use Rattle.smoother.specs.Promise.{stateIn, buffers, lengths, Promised}
-use Rattle.smoother.proofs.Refusals.{all-counted, passing}
-use Rattle.smoother.proofs.Calls.{refuses, take-refused, take-passed, none-held, gives-oldest}
+use lib.ListN.{length}
+use Rattle.buffers.specs.Answer.{taken}
+use Rattle.smoother.specs.Smoother.{takes}
+use Rattle.smoother.specs.Promise.{window}
+use Rattle.smoother.proofs.Refusals.{passing}
+use Rattle.smoother.proofs.Calls.{due-refused, due-passed, none-held, refuses, gives-oldest}
 use borrow.Author.Needs.{needs}
 use Rattle.smoother.proofs.take.Statement.{statement}
 use Rattle.smoother.proofs.take.Tie as tie
 
 returns : tie.Need-returns
 returns c =
-    let g = c .before .before .before .before .before .before .args in
-    let b = buffers (g .window .now) (g .values .now) (g .words .now) (g .numbers .now) in
-    let st = stateIn (g .given) (g .window .now) (g .values .now) in
-    let n = c .before .later-refusal .result in
-    subst (λ p. Promised (g .given) b p (record { answer = Refused n; state = g .given }) b) (take-refused st (lengths b) n (c .before .later-refusal .ensures) (c .if1 .taken)) (refuses (g .given) b n)
+    let g = c .before .before .before .before .before .before .before .args in
+    let w = window (g .window .now) (g .values .now) in
+    let ws = g .words .now in
+    let ns = g .numbers .now in
+    refuses taken (g .given) w ws ns _ (due-refused taken (g .given) w ws ns (c .before .before .later-refusal .ensures) (c .before .if1 .taken)) (c .refused .ensures)
 
 returns-2 : tie.Need-returns-2
 returns-2 c =
-    let g = c .before .before .before .before .before .before .before .before .args in
-    let b = buffers (g .window .now) (g .values .now) (g .words .now) (g .numbers .now) in
-    let st = stateIn (g .given) (g .window .now) (g .values .now) in
-    let e : laterRefusal st (lengths b) ≡ 0 = sym (c .before .before .before .later-refusal .ensures) ∙ c .before .before .if1 .left in
-    subst (λ p. Promised (g .given) b p (record { answer = Refused 13; state = g .given }) b) (none-held (g .given) (g .window .now) (g .values .now) (c .if2 .taken) ∙ take-passed st (lengths b) e) (refuses (g .given) b 13)
+    let g = c .before .before .before .before .before .before .before .before .before .args in
+    let w = window (g .window .now) (g .values .now) in
+    let ws = g .words .now in
+    let ns = g .numbers .now in
+    refuses taken (g .given) w ws ns 13 (due-passed taken (g .given) w ws ns (sym (c .before .before .before .before .later-refusal .ensures) ∙ c .before .before .before .if1 .left) ∙ none-held (g .given) w (c .before .if2 .taken)) (c .refused2 .ensures)
 
-release-requires : tie.Need-release-requires
-release-requires c κs =
+emit-oldest-requires : tie.Need-emit-oldest-requires
+emit-oldest-requires c κs =
     let g = c .before .before .before .before .before .before .before .before .before .before .args in
-    let b = buffers (g .window .now) (g .values .now) (g .words .now) (g .numbers .now) in
-    let st = stateIn (g .given) (g .window .now) (g .values .now) in
-    let e : laterRefusal st (lengths b) ≡ 0 = sym (c .before .before .before .before .before .later-refusal .ensures) ∙ c .before .before .before .before .if1 .left in
-    let p = passing (g .given) b e in
-    (p .fits, omega (arith, p .few), omega (arith, c .before .before .if2 .left), all-counted (g .given) (g .window .now) (g .values .now) (p .fits .words) (p .formed), p .words, p .numbers)
+    let p = passing (g .given) (window (g .window .now) (g .values .now)) (length (g .words .now)) (length (g .numbers .now)) (sym (c .before .before .before .before .before .later-refusal .ensures) ∙ c .before .before .before .before .if1 .left) in
+    (p .fits, omega (arith, p .few), omega (arith, c .before .before .if2 .left), p .counted, p .words, p .numbers)
 
 returns-3 : tie.Need-returns-3
-unfolding stateIn
+unfolding takes
 returns-3 c =
     let g = c .before .before .before .before .before .before .before .before .before .before .before .before .before .before .before .args in
-    let b = buffers (g .window .now) (g .values .now) (g .words .now) (g .numbers .now) in
-    let st = stateIn (g .given) (g .window .now) (g .values .now) in
-    let e : laterRefusal st (lengths b) ≡ 0 = sym (c .before .before .before .before .before .before .before .before .before .before .later-refusal .ensures) ∙ c .before .before .before .before .before .before .before .before .before .if1 .left in
-    let r = c .before .before .before .before .release in
-    subst (λ p. Promised (g .given) b p (r .result) (buffers (g .window .now) (g .values .now) (r .last .1 .1 .1 .0) (r .last .1 .1 .1 .1 .0))) (take-passed st (lengths b) e)
-    (gives-oldest (g .given) (g .given) (g .window .now) (g .window .now) (g .values .now) (g .values .now) (g .words .now) (r .last .1 .1 .1 .0) (g .numbers .now) (r .last .1 .1 .1 .1 .0) (r .result) (omega (arith, c .before .before .before .before .before .before .before .if2 .left)) (r .ensures)
-    (λ i. record { windowWords = length (g .window .now); windowNumbers = length (g .values .now); outWords = r .kept .1 .1 .1 .0 i; outNumbers = r .kept .1 .1 .1 .1 .0 i }))
+    let w = window (g .window .now) (g .values .now) in
+    let ws = g .words .now in
+    let ns = g .numbers .now in
+    let r = c .before .before .before .before .emit-oldest in
+    gives-oldest taken (g .given) w ws ns (g .given) w refl refl (due-passed taken (g .given) w ws ns (sym (c .before .before .before .before .before .before .before .before .before .before .later-refusal .ensures) ∙ c .before .before .before .before .before .before .before .before .before .if1 .left)) (omega (arith, c .before .before .before .before .before .before .before .if2 .left)) (r .ensures) (r .kept .1 .1 .1 .0) (r .kept .1 .1 .1 .1 .0)
 
 pub take-spec : {M : Type 1} → statement M
 take-spec =
     tie.close
     (tie.spec
     (λ c κs. search needs)
+    (λ c κs. search needs)
     returns
+    (λ c κs. search needs)
     returns-2
-    release-requires
+    emit-oldest-requires
     (λ c. search needs)
     (λ c. search needs)
     returns-3)

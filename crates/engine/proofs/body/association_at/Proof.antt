@@ -2,6 +2,7 @@
 use native.Mathlib.Omega.{arith}
 use Rattle.engine.specs.Body.{associationAt}
 use Rattle.engine.proofs.Bytes.{little-one}
+use Rattle.engine.proofs.Layouts.{association-read}
 use borrow.Author.Needs.{needs}
 use Rattle.engine.proofs.body.association_at.Statement.{statement}
 use Rattle.engine.proofs.body.association_at.Tie as tie
@@ -53,7 +54,7 @@ cost-of-requires c κs = tt
 
 returns : tie.Need-returns
 unfolding associationAt
-returns c = rw (little-one (c .before .before .before .before .before .before .before .before .before .before .args .s .now) (c .before .before .before .before .before .before .before .before .before .before .args .o), c .before .before .before .before .before .associated-of .ensures, c .before .before .before .before .before .before .u64-at .ensures, c .before .before .before .outcome-of .ensures, c .cost-of .ensures, c .before .f64-at .ensures)
+returns c = association-read (c .before .before .before .before .before .before .before .before .before .before .args .kind) (c .before .before .before .before .before .before .before .before .before .before .args .s .now) (c .before .before .before .before .before .before .before .before .before .before .args .o) (rw (little-one (c .before .before .before .before .before .before .before .before .before .before .args .s .now) (c .before .before .before .before .before .before .before .before .before .before .args .o), c .before .before .before .before .before .associated-of .ensures, c .before .before .before .before .before .before .u64-at .ensures, c .before .before .before .outcome-of .ensures, c .cost-of .ensures, c .before .f64-at .ensures))
 
 pub association-at-spec : {M : Type 1} → statement M
 association-at-spec =

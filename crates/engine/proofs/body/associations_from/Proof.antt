@@ -1,21 +1,21 @@
 -- `engine::body::associations_from` meets its contract. Assumes nothing.
 use native.Mathlib.Omega.{arith}
-use Rattle.engine.proofs.Bytes.{little-below}
+use Rattle.engine.proofs.Layouts.{small}
 use borrow.Author.Needs.{needs}
 use Rattle.engine.proofs.body.associations_from.Statement.{statement}
 use Rattle.engine.proofs.body.associations_from.Tie as tie
 
 observations-from-requires : tie.Need-observations-from-requires
-observations-from-requires c κs = tt
+observations-from-requires c κs = search needs
 
 observation-count-requires : tie.Need-observation-count-requires
-observation-count-requires c κs = tt
+observation-count-requires c κs = search needs
 
 mul-result : tie.Need-mul-result
-mul-result c = record { fits = omega (arith, c .observation-count .ensures, little-below 1 (c .before .before .before .args .s .now) 2 (c .before .before .shared-slice-known .given)) }
+mul-result c = record { fits = omega (arith, c .observation-count .ensures, small (c .before .before .before .args .s .now) (c .before .before .shared-slice-known .given) (c .before .before .before .args .kind)) }
 
 add-result : tie.Need-add-result
-add-result c = record { fits = omega (arith, c .before .observations-from .ensures, c .observation-count .ensures, little-below 1 (c .before .before .before .args .s .now) 2 (c .before .before .shared-slice-known .given), c .before .before .shared-slice-known .given 1 .fits, c .before .before .shared-slice-known .given 4 .fits) }
+add-result c = record { fits = omega (arith, c .before .observations-from .ensures, c .observation-count .ensures, small (c .before .before .before .args .s .now) (c .before .before .shared-slice-known .given) (c .before .before .before .args .kind)) }
 
 returns : tie.Need-returns
 returns c = search needs

@@ -1,20 +1,21 @@
 -- `engine::body::observations_from` meets its contract. Assumes nothing.
 use native.Mathlib.Omega.{arith}
+use Rattle.engine.proofs.Layouts.{small}
 use borrow.Author.Needs.{needs}
 use Rattle.engine.proofs.body.observations_from.Statement.{statement}
 use Rattle.engine.proofs.body.observations_from.Tie as tie
 
 sensors-from-requires : tie.Need-sensors-from-requires
-sensors-from-requires c κs = tt
+sensors-from-requires c κs = search needs
 
 sensor-count-requires : tie.Need-sensor-count-requires
-sensor-count-requires c κs = tt
+sensor-count-requires c κs = search needs
 
 mul-result : tie.Need-mul-result
-mul-result c = record { fits = omega (arith, c .sensor-count .ensures, c .before .before .shared-slice-known .given 4 .fits) }
+mul-result c = record { fits = omega (arith, c .sensor-count .ensures, small (c .before .before .before .args .s .now) (c .before .before .shared-slice-known .given) (c .before .before .before .args .kind)) }
 
 add-result : tie.Need-add-result
-add-result c = record { fits = omega (arith, c .before .sensors-from .ensures, c .sensor-count .ensures, c .before .before .shared-slice-known .given 1 .fits, c .before .before .shared-slice-known .given 4 .fits) }
+add-result c = record { fits = omega (arith, c .before .sensors-from .ensures, c .sensor-count .ensures, small (c .before .before .before .args .s .now) (c .before .before .shared-slice-known .given) (c .before .before .before .args .kind)) }
 
 returns : tie.Need-returns
 returns c = search needs

@@ -8,6 +8,7 @@ use Rattle.recording.specs.declared.Contents.{Contents}
 use Rattle.recording.specs.declared.Contents.the-variants.{Refused, Frames}
 use Rattle.recording.specs.Recording.{settings, count, refusal, contentsBy, contentsOf}
 use Rattle.recording.proofs.Recorded.{recorded}
+use Rattle.bounds.specs.Bounds.{FRAMES}
 use borrow.Author.Needs.{needs}
 use Rattle.playback.proofs.play.play.Statement.{statement}
 use Rattle.playback.proofs.play.play.Tie as tie
@@ -17,17 +18,17 @@ abbrev framesOf : Contents → ℕ
 framesOf (Refused r) = 0
 framesOf (Frames c n) = n
 
--- they are at most 256: 11 refuses a recording with more
-at-most : (s : List ℕ) → framesOf (contentsOf s) ≤ 256
+-- they are at most FRAMES: 11 refuses a recording with more
+at-most : (s : List ℕ) → framesOf (contentsOf s) ≤ FRAMES
 unfolding contentsOf
 at-most s = go (refusal s) refl
   where
-    go : (r : ℕ) → refusal s ≡ r → framesOf (contentsBy r (settings s) (count s)) ≤ 256
+    go : (r : ℕ) → refusal s ≡ r → framesOf (contentsBy r (settings s) (count s)) ≤ FRAMES
     go zero e = recorded s e .few
     go (suc r) e = omega arith
 
-frames-few : (s : List ℕ) (c : FgoConfig) (n : ℕ) → contentsOf s ≡ Frames c n → n ≤ 256
-frames-few s c n e = subst (λ x. framesOf x ≤ 256) e (at-most s)
+frames-few : (s : List ℕ) (c : FgoConfig) (n : ℕ) → contentsOf s ≡ Frames c n → n ≤ FRAMES
+frames-few s c n e = subst (λ x. framesOf x ≤ FRAMES) e (at-most s)
 
 contents-of-requires : tie.Need-contents-of-requires
 contents-of-requires c κs = search needs

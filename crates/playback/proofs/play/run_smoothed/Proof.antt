@@ -1,32 +1,32 @@
 -- `playback::play::run_smoothed` meets its contract. Assumes nothing.
 use mathlib.Core.Path.{sym}
-use Prim.Native.Nat.{_*_, _≤_}
-use native.Mathlib.Omega.{arith}
+use Prim.Native.Nat.{_≤_}
+use native.Mathlib.Nat.{le-refl}
 use lib.Seq.{length-take-le}
+use Rattle.bounds.specs.Bounds.{TRACKS, WINDOW, VALUES}
+use Rattle.engine.specs.Config.{lag}
+use Rattle.smoother_window.proofs.Longest.{words-within, numbers-within}
 use borrow.Author.Needs.{needs}
 use Rattle.playback.proofs.play.run_smoothed.Statement.{statement}
 use Rattle.playback.proofs.play.run_smoothed.Tie as tie
 
-slots-of-requires : tie.Need-slots-of-requires
-slots-of-requires c κs = search needs
+window-words-requires : tie.Need-window-words-requires
+window-words-requires c κs = search needs
 
-mul-w : tie.Need-mul-w
-mul-w c = search needs
-
-mul-x : tie.Need-mul-x
-mul-x c = search needs
+window-numbers-requires : tie.Need-window-numbers-requires
+window-numbers-requires c κs = search needs
 
 array-borrow-prefix-window : tie.Need-array-borrow-prefix-window
 array-borrow-prefix-window c = search needs
 
 slice-aggregate-run-over : tie.Need-slice-aggregate-run-over
-slice-aggregate-run-over c = let h : 910 * c .before .slots-of .result ≤ 15470 = omega arith in sym (length-take-le _ _ h)
+slice-aggregate-run-over c = let h : c .before .before .window-words .result ≤ WINDOW = rw (c .before .before .window-words .ensures) (words-within (lag (c .before .before .before .before .args .refiner .config)) TRACKS (c .before .before .before .before .pre .1) (le-refl TRACKS)) in sym (length-take-le _ _ h)
 
 array-borrow-prefix-values : tie.Need-array-borrow-prefix-values
 array-borrow-prefix-values c = search needs
 
 slice-aggregate-run-over-2 : tie.Need-slice-aggregate-run-over-2
-slice-aggregate-run-over-2 c = let h : 5408 * c .before .before .slots-of .result ≤ 91936 = omega arith in sym (length-take-le _ _ h)
+slice-aggregate-run-over-2 c = let h : c .before .before .window-numbers .result ≤ VALUES = rw (c .before .before .window-numbers .ensures) (numbers-within (lag (c .before .before .before .before .before .args .refiner .config)) TRACKS (c .before .before .before .before .before .pre .1) (le-refl TRACKS)) in sym (length-take-le _ _ h)
 
 run-over-requires : tie.Need-run-over-requires
 run-over-requires c κs = search needs
@@ -38,9 +38,8 @@ pub run-smoothed-spec : {M : Type 1} → statement M
 run-smoothed-spec =
     tie.close
     (tie.spec
-    slots-of-requires
-    mul-w
-    mul-x
+    window-words-requires
+    window-numbers-requires
     array-borrow-prefix-window
     slice-aggregate-run-over
     array-borrow-prefix-values

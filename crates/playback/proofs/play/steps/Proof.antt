@@ -3,17 +3,18 @@ use mathlib.Core.Path.{_≡_}
 use Prim.Native.Nat.{_+_, _-_, _≤_}
 use native.Mathlib.Omega.{arith}
 use lib.ListN.{length}
+use Rattle.bounds.specs.Bounds.{FRAMES, LAG}
 use borrow.Author.Needs.{needs}
 use Rattle.playback.proofs.play.steps.Statement.{statement}
 use Rattle.playback.proofs.play.steps.Tie as tie
 
 abbrev Inv-loop : tie.InvT-loop
 Inv-loop s n bodies₀ columns₀ owners₀ tracks₀ filters₀ window₀ values₀ words₀ numbers₀ out₀ fw₀ fx₀ p₀ i₀ bodies columns owners tracks filters window values words numbers out fw fx p i =
-    (n ≤ 256) × (i ≤ n + 16) × (length window ≡ length window₀) × (length values ≡ length values₀)
+    (n ≤ FRAMES) × (i ≤ n + LAG) × (length window ≡ length window₀) × (length values ≡ length values₀)
 
 abbrev μ-loop : tie.MeasureT-loop
 μ-loop s n bodies₀ columns₀ owners₀ tracks₀ filters₀ window₀ values₀ words₀ numbers₀ out₀ fw₀ fx₀ p₀ i₀ bodies columns owners tracks filters window values words numbers out fw fx p i =
-    n + 16 - i
+    n + LAG - i
 
 slice-aggregate-fw : tie.Need-slice-aggregate-fw Inv-loop μ-loop
 slice-aggregate-fw c = search needs

@@ -1,9 +1,10 @@
 -- `playback::sink::put_answer` meets its contract. Assumes nothing.
-use mathlib.Core.Path.{sym}
+use mathlib.Core.Path.{sym, subst}
 use Prim.Native.Nat.{_≤_}
 use native.Mathlib.Omega.{arith}
 use lib.ListN.{length}
 use lib.Seq.{length-take-le}
+use Rattle.playback.specs.Shown.{Shown}
 use borrow.Author.Needs.{needs}
 use Rattle.playback.proofs.sink.put_answer.Statement.{statement}
 use Rattle.playback.proofs.sink.put_answer.Tie as tie
@@ -27,13 +28,13 @@ returns-2 : tie.Need-returns-2
 returns-2 c = search needs
 
 slice-aggregate-put-frame : tie.Need-slice-aggregate-put-frame
-slice-aggregate-put-frame c = let b = c .before .before .before .before in let g = b .before .before .before .before .before .before .args in let n = b .answer2 .given .0 .0 in let h : n ≤ length (g .fw .now) = omega arith in sym (length-take-le n (g .fw .now) h)
+slice-aggregate-put-frame c = let n = c .before .before .before .before .answer2 .given .0 .0 in let l = c .before .before .before .before .before .before .before .before .before .before .args .fw .now in let h : n ≤ length l = omega arith in sym (length-take-le n l h)
 
 slice-aggregate-put-frame-2 : tie.Need-slice-aggregate-put-frame-2
-slice-aggregate-put-frame-2 c = let b = c .before .before .before .before .before in let g = b .before .before .before .before .before .before .args in let n = b .answer2 .given .0 .1 .0 in let h : n ≤ length (g .fx .now) = omega arith in sym (length-take-le n (g .fx .now) h)
+slice-aggregate-put-frame-2 c = let n = c .before .before .before .before .before .answer2 .given .0 .1 .0 in let l = c .before .before .before .before .before .before .before .before .before .before .before .args .fx .now in let h : n ≤ length l = omega arith in sym (length-take-le n l h)
 
 put-frame-requires : tie.Need-put-frame-requires
-put-frame-requires c κs = search needs
+put-frame-requires c κs = subst (λ a. Shown a (c .before .before .before .before .before .before .before .before .before .before .before .before .before .before .before .before .args .fw .now)) (c .before .before .before .before .before .before .before .before .before .before .answer2 .given .1) (c .before .before .before .before .before .before .before .before .before .before .before .before .before .before .before .before .pre)
 
 returns-3 : tie.Need-returns-3
 returns-3 c = search needs

@@ -5,11 +5,11 @@ use Rattle.search.proofs.Carrying.{carried-on, carried-new}
 use Rattle.search.proofs.pass.carry.Statement.{statement}
 use Rattle.search.proofs.pass.carry.Tie as tie
 
-mul-x : tie.Need-mul-x
-mul-x c = search needs
+mul-t18 : tie.Need-mul-t18
+mul-t18 c = search needs
 
-element-copy-out-x : tie.Need-element-copy-out-x
-element-copy-out-x c = search needs
+element-copy-out-t21 : tie.Need-element-copy-out-t21
+element-copy-out-t21 c = search needs
 
 stood-requires : tie.Need-stood-requires
 stood-requires c κs = search needs
@@ -63,8 +63,8 @@ pub carry-spec : {M : Type 1} → statement M
 carry-spec =
     tie.close
     (tie.spec
-    mul-x
-    element-copy-out-x
+    mul-t18
+    element-copy-out-t21
     stood-requires
     mul-costs
     element-copy-out-costs

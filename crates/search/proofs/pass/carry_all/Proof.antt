@@ -8,7 +8,7 @@ use Rattle.search.proofs.pass.carry_all.Tie as tie
 
 abbrev Inv-loop : tie.InvT-loop
 Inv-loop hall last n old paid moved table starts dots tracks filters ids costs₀ due₀ logs₀ count k₀ i₀ costs due logs k i =
-    (i ≤ n) × Carried (sceneOf hall starts dots tracks filters) (last .count) (last .next) old moved table ids i costs due logs
+    (i ≤ n) × Carried (sceneOf hall starts dots tracks filters) (last .count) (last .«next_id» .0) old moved table ids i costs due logs
 
 abbrev μ-loop : tie.MeasureT-loop
 μ-loop hall last n old paid moved table starts dots tracks filters ids costs₀ due₀ logs₀ count k₀ i₀ costs due logs k i =
@@ -17,11 +17,11 @@ abbrev μ-loop : tie.MeasureT-loop
 loop-holds : tie.Need-loop-holds Inv-loop μ-loop
 loop-holds c = (omega arith, c .pre .4)
 
-mul-seek : tie.Need-mul-seek Inv-loop μ-loop
-mul-seek c = omega arith
+mul-t20 : tie.Need-mul-t20 Inv-loop μ-loop
+mul-t20 c = omega arith
 
-element-copy-out-seek : tie.Need-element-copy-out-seek Inv-loop μ-loop
-element-copy-out-seek c = omega arith
+element-copy-out-t23 : tie.Need-element-copy-out-t23 Inv-loop μ-loop
+element-copy-out-t23 c = omega arith
 
 seek-requires : tie.Need-seek-requires Inv-loop μ-loop
 seek-requires c κs = (c .before .before .before .pre .3 .listed .within, c .before .before .before .pre .3 .listed .long)
@@ -43,7 +43,7 @@ returns c =
     let s = c .before .before .args in
     let o = c .before .loop in
     let q : o .i ≡ s .n = omega arith in
-    subst (λ (k : ℕ). Carried (sceneOf (s .hall) (s .starts .now) (s .dots .now) (s .tracks .now) (s .filters .now)) (s .last .count) (s .last .next) (s .old .now) (s .moved .now) (s .table .now) (s .ids .now) k (o .costs) (o .due) (o .logs)) q (o .inv .1)
+    subst (λ (k : ℕ). Carried (sceneOf (s .hall) (s .starts .now) (s .dots .now) (s .tracks .now) (s .filters .now)) (s .last .count) (s .last .«next_id» .0) (s .old .now) (s .moved .now) (s .table .now) (s .ids .now) k (o .costs) (o .due) (o .logs)) q (o .inv .1)
 
 pub carry-all-spec : {M : Type 1} → statement M
 carry-all-spec =
@@ -52,8 +52,8 @@ carry-all-spec =
     Inv-loop
     μ-loop
     loop-holds
-    mul-seek
-    element-copy-out-seek
+    mul-t20
+    element-copy-out-t23
     seek-requires
     carry-requires
     add-i

@@ -3,7 +3,7 @@ use borrow.Author.Needs.{needs}
 use mathlib.Core.Path.{ap, _∙_}
 use lib.ListN.{length}
 use Rattle.engine.specs.Config.{radius}
-use Rattle.model.specs.Searching.{square}
+use Rattle.fgo_spec.specs.Searching.{square}
 use Rattle.search.proofs.CloseCuts.{close-long}
 use Rattle.search.proofs.Meeting.{rows-within, rows-apart, rows-meet}
 use Rattle.search.proofs.pass.close_rows.Statement.{statement}

@@ -6,25 +6,26 @@ use native.Mathlib.Omega.{arith}
 use lib.ListN.{length, getD, set, drop, length-set, length-drop}
 use lib.Seq.{ext-getD, getD-take, getD-drop, getD-set-same, getD-set-other, length-take-le}
 use borrow.Author.Count.{below-more}
-use Rattle.nearness.specs.Near.{rowAt}
+use Rattle.bounds.specs.Bounds.{SCANS, DETECTIONS, ROW, ROWS}
+use Rattle.search_neighbours.specs.Near.{rowAt}
 use Rattle.search.proofs.pass.copy_row.Statement.{statement}
 use Rattle.search.proofs.pass.copy_row.Tie as tie
 
 -- a row that has each entry of the table's is the table's
 row-copied :
-    (rows row : List ℕ) (i : ℕ) → i < 128 → length rows ≡ 2432 → length row ≡ 17 → ((m : ℕ) → m < 17 → getD row m 0 ≡ getD rows (19 * i + m) 0) → row ≡ rowAt rows i
+    (rows row : List ℕ) (i : ℕ) → i < DETECTIONS → length rows ≡ ROWS → length row ≡ SCANS → ((m : ℕ) → m < SCANS → getD row m 0 ≡ getD rows (ROW * i + m) 0) → row ≡ rowAt rows i
 row-copied rows row i h l k all =
     ext-getD 0 row (rowAt rows i) (k ∙ sym long)
-    (λ m b. all m (omega (arith, k, b)) ∙ sym (getD-take (19 * i + 17 - 19 * i) (drop (19 * i) rows) m 0 (omega (arith, k, b)) ∙ getD-drop (19 * i) rows m 0))
+    (λ m b. all m (omega (arith, k, b)) ∙ sym (getD-take (ROW * i + SCANS - ROW * i) (drop (ROW * i) rows) m 0 (omega (arith, k, b)) ∙ getD-drop (ROW * i) rows m 0))
   where
-    long : length (rowAt rows i) ≡ 17
+    long : length (rowAt rows i) ≡ SCANS
     long =
-        let q : 19 * i + 17 - 19 * i ≡ 17 = omega arith in
-        length-take-le (19 * i + 17 - 19 * i) (drop (19 * i) rows) (omega (arith, length-drop (19 * i) rows, l, h)) ∙ q
+        let q : ROW * i + SCANS - ROW * i ≡ SCANS = omega arith in
+        length-take-le (ROW * i + SCANS - ROW * i) (drop (ROW * i) rows) (omega (arith, length-drop (ROW * i) rows, l, h)) ∙ q
 
 -- one entry more
 copied-more :
-    (rows row : List ℕ) (at k : ℕ) {v : ℕ} → v ≡ getD rows (at + k) 0 → length row ≡ 17 → k < 17 → ((m : ℕ) → m < k → getD row m 0 ≡ getD rows (at + m) 0) →
+    (rows row : List ℕ) (at k : ℕ) {v : ℕ} → v ≡ getD rows (at + k) 0 → length row ≡ SCANS → k < SCANS → ((m : ℕ) → m < k → getD row m 0 ≡ getD rows (at + m) 0) →
     (m : ℕ) → m < k + 1 → getD (set row k v) m 0 ≡ getD rows (at + m) 0
 copied-more rows row at k {v} e l h all =
     below-more (λ (m : ℕ). getD (set row k v) m 0 ≡ getD rows (at + m) 0) k
@@ -33,10 +34,10 @@ copied-more rows row at k {v} e l h all =
 
 abbrev Inv-loop : tie.InvT-loop
 Inv-loop i rows row₀ at k₀ row k =
-    (k ≤ 17) × (i < 128) × (at ≡ 19 * i) × (length row ≡ 17) × (length rows ≡ 2432) × ((m : ℕ) → m < k → getD row m 0 ≡ getD rows (at + m) 0)
+    (k ≤ SCANS) × (i < DETECTIONS) × (at ≡ ROW * i) × (length row ≡ SCANS) × (length rows ≡ ROWS) × ((m : ℕ) → m < k → getD row m 0 ≡ getD rows (at + m) 0)
 
 abbrev μ-loop : tie.MeasureT-loop
-μ-loop i rows row₀ at k₀ row k = 17 - k
+μ-loop i rows row₀ at k₀ row k = SCANS - k
 
 mul-at : tie.Need-mul-at Inv-loop μ-loop
 mul-at c = omega arith
@@ -69,7 +70,7 @@ loop-again : tie.Need-loop-again Inv-loop μ-loop
 loop-again c =
     let s = c .before .before .before .before .args in
     let o = c .before .before .before .loop in
-    (omega arith, omega arith, omega arith, length-set (o .row) (o .k) (c .wide .result) ∙ o .inv .3, omega arith, copied-more (s .rows .now) (o .row) (19 * s .i) (o .k) (c .wide .ensures) (o .inv .3) (c .before .before .loop-test .taken) (o .inv .5))
+    (omega arith, omega arith, omega arith, length-set (o .row) (o .k) (c .wide .result) ∙ o .inv .3, omega arith, copied-more (s .rows .now) (o .row) (ROW * s .i) (o .k) (c .wide .ensures) (o .inv .3) (c .before .before .loop-test .taken) (o .inv .5))
 
 returns : tie.Need-returns Inv-loop μ-loop
 returns c =

@@ -6,7 +6,7 @@ use Rattle.search.proofs.pass.cost_now.Statement.{statement}
 use Rattle.search.proofs.pass.cost_now.Tie as tie
 
 returns : tie.Need-returns
-returns c = (c .before .pre .2 (c .if1 .taken), (λ h. refl), c .before .pre .3)
+returns c = (c .before .before .before .pre .2 (c .if1 .taken), (λ h. refl), c .before .before .before .pre .3)
 
 track-cost-requires : tie.Need-track-cost-requires
 track-cost-requires c κs = search needs

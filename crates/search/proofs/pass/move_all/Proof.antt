@@ -15,10 +15,10 @@ visit-tracks-requires c κs = search needs
 
 returns : tie.Need-returns
 returns c =
-    let s = c .before .before .before .before .before .before .before .before .before .before .args in
+    let s = c .before .before .before .before .before .before .before .before .before .before .before .args in
     let e = sceneOf (s .hall) (s .starts .now) (s .dots .now) (s .tracks .now) (s .filters .now) in
     let v = c .visit-tracks .ensures in (
-      (λ is b. let w = c .before .before .before .before .before .sweep-pairs .ensures .0 is b in (v .0 ∙ ap (visit e (take (s .n) (s .table .now))) (w .0), pass-leaves (c .before .before .before .before .before .before .before .before .before .before .pre .1) (w .1) (v .1) (v .2))),
+      (λ is b. let w = c .before .before .before .before .before .before .sweep-pairs .ensures .0 is b in (v .0 ∙ ap (visit e (take (s .n) (s .table .now))) (w .0), pass-leaves (c .before .before .before .before .before .before .before .before .before .before .before .pre .1) (w .1) (v .1) (v .2))),
       v .1 .kept,
     )
 

@@ -5,7 +5,7 @@ use mathlib.Core.Path.{refl, sym, ap, _∙_}
 use native.Mathlib.Omega.{arith}
 use lib.ListN.{getD}
 use lib.Ieee.{binary64, add}
-use Rattle.windows.specs.Moves.{pairStays}
+use Rattle.search_rows.specs.Moves.{pairStays}
 use Rattle.search.specs.Pass.{sceneOf}
 use Rattle.search.proofs.Costing.{row-fit, row-costs}
 use Rattle.search.proofs.Stepping.{pair-best-is, pair-stays-is, pair-moves-is, pair-long, pair-leaves}
@@ -13,29 +13,11 @@ use Rattle.search.proofs.Resting.{grows-none, stands-anew, marks-grow, 
 use Rattle.search.proofs.pass.pair_step.Statement.{statement}
 use Rattle.search.proofs.pass.pair_step.Tie as tie
 
-mul-a : tie.Need-mul-a
-mul-a c = search needs
-
-element-copy-out-a : tie.Need-element-copy-out-a
-element-copy-out-a c = search needs
-
-mul-b : tie.Need-mul-b
-mul-b c = search needs
-
-element-copy-out-b : tie.Need-element-copy-out-b
-element-copy-out-b c = search needs
-
 mul-row-now : tie.Need-mul-row-now
 mul-row-now c = search needs
 
 element-copy-out-row-now : tie.Need-element-copy-out-row-now
 element-copy-out-row-now c = search needs
-
-row-now-requires : tie.Need-row-now-requires
-row-now-requires c κs =
-    let s = c .before .before .before .before .before .args in
-    let p = c .before .before .before .before .before .pre in
-    (omega (arith, p .1, p .2, p .3 .within), p .5 .rows-long, p .0 .starts, p .5 .costed .all, refl, λ z. p .5 .same (s .i) (omega (arith, p .1, p .2)) (eqb-true (getD (s .moved .now) (s .i) 0) 0 z))
 
 mul-row-now-2 : tie.Need-mul-row-now-2
 mul-row-now-2 c = search needs
@@ -43,17 +25,35 @@ mul-row-now-2 c = search needs
 element-copy-out-row-now-2 : tie.Need-element-copy-out-row-now-2
 element-copy-out-row-now-2 c = search needs
 
+mul-row-now-3 : tie.Need-mul-row-now-3
+mul-row-now-3 c = search needs
+
+element-copy-out-row-now-3 : tie.Need-element-copy-out-row-now-3
+element-copy-out-row-now-3 c = search needs
+
+row-now-requires : tie.Need-row-now-requires
+row-now-requires c κs =
+    let s = c .before .before .before .before .before .args in
+    let p = c .before .before .before .before .before .pre in
+    (omega (arith, p .1, p .2, p .3 .within), p .5 .rows-long, p .0 .starts, p .5 .costed .all, refl, λ z. p .5 .same (s .i) (omega (arith, p .1, p .2)) (eqb-true (getD (s .moved .now) (s .i) 0) 0 z))
+
+mul-row-now-4 : tie.Need-mul-row-now-4
+mul-row-now-4 c = search needs
+
+element-copy-out-row-now-4 : tie.Need-element-copy-out-row-now-4
+element-copy-out-row-now-4 c = search needs
+
 row-now-requires-2 : tie.Need-row-now-requires-2
 row-now-requires-2 c κs =
     let s = c .before .before .before .before .before .before .before .before .before .args in
     let p = c .before .before .before .before .before .before .before .before .before .pre in
     (omega (arith, p .2, p .3 .within), p .5 .rows-long, p .0 .starts, p .5 .costed .all, refl, λ z. p .5 .same (s .j) (p .2) (eqb-true (getD (s .moved .now) (s .j) 0) 0 z))
 
-part-of-requires : tie.Need-part-of-requires
-part-of-requires c κs = search needs
+fold-from-requires : tie.Need-fold-from-requires
+fold-from-requires c κs = search needs
 
-part-of-requires-2 : tie.Need-part-of-requires-2
-part-of-requires-2 c κs = search needs
+fold-from-requires-2 : tie.Need-fold-from-requires-2
+fold-from-requires-2 c κs = search needs
 
 mul-best-of-pair : tie.Need-mul-best-of-pair
 mul-best-of-pair c = search needs
@@ -76,8 +76,8 @@ best-of-pair-requires c κs =
     let p = c .before .before .before .before .before .before .before .before .before .before .before .before .before .before .before .before .before .pre in
     let ra = c .before .before .before .before .before .before .before .before .before .before .before .row-now .ensures in
     let rb = c .before .before .before .before .before .before .before .row-now2 .ensures in
-    let pa = c .before .before .before .before .before .before .part-of .ensures in
-    let pb = c .before .before .before .before .before .part-of2 .ensures in (
+    let pa = c .before .before .before .before .before .before .fold-from .ensures in
+    let pb = c .before .before .before .before .before .fold-from2 .ensures in (
       record { early = p .0 .early; kept = p .5 .kept },
       row-fit e (s .ids .now) a ra pa,
       row-fit e (s .ids .now) b rb pb,
@@ -96,7 +96,7 @@ returns c =
     let a = getD (s .table .now) (s .i) 0 in
     let b = getD (s .table .now) (s .j) 0 in
     let p = c .before .before .before .before .before .before .before .before .before .before .before .before .before .before .before .before .before .before .before .before .pre in
-    let best = pair-best-is e (s .close .now) a b (s .ids .now) (c .before .before .before .before .before .before .before .before .before .part-of .ensures) (c .before .before .before .before .before .before .before .before .part-of2 .ensures) (c .before .before .before .before .before .before .before .before .before .before .before .before .before .before .row-now .ensures) (c .before .before .before .before .before .before .before .before .before .before .row-now2 .ensures)
+    let best = pair-best-is e (s .close .now) a b (s .ids .now) (c .before .before .before .before .before .before .before .before .before .fold-from .ensures) (c .before .before .before .before .before .before .before .before .fold-from2 .ensures) (c .before .before .before .before .before .before .before .before .before .before .before .before .before .before .row-now .ensures) (c .before .before .before .before .before .before .before .before .before .before .row-now2 .ensures)
     (λ x. add binary64 (p .5 .costed .each (s .i) (omega (arith, p .1, p .2)) x) (p .5 .costed .each (s .j) (p .2) x)) (c .before .before .best-of-pair .ensures .0) in
     let stays = sym (c .before .pair-stays .ensures) ∙ c .if1 .taken in (
       pair-stays-is e (s .close .now) a b (s .ids .now) (s .t) best stays,
@@ -112,7 +112,7 @@ apply-pair-requires c κs =
     let a = getD (s .table .now) (s .i) 0 in
     let b = getD (s .table .now) (s .j) 0 in
     let p = c .before .before .before .before .before .before .before .before .before .before .before .before .before .before .before .before .before .before .before .before .before .before .before .pre in
-    (p .0 .early, p .0 .starts, row-fit e (s .ids .now) a (c .before .before .before .before .before .before .before .before .before .before .before .before .before .before .before .before .before .row-now .ensures) (c .before .before .before .before .before .before .before .before .before .before .before .before .part-of .ensures) .long, row-fit e (s .ids .now) b (c .before .before .before .before .before .before .before .before .before .before .before .before .before .row-now2 .ensures) (c .before .before .before .before .before .before .before .before .before .before .before .part-of2 .ensures) .long, p .5 .costed .all)
+    (p .0 .early, p .0 .starts, row-fit e (s .ids .now) a (c .before .before .before .before .before .before .before .before .before .before .before .before .before .before .before .before .before .row-now .ensures) (c .before .before .before .before .before .before .before .before .before .before .before .before .fold-from .ensures) .long, row-fit e (s .ids .now) b (c .before .before .before .before .before .before .before .before .before .before .before .before .before .row-now2 .ensures) (c .before .before .before .before .before .before .before .before .before .before .before .fold-from2 .ensures) .long, p .5 .costed .all)
 
 track-cost-requires : tie.Need-track-cost-requires
 track-cost-requires c κs =
@@ -166,7 +166,7 @@ returns-2 c =
     let a = getD (s .table .now) (s .i) 0 in
     let b = getD (s .table .now) (s .j) 0 in
     let p = c .before .before .before .before .before .before .before .before .before .before .before .before .before .before .before .before .before .before .before .before .before .before .before .before .before .before .before .before .before .before .before .pre in
-    let best = pair-best-is e (s .close .now) a b (s .ids .now) (c .before .before .before .before .before .before .before .before .before .before .before .before .before .before .before .before .before .before .before .before .part-of .ensures) (c .before .before .before .before .before .before .before .before .before .before .before .before .before .before .before .before .before .before .before .part-of2 .ensures) (c .before .before .before .before .before .before .before .before .before .before .before .before .before .before .before .before .before .before .before .before .before .before .before .before .before .row-now .ensures) (c .before .before .before .before .before .before .before .before .before .before .before .before .before .before .before .before .before .before .before .before .before .row-now2 .ensures)
+    let best = pair-best-is e (s .close .now) a b (s .ids .now) (c .before .before .before .before .before .before .before .before .before .before .before .before .before .before .before .before .before .before .before .before .fold-from .ensures) (c .before .before .before .before .before .before .before .before .before .before .before .before .before .before .before .before .before .before .before .fold-from2 .ensures) (c .before .before .before .before .before .before .before .before .before .before .before .before .before .before .before .before .before .before .before .before .before .before .before .before .before .row-now .ensures) (c .before .before .before .before .before .before .before .before .before .before .before .before .before .before .before .before .before .before .before .before .before .row-now2 .ensures)
     (λ x. add binary64 (p .5 .costed .each (s .i) (omega (arith, p .1, p .2)) x) (p .5 .costed .each (s .j) (p .2) x)) (c .before .before .before .before .before .before .before .before .before .before .before .before .before .best-of-pair .ensures .0) in
     let long = pair-long e (p .0 .starts) a b (s .ids .now) (p .5 .costed .all) (c .before .before .before .before .before .before .before .before .before .before .before .before .before .best-of-pair .result) _ _ (c .before .before .before .before .before .before .before .apply-pair .ensures) in (
       pair-moves-is e (s .close .now) a b (s .ids .now) (s .t) best (sym (c .before .before .before .before .before .before .before .before .before .before .before .before .pair-stays .ensures) ∙ c .before .before .before .before .before .before .before .before .before .before .before .if1 .left) (c .before .before .before .before .before .before .before .before .before .before .before .before .before .before .before .before .before .before .before .before .before .before .before .before .before .row-now .ensures) (c .before .before .before .before .before .before .before .before .before .before .before .before .before .before .before .before .before .before .before .before .before .row-now2 .ensures) (c .before .before .before .before .before .before .before .apply-pair .ensures) (c .count-pair .ensures),
@@ -181,18 +181,18 @@ pub pair-step-spec : {M : Type 1} → statement M
 pair-step-spec =
     tie.close
     (tie.spec
-    mul-a
-    element-copy-out-a
-    mul-b
-    element-copy-out-b
     mul-row-now
     element-copy-out-row-now
-    row-now-requires
     mul-row-now-2
     element-copy-out-row-now-2
+    mul-row-now-3
+    element-copy-out-row-now-3
+    row-now-requires
+    mul-row-now-4
+    element-copy-out-row-now-4
     row-now-requires-2
-    part-of-requires
-    part-of-requires-2
+    fold-from-requires
+    fold-from-requires-2
     mul-best-of-pair
     element-copy-out-best-of-pair
     mul-best-of-pair-2

@@ -4,8 +4,9 @@ use mathlib.Core.Path.{refl}
 use Prim.Native.Nat.{ℕ}
 use native.Mathlib.Omega.{arith}
 use lib.ListN.{length-replicate}
+use Rattle.bounds.specs.Bounds.{ROWS}
 use Rattle.engine.specs.Config.{maxPasses}
-use Rattle.costs.proofs.Logs.{kept-none}
+use Rattle.cost.proofs.Logs.{kept-none}
 use Rattle.search.specs.Pass.{sceneOf}
 use Rattle.search.proofs.Passes.{left-none, Ran, ran-none, ran-more, ran-still, ran-all}
 use Rattle.search.proofs.pass.run_passes.Statement.{statement}
@@ -13,14 +14,14 @@ use Rattle.search.proofs.pass.run_passes.Tie as tie
 
 abbrev Inv-loop : tie.InvT-loop
 Inv-loop hall starts dots tracks filters ids₀ table₀ rows₀ costs₀ due₀ moved₀ logs₀ t₀ last₀ left₀ ids table rows costs due moved logs t last left =
-    Ran (sceneOf hall starts dots tracks filters) (maxPasses (hall .config)) ids₀ t₀ ids table rows costs due moved logs t (last .count) (last .next) left
+    Ran (sceneOf hall starts dots tracks filters) (maxPasses (hall .config)) ids₀ t₀ ids table rows costs due moved logs t (last .count) (last .«next_id» .0) left
 
 abbrev μ-loop : tie.MeasureT-loop
 μ-loop hall starts dots tracks filters ids₀ table₀ rows₀ costs₀ due₀ moved₀ logs₀ t₀ last₀ left₀ ids table rows costs due moved logs t last left =
     left
 
 loop-holds : tie.Need-loop-holds Inv-loop μ-loop
-loop-holds c = ran-none (record { left = left-none refl (c .pre .1) refl refl; rows-long = length-replicate {A = ℕ} 2432 0; due-long = refl; kept = kept-none })
+loop-holds c = ran-none (record { left = left-none refl (c .pre .1) refl refl; rows-long = length-replicate {A = ℕ} ROWS 0; due-long = refl; kept = kept-none })
 
 returns : tie.Need-returns Inv-loop μ-loop
 returns c = let o = c .before .before .before .loop in (ran-still (o .inv) (c .before .before .loop-test .taken) (not-true (o .t .moved) (c .if1 .taken)), o .inv .tables .left .all)

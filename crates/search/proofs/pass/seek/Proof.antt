@@ -3,11 +3,12 @@ use mathlib.Core.Path.{_≡_}
 use Prim.Native.Nat.{_-_, _≤_}
 use lib.ListN.{length}
 use native.Mathlib.Omega.{arith}
+use Rattle.bounds.specs.Bounds.{DETECTIONS}
 use Rattle.search.proofs.pass.seek.Statement.{statement}
 use Rattle.search.proofs.pass.seek.Tie as tie
 
 abbrev Inv-loop : tie.InvT-loop
-Inv-loop x from n table k₀ k = (n ≤ 128) × (length table ≡ 128)
+Inv-loop x from n table k₀ k = (n ≤ DETECTIONS) × (length table ≡ DETECTIONS)
 
 abbrev μ-loop : tie.MeasureT-loop
 μ-loop x from n table k₀ k = n - k

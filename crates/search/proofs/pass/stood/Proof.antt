@@ -15,7 +15,7 @@ element-copy-out-result : tie.Need-element-copy-out-result
 element-copy-out-result c = search needs
 
 returns : tie.Need-returns
-returns c = let s = c .before .before .before .before .before .args in λ z. (c .before .before .before .if1 .taken, c .before .if2 .taken, eqb-true (getD (s .old .now) (s .k) 0) (s .x) z)
+returns c = let s = c .before .before .before .before .before .before .before .args in λ z. (c .before .before .before .before .before .if1 .taken, c .before .before .if2 .taken, eqb-true (getD (s .old .now) (s .k) 0) (s .x .0) z)
 
 returns-2 : tie.Need-returns-2
 returns-2 c = λ z. let w : _≡_ {A = ℕ} 0 1 = cc in absurd (omega arith)

@@ -1,7 +1,7 @@
 -- `search::pass::track_step` meets its contract. Assumes nothing.
 use borrow.Author.Needs.{needs}
 use mathlib.Core.Path.{sym, ap, _∙_}
-use Rattle.windows.specs.Moves.{trackStays}
+use Rattle.search_rows.specs.Moves.{trackStays}
 use Rattle.search.specs.Pass.{sceneOf}
 use Rattle.search.proofs.Costing.{row-fit}
 use Rattle.search.proofs.Stepping.{track-best-is, track-stays-is, track-moves-is, track-long}
@@ -10,15 +10,15 @@ use Rattle.search.proofs.Visits.{stepped-none, stepped-made}
 use Rattle.search.proofs.pass.track_step.Statement.{statement}
 use Rattle.search.proofs.pass.track_step.Tie as tie
 
-part-of-requires : tie.Need-part-of-requires
-part-of-requires c κs = search needs
+fold-from-requires : tie.Need-fold-from-requires
+fold-from-requires c κs = search needs
 
 best-of-track-requires : tie.Need-best-of-track-requires
 best-of-track-requires c κs =
     let s = c .before .before .args in
     let e = sceneOf (s .hall) (s .starts .now) (s .dots .now) (s .tracks .now) (s .filters .now) in
     let p = c .before .before .pre in
-    (record { early = p .0 .early; kept = p .7 }, row-fit e (s .ids .now) (s .a) (p .5) (c .before .part-of .ensures))
+    (record { early = p .0 .early; kept = p .7 }, row-fit e (s .ids .now) (s .a .0) (p .5) (c .before .fold-from .ensures))
 
 track-stays-requires : tie.Need-track-stays-requires
 track-stays-requires c κs = search needs
@@ -28,10 +28,10 @@ returns c =
     let s = c .before .before .before .before .before .args in
     let e = sceneOf (s .hall) (s .starts .now) (s .dots .now) (s .tracks .now) (s .filters .now) in
     let p = c .before .before .before .before .before .pre in
-    let best = track-best-is e (s .a) (s .ids .now) (c .before .before .before .before .part-of .ensures) (p .5) (p .6) (c .before .before .best-of-track .ensures .0) in
+    let best = track-best-is e (s .a .0) (s .ids .now) (c .before .before .before .before .fold-from .ensures) (p .5) (p .6) (c .before .before .best-of-track .ensures .0) in
     let stays = sym (c .before .track-stays .ensures) ∙ c .if1 .taken in (
-      track-stays-is e (s .a) (s .ids .now) (s .t) best stays,
-      stepped-none (p .2) (p .3) (p .4) (p .6) (stay-track e (s .a) (s .ids .now) (ap trackStays (sym best) ∙ stays)),
+      track-stays-is e (s .a .0) (s .ids .now) (s .t) best stays,
+      stepped-none (p .2) (p .3) (p .4) (p .6) (stay-track e (s .a .0) (s .ids .now) (ap trackStays (sym best) ∙ stays)),
       c .before .before .best-of-track .ensures .1,
     )
 
@@ -43,7 +43,7 @@ track-cost-requires c κs =
     let s = c .before .before .before .before .before .before .before .before .before .args in
     let e = sceneOf (s .hall) (s .starts .now) (s .dots .now) (s .tracks .now) (s .filters .now) in
     let p = c .before .before .before .before .before .before .before .before .before .pre in
-    (p .0, track-long e (p .0 .starts) (s .a) (s .t .next) (s .ids .now) (p .2) (c .before .before .before .before .before .before .best-of-track .result) (c .before .before .apply-track .ensures), c .before .before .before .before .before .before .best-of-track .ensures .1)
+    (p .0, track-long e (p .0 .starts) (s .a .0) (s .t .«next_id» .0) (s .ids .now) (p .2) (c .before .before .before .before .before .before .best-of-track .result) (c .before .before .apply-track .ensures), c .before .before .before .before .before .before .best-of-track .ensures .1)
 
 mul-costs : tie.Need-mul-costs
 mul-costs c = search needs
@@ -65,9 +65,9 @@ returns-2 c =
     let s = c .before .before .before .before .before .before .before .before .before .before .before .args in
     let e = sceneOf (s .hall) (s .starts .now) (s .dots .now) (s .tracks .now) (s .filters .now) in
     let p = c .before .before .before .before .before .before .before .before .before .before .before .pre in
-    let best = track-best-is e (s .a) (s .ids .now) (c .before .before .before .before .before .before .before .before .before .before .part-of .ensures) (p .5) (p .6) (c .before .before .before .before .before .before .before .before .best-of-track .ensures .0) in (
-      track-moves-is e (s .a) (s .ids .now) (s .t) best (sym (c .before .before .before .before .before .before .before .track-stays .ensures) ∙ c .before .before .before .before .before .before .if1 .left) (c .before .before .before .before .apply-track .ensures) (c .count-track .ensures),
-      stepped-made (p .2) (p .3) (p .4) (p .1) (track-long e (p .0 .starts) (s .a) (s .t .next) (s .ids .now) (p .2) (c .before .before .before .before .before .before .before .before .best-of-track .result) (c .before .before .before .before .apply-track .ensures)) (c .before .track-cost .result) (c .before .track-cost .ensures .0),
+    let best = track-best-is e (s .a .0) (s .ids .now) (c .before .before .before .before .before .before .before .before .before .before .fold-from .ensures) (p .5) (p .6) (c .before .before .before .before .before .before .before .before .best-of-track .ensures .0) in (
+      track-moves-is e (s .a .0) (s .ids .now) (s .t) best (sym (c .before .before .before .before .before .before .before .track-stays .ensures) ∙ c .before .before .before .before .before .before .if1 .left) (c .before .before .before .before .apply-track .ensures) (c .count-track .ensures),
+      stepped-made (p .2) (p .3) (p .4) (p .1) (track-long e (p .0 .starts) (s .a .0) (s .t .«next_id» .0) (s .ids .now) (p .2) (c .before .before .before .before .before .before .before .before .best-of-track .result) (c .before .before .before .before .apply-track .ensures)) (c .before .track-cost .result) (c .before .track-cost .ensures .0),
       c .before .track-cost .ensures .1,
     )
 
@@ -75,7 +75,7 @@ pub track-step-spec : {M : Type 1} → statement M
 track-step-spec =
     tie.close
     (tie.spec
-    part-of-requires
+    fold-from-requires
     best-of-track-requires
     track-stays-requires
     returns

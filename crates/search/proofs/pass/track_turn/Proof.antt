@@ -7,11 +7,11 @@ use Rattle.search.proofs.Visits.{visits-past, visits-on, visits-grow}
 use Rattle.search.proofs.pass.track_turn.Statement.{statement}
 use Rattle.search.proofs.pass.track_turn.Tie as tie
 
-mul-a : tie.Need-mul-a
-mul-a c = search needs
+mul-t20 : tie.Need-mul-t20
+mul-t20 c = search needs
 
-element-copy-out-a : tie.Need-element-copy-out-a
-element-copy-out-a c = search needs
+element-copy-out-t23 : tie.Need-element-copy-out-t23
+element-copy-out-t23 c = search needs
 
 track-rests-requires : tie.Need-track-rests-requires
 track-rests-requires c κs = search needs
@@ -61,8 +61,8 @@ pub track-turn-spec : {M : Type 1} → statement M
 track-turn-spec =
     tie.close
     (tie.spec
-    mul-a
-    element-copy-out-a
+    mul-t20
+    element-copy-out-t23
     track-rests-requires
     returns
     unmoved-requires

@@ -15,7 +15,7 @@ element-copy-out-result : tie.Need-element-copy-out-result
 element-copy-out-result c = search needs
 
 returns : tie.Need-returns
-returns c = let s = c .before .before .args in λ z. (c .before .if1 .taken, eqb-true (getD (s .moved .now) (s .i) 0) 0 z)
+returns c = let s = c .before .before .before .before .args in λ z. (c .before .if1 .taken, eqb-true (getD (s .moved .now) (s .i) 0) 0 z)
 
 returns-2 : tie.Need-returns-2
 returns-2 c = λ z. let w : _≡_ {A = ℕ} 0 1 = cc in absurd (omega arith)

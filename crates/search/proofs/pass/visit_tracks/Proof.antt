@@ -15,11 +15,11 @@ abbrev μ-loop : tie.MeasureT-loop
     n - i
 
 loop-holds : tie.Need-loop-holds Inv-loop μ-loop
-loop-holds c = visit-start (c .pre .1) (c .pre .3)
+loop-holds c = visit-start (c .before .pre .1) (c .before .pre .3)
 
 track-turn-requires : tie.Need-track-turn-requires Inv-loop μ-loop
 track-turn-requires c κs =
-    let p = c .before .before .before .before .before .before .pre in
+    let p = c .before .before .before .before .before .before .before .pre in
     let o = c .before .before .before .before .before .loop .inv in
     (p .0, c .before .before .before .before .loop-test .taken, p .1, p .2, o .from, o .visits)
 
@@ -31,12 +31,12 @@ loop-less c = omega arith
 
 loop-again : tie.Need-loop-again Inv-loop μ-loop
 loop-again c =
-    let p = c .before .before .before .before .before .before .before .pre in
+    let p = c .before .before .before .before .before .before .before .before .pre in
     let r = c .track-turn .ensures in
     visit-step (p .1) (c .before .before .before .before .before .before .loop .inv) (p .0 .starts) (c .before .before .before .before .before .loop-test .taken) (r .0) (r .1) (r .2)
 
 returns : tie.Need-returns Inv-loop μ-loop
-returns c = visit-done (c .before .before .pre .1) (c .before .loop .inv) (omega arith)
+returns c = visit-done (c .before .before .before .pre .1) (c .before .loop .inv) (omega arith)
 
 pub visit-tracks-spec : {M : Type 1} → statement M
 visit-tracks-spec =

@@ -1,2 +1,0 @@
-// A frame arrives that nothing refuses: it is placed, held and searched.
-pub mod arrive;

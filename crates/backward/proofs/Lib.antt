@@ -1,2 +1,0 @@
-pub mod Chains
-mod Writing

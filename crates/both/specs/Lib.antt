@@ -1,2 +1,0 @@
-pub mod Smoothed
-pub mod Called

@@ -1,0 +1,24 @@
+-- A run grows by one push or take at a time, and not by one that is refused. Assumes nothing.
+use Prim.Native.Nat.{ℕ}
+use mathlib.Core.Path.{_≡_, ap, _∙_}
+use mathlib.Core.List.{List, [], _∷_, _++_, foldl-append, append-nil}
+use mathlib.Core.Option.{some}
+use Rattle.buffers.specs.Answer.{Op, pushed, taken, Reply, refused, refusalIn}
+use Rattle.buffers.specs.Run.{Run, begin, emittedBy, acceptedBy, step, runFrom}
+
+module _ {A F E S : Type 0} (frame : A → F) (reply : S → Op A → Reply E × S) where
+  -- one more
+  pub run-snoc : (s : S) (ops : List (Op A)) (o : Op A) → runFrom frame reply s (ops ++ (o ∷ [])) ≡ step frame reply (runFrom frame reply s ops) o
+  unfolding runFrom
+  run-snoc s ops o = foldl-append (step frame reply) (begin s) ops (o ∷ [])
+
+  -- one that is refused, and leaves the state as it is
+  pub step-stays : (r : Run F E S) (o : Op A) (n : ℕ) → reply (r .state) o ≡ (refused n, r .state) → step frame reply r o ≡ r
+  unfolding step
+  step-stays r o n h =
+      ap (λ a. record { state = a .1; accepted = r .accepted ++ acceptedBy frame o (refusalIn (a .0)); emitted = r .emitted ++ emittedBy (a .0) }) h
+      ∙ (λ i. record { state = r .state; accepted = none-more o i; emitted = append-nil (r .emitted) i })
+    where
+      none-more : (o : Op A) → r .accepted ++ acceptedBy frame o (some n) ≡ r .accepted
+      none-more (pushed a) = append-nil (r .accepted)
+      none-more taken = append-nil (r .accepted)

@@ -1,0 +1,3 @@
+pub mod Lending
+pub mod Logs
+pub mod Steps

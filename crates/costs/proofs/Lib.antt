@@ -1,2 +1,0 @@
-pub mod Logs
-pub mod Steps

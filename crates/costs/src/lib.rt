@@ -1,2 +1,0 @@
-// The cost of a window of detections.
-pub mod cost;

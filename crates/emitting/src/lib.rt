@@ -1,2 +1,0 @@
-// The frame of the oldest scan, written out in words and numbers.
-pub mod emit;

@@ -1,0 +1,122 @@
+-- A frame that no number refuses, at a refiner that meets the rule: the rule and the room as fgo_spec has them, and what holding the frame asks.
+-- Assumes nothing.
+use Prim.Native.Nat.{ℕ, zero, suc, _+_, _*_, _≤_, _<_}
+use native.Mathlib.Omega.{arith}
+use mathlib.Core.Path.{_≡_, refl, _∙_}
+use mathlib.Core.Bool.{Bool, true, false, _||_}
+use mathlib.Core.List.{List, [], _∷_}
+use mathlib.Core.Option.{none, Option·some-ne-none}
+use lib.ListN.{take, drop, getD}
+use mir.Syntax.{w8}
+use mir.Val.{Fits}
+use borrow.Author.Tests.{ltb-false, leb-false}
+use Rattle.bounds.specs.Bounds.{ACCEPTED, COUNTED, BODY}
+use Rattle.engine.specs.Body.{Body, frameIn, bodyRefusal}
+use Rattle.engine.proofs.Every.{both}
+use Rattle.fgo_spec.specs.Refiner.{firstOf}
+use Rattle.fgo_spec.specs.Rule.{All, Bytes, Spoken, Rule, ruleOk}
+use Rattle.fgo_spec.proofs.RuleLaw.{rule-of}
+use Rattle.fgo_spec.proofs.Accepting.{Room, has-room}
+use Rattle.fgo_state.specs.declared.state.FixedLagRefiner.{FixedLagRefiner}
+use Rattle.fgo_state.specs.Memory.{Memory, headAt, lengthIn, bytesAt, bodyAt, scanIn, slotAt, stateOf}
+use Rattle.fgo_state.specs.Sound.{bodiesOk, soundOk}
+use Rattle.fgo_refuse.specs.Refusing.{fullIn}
+use Rattle.fgo_arrive.specs.Arriving.{Typed, Holds, Arrives}
+use Rattle.fgo_spec.proofs.Rows.{rows-all}
+use Rattle.fgo_state.proofs.Bodies.{body-passes}
+use Rattle.fgo_arrive.proofs.ReadyLaw.{sound-tells}
+use Rattle.fgo_refuse.proofs.Refusals.{found-same, none-found}
+
+-- ---- bytes
+
+-- a list whose entries are bytes
+pub bytes-of : (l : List ℕ) → ((i : ℕ) → Fits w8 (getD l i 0)) → Bytes l
+bytes-of [] h = tt
+bytes-of (b ∷ l) h = (h 0 .fits, bytes-of l (λ i. h (suc i)))
+
+all-take : {A : Type 0} (P : A → Type 0) (n : ℕ) (l : List A) → All P l → All P (take n l)
+all-take P zero l h = tt
+all-take P (suc n) [] h = tt
+all-take P (suc n) (a ∷ l) h = (h .0, all-take P n l (h .1))
+
+all-drop : {A : Type 0} (P : A → Type 0) (n : ℕ) (l : List A) → All P l → All P (drop n l)
+all-drop P zero l h = h
+all-drop P (suc n) [] h = tt
+all-drop P (suc n) (a ∷ l) h = all-drop P n l (h .1)
+
+bytes-held : (bodies columns : List ℕ) (n : ℕ) → Bytes bodies → Bytes (bytesAt bodies columns n)
+unfolding bytesAt
+bytes-held bodies columns n h = all-take (λ b. b < 256) (lengthIn (headAt columns n)) (drop (BODY * slotAt n) bodies) (all-drop (λ b. b < 256) (BODY * slotAt n) bodies h)
+
+-- ---- 8
+
+-- no count is at its end
+pub record Spaced (r : FixedLagRefiner) : Type 0 where
+  pub scans : r .first .0 + r .held < ACCEPTED
+  pub ids : r .«next_id» .0 ≤ COUNTED
+  pub swaps : r .counters .swaps ≤ COUNTED
+  pub merges : r .counters .merges ≤ COUNTED
+  pub splits : r .counters .splits ≤ COUNTED
+  pub drops : r .counters .drops ≤ COUNTED
+
+spaced-of : (r : FixedLagRefiner) → fullIn r ≡ false → Spaced r
+unfolding fullIn
+spaced-of r h =
+    let h1 = neither _ _ h in
+    let h2 = neither _ _ (h1 .1) in
+    let h3 = neither _ _ (h2 .1) in
+    let h4 = neither _ _ (h3 .1) in
+    let h5 = neither _ _ (h4 .1) in
+    record {
+      scans = leb-false ACCEPTED _ (h1 .0);
+      ids = ltb-false _ _ (h2 .0);
+      swaps = ltb-false _ _ (h3 .0);
+      merges = ltb-false _ _ (h4 .0);
+      splits = ltb-false _ _ (h5 .0);
+      drops = ltb-false _ _ (h5 .1);
+    }
+  where
+    neither : (a b : Bool) → (a || b) ≡ false → (a ≡ false) × (b ≡ false)
+    neither true b e = absurd (let z : _≡_ {A = ℕ} 0 1 = cc in omega arith)
+    neither false b e = (refl, e)
+
+-- ---- a frame that is accepted
+
+module _ (r : FixedLagRefiner) (m : Memory) (s : Body) (a : Arrives r m s) where
+  pub passes : bodyRefusal s ≡ 0
+  passes = none-found r m s (a .accepted) .0
+
+  pub room : Room (stateOf r m) (frameIn s)
+  room = has-room (stateOf r m) (frameIn s) (found-same r m s ∙ none-found r m s (a .accepted) .1)
+
+  pub spaced : Spaced r
+  spaced = spaced-of r (first-false (fullIn r) _ _ (none-found r m s (a .accepted) .1))
+    where
+      first-false : (a b d : Bool) → firstOf a b d ≡ none → a ≡ false
+      first-false true b d e = absurd (Option·some-ne-none _ e)
+      first-false false b d e = refl
+
+  module _ (l : Typed (m .bodies) (m .columns) (m .owners)) where
+    pub rule : Rule (r .config) (stateOf r m)
+    unfolding soundOk stateOf scanIn
+    rule =
+        let h = both (bodiesOk (m .bodies) (m .columns) (r .first .0) (r .held)) (ruleOk (r .config) (stateOf r m)) (a .sound) in
+        rule-of (r .config) (stateOf r m) (h .1)
+        (rows-all (λ x. Spoken (x .frame)) (scanIn (m .bodies) (m .columns)) (r .first .0) (r .held)
+        (λ k q.
+        let n = r .first .0 + k in
+        (bodyAt (m .bodies) (m .columns) n, bytes-held (m .bodies) (m .columns) n (l .bytes), body-passes (m .bodies) (m .columns) (r .first .0) (r .held) (h .0) k q, refl)))
+
+    pub holds : Holds r s (m .bodies) (m .columns) (m .owners)
+    holds =
+        let k = sound-tells r m (a .sound) in
+        record {
+          passes = passes;
+          few = omega (arith, k .lagged, k .short);
+          early = omega (arith, spaced .scans);
+          owned = k .owners;
+          ids = spaced .ids;
+          bodies-long = l .bodies-long;
+          columns-long = l .columns-long;
+          owners-long = l .owners-long;
+        }

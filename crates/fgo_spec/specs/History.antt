@@ -1,0 +1,139 @@
+-- Demand 3: what a user may hold the refiner to, over every list of pushes and takes. Definitions only.
+use Prim.Native.Nat.{ℕ, _≤_, _<_}
+use mathlib.Core.Path.{_≡_}
+use mathlib.Core.Bool.{true}
+use mathlib.Core.List.{List, [], _∷_, _++_, map, foldl, List·Memᴰ}
+use mathlib.Core.Option.{Option, none, some}
+use lib.ListN.{length}
+use lib.Dec.{T}
+use lib.IntN.{ℤ, _-ℤ_}
+use lib.Signed.{leZ, _≤ℤ_}
+use Rattle.bounds.specs.Bounds.{TRACKS}
+use Rattle.buffers.specs.Answer.{Op, pushed, taken, refused}
+use Rattle.buffers.specs.Run.{Run, runFrom}
+use Rattle.scalar.specs.Scalar.{secondsOf}
+use Rattle.engine.specs.declared.config.FgoConfig.{FgoConfig}
+use Rattle.engine.specs.declared.types.ClassLabel.{ClassLabel}
+use Rattle.engine.specs.declared.types.ClassLabel.the-variants.{Unknown}
+use Rattle.engine.specs.Config.{density, coast, forgetAfter, legal}
+use Rattle.engine.specs.Frame.{Frame}
+use Rattle.engine.specs.Body.{Body, frameIn}
+use Rattle.kf.specs.declared.filter.Kf.{Kf}
+use Rattle.kf.specs.Filter.{predicted}
+use Rattle.fgo_spec.specs.Lists.{times}
+use Rattle.fgo_spec.specs.Windows.{Scan, Detection, window, noise}
+use Rattle.fgo_spec.specs.Freezing.{startAt, moveOn, recent, mean, newer}
+use Rattle.fgo_spec.specs.Emitting.{Listed, Emitted}
+use Rattle.fgo_spec.specs.Refiner.{State, new, arrive, reply}
+use Rattle.fgo_spec.specs.Rule.{All, Bytes, Rule}
+
+-- ---- a run: "any list of pushes and takes runs from a new refiner, refused ones included"
+
+-- pushes of bodies and takes from a new refiner on, in order; where what is pushed has to be bytes, it is said
+abbrev pub run : FgoConfig → List (Op Body) → Run Frame Emitted State
+run c ops = runFrom frameIn (reply c) new ops
+
+-- ---- "01's plain filter run afresh"
+
+-- it starts at the first observation and moves on by each further one
+unfoldable pub filterOver : FgoConfig → Detection → List Detection → Kf
+filterOver c d ds = foldl (moveOn c) (startAt c d) ds
+
+-- the last of d and ds
+abbrev pub lastOf : Detection → List Detection → Detection
+lastOf d [] = d
+lastOf d (e ∷ ds) = lastOf e ds
+
+-- the newest class known
+unfoldable pub classOver : ClassLabel → List Detection → ClassLabel
+classOver k [] = k
+classOver k (d ∷ ds) = classOver (newer (d .class) k) ds
+
+-- What is emitted of the id x at a time, worked out from its observations alone: the plain filter over them, predicted to that time; the mean of their last
+-- five heights; their number; the last one's time and its age; the newest class; the last one's variance. Nothing without observations.
+unfoldable pub afresh : FgoConfig → ℤ → ℕ → List Detection → Option Listed
+afresh c now x [] = none
+afresh c now x (d ∷ ds) =
+    some
+    (record {
+      id = x;
+      lastNs = lastOf d ds .time;
+      age = now -ℤ lastOf d ds .time;
+      class = classOver Unknown (d ∷ ds);
+      count = length (d ∷ ds);
+      kf = predicted (filterOver c d ds) (secondsOf now) (density c);
+      height = mean (recent (map (λ e. e .z) (d ∷ ds)));
+      r = noise c (lastOf d ds);
+    })
+
+-- ---- the theorem
+
+-- the emitted frames as scans with their ids
+abbrev pub scansOf : List Emitted → List Scan
+scansOf es = map (λ e. e .scan) es
+
+-- the time of an emitted frame
+abbrev pub timeOf : Emitted → ℤ
+timeOf e = e .scan .frame .time
+
+-- "emitted times never go back"
+unfoldable pub NeverBack : List Emitted → Type 0
+NeverBack [] = Unit {0}
+NeverBack (e ∷ []) = Unit {0}
+NeverBack (e ∷ f ∷ es) = (timeOf e ≤ℤ timeOf f) × NeverBack (f ∷ es)
+
+-- each number is above the one before it
+unfoldable pub Rising : List ℕ → Type 0
+Rising [] = Unit {0}
+Rising (x ∷ []) = Unit {0}
+Rising (x ∷ y ∷ l) = (x < y) × Rising (y ∷ l)
+
+-- "the observations emitted so far under that id, this frame's included"
+abbrev pub seen : List Emitted → Emitted → ℕ → List Detection
+seen past e x = window x 0 (scansOf past ++ (e .scan ∷ []))
+
+-- what holds of the frame e that is emitted after the frames past
+pub record Told (c : FgoConfig) (past : List Emitted) (e : Emitted) : Type 0 where
+  -- "each with its own associations in order": an id for each of them, 0 for none
+  pub complete : length (e .scan .ids) ≡ length (e .scan .frame .associations)
+  -- "no two with one id"
+  pub apart : (x : ℕ) → 0 < x → times x (e .scan .ids) ≤ 1
+  -- the listed tracks are in id order, and no more than those that a smoother takes
+  pub rising : Rising (map (λ l. l .id) (e .tracks))
+  pub few : length (e .tracks) ≤ TRACKS
+  -- "each listed track's position, speed and covariance are, bit for bit, 01's plain filter run afresh over exactly the observations emitted so far under
+  -- that id, this frame's included, then predicted to this frame's time, its count and height those of the same observations"
+  pub listed : (l : Listed) → List·Memᴰ l (e .tracks) → (0 < l .id) × (afresh c (timeOf e) (l .id) (seen past e (l .id)) ≡ some l) × T (leZ (l .age) (coast c))
+  -- "if emitted times never go back and coast_ns <= forget_after_ns, the listed ids are exactly those emitted with age <= coast_ns"
+  pub exact : NeverBack (past ++ (e ∷ [])) → coast c ≤ℤ forgetAfter c → (x : ℕ) (l : Listed) → 0 < x → afresh c (timeOf e) x (seen past e x) ≡ some l → T (leZ (l .age) (coast c)) → List·Memᴰ l (e .tracks)
+
+-- the held scans after placing and search: the oldest is what a push, or a take, has to give
+abbrev pub settled : FgoConfig → State → Op Body → List Scan
+settled c t (pushed b) = arrive c t (frameIn b) .scans
+settled c t taken = t .scans
+
+-- what is pushed are bytes
+abbrev pub Sent : Op Body → Type 0
+Sent (pushed b) = Bytes (b .bytes)
+Sent taken = Unit {0}
+
+-- x stands in one of the scans
+abbrev pub Stands : ℕ → List Scan → Type 0
+Stands x ss = (s : Scan) × List·Memᴰ s ss × (0 < times x (s .ids))
+
+-- demand 3, of a list of operations
+pub record History (c : FgoConfig) (ops : List (Op Body)) : Type 0 where
+  -- "frames come out in the order accepted"
+  pub inOrder : map (λ e. e .scan .frame) (run c ops .emitted) ++ map (λ s. s .frame) (run c ops .state .scans) ≡ run c ops .accepted
+  -- every emitted frame
+  pub every : (past : List Emitted) (e : Emitted) (later : List Emitted) → run c ops .emitted ≡ past ++ (e ∷ later) → Told c past e
+  -- "with the ids that 01's placing and search give": a frame that one more operation emits is the oldest scan then held, with the ids that it then has
+  pub asSearched : (o : Op Body) (e : Emitted) → run c (ops ++ (o ∷ [])) .emitted ≡ run c ops .emitted ++ (e ∷ []) → (rest : List Scan) × (settled c (run c ops .state) o ≡ e .scan ∷ rest)
+  -- ids are never used again: a new one is above every id that an emitted or held scan has
+  pub used : (x : ℕ) → 0 < x → Stands x (scansOf (run c ops .emitted) ++ run c ops .state .scans) → x < run c ops .state .«next_id»
+  -- "After it the state and the lent buffers hold what they held before the call": an operation that is refused changes nothing
+  pub refusals : (o : Op Body) (n : ℕ) → reply c (run c ops .state) o .0 ≡ refused n → run c (ops ++ (o ∷ [])) ≡ run c ops
+  -- every state that bytes lead to meets the state rule, so 3 is never answered to who keeps to push and take
+  pub ruled : legal c ≡ true → All Sent ops → Rule c (run c ops .state)
+
+-- the theorem, in proofs/: history : (c : FgoConfig) (ops : List (Op Body)) → History c ops

@@ -1,0 +1,12 @@
+pub mod Lists
+pub mod Windows
+pub mod Placing
+pub mod Searching
+pub mod Owning
+pub mod Freezing
+pub mod Emitting
+pub mod Refiner
+pub mod Rule
+pub mod History
+pub mod Faithful
+pub mod Gathered

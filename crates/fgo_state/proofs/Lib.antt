@@ -1,0 +1,14 @@
+pub mod Present
+pub mod Live
+pub mod Bodies
+pub mod Columns
+pub mod Counts
+pub mod Detections
+pub mod LatestGathered
+pub mod GatheredScans
+pub mod HeldGathered
+pub mod GatheringScan
+pub mod GatheringHeld
+pub mod ScatteringScan
+pub mod ScatteringHeld
+pub mod Heads

@@ -1,0 +1,13 @@
+pub mod CallsLaw
+pub mod Numbered
+pub mod FrameSize
+pub mod RefinedLaw
+pub mod FinishLaw
+pub mod Reading
+pub mod Fresh
+pub mod Formed
+pub mod Bodies
+pub mod SmootherRun
+pub mod SmoothedLaw
+pub mod JoinedLaw
+pub mod Examples

@@ -1,0 +1,188 @@
+-- Demand 3 as one who calls a refiner sees it. Assumes nothing but that each call is as the contracts of push and take say.
+use Prim.Native.Nat.{ℕ, zero, suc, _≤_}
+use native.Mathlib.Omega.{arith}
+use mathlib.Core.Path.{_≡_, refl, sym, ap, _∙_, subst}
+use mathlib.Core.Bool.{Bool, true, false, cond, and-eq-true-iff}
+use mathlib.Core.List.{List, [], _∷_, _++_, map}
+use lib.ListN.{length}
+use lib.Ieee.{Float}
+use lib.Dec.{leb}
+use borrow.Author.Tests.{leb-true}
+use Rattle.bounds.specs.Bounds.{WORDS, NUMBERS}
+use Rattle.buffers.specs.Answer.{Op, Reply, refused, waits, gives, roomy, checked, wordsAfter, numbersAfter, Ends}
+use Rattle.buffers.specs.Run.{emittedBy, runFrom}
+use Rattle.buffers.proofs.Over.{length-over}
+use Rattle.engine.specs.declared.config.FgoConfig.{FgoConfig}
+use Rattle.engine.specs.Config.{legal}
+use Rattle.engine.specs.Body.{Body, all, frameIn, rows}
+use Rattle.engine.proofs.Every.{both}
+use Rattle.fgo_spec.specs.Windows.{Scan}
+use Rattle.fgo_spec.specs.Emitting.{Emitted, wordsOf, numbersOf, written}
+use Rattle.fgo_spec.specs.Refiner.{new, reply}
+use Rattle.fgo_spec.specs.Rule.{All, Spoken, ruleOk}
+use Rattle.fgo_spec.specs.History.{run, settled, Sent, Told}
+use Rattle.fgo_spec.proofs.All.{All-append, All-left, All-right, map-All}
+use Rattle.fgo_spec.proofs.RuleLaw.{rule-ok}
+use Rattle.fgo_spec.proofs.HistoryLaw.{spoken, history}
+use Rattle.fgo_state.specs.declared.state.FixedLagRefiner.{FixedLagRefiner}
+use Rattle.fgo_state.specs.Memory.{Memory, stateOf}
+use Rattle.fgo_state.specs.Sound.{bodiesOk, soundOk}
+use Rattle.fgo.specs.Promise.{newBy, laterRefusal, due}
+use Rattle.fgo.proofs.Opening.{opened-new}
+use Rattle.histories.specs.Calls.{Calls, left, enough, operations}
+use Rattle.histories.specs.Refined.{Call, Keeps, Session, dueNext, Delivered}
+use Rattle.histories.proofs.Numbered.{numbered}
+use Rattle.histories.proofs.FrameSize.{fit-words, fit-numbers}
+use Rattle.histories.proofs.CallsLaw as calls
+use Rattle.histories.proofs.CallsLaw.{more, due-frame, run-more, repliesTo, Known}
+
+long-enough : (words numbers : ℕ) → roomy words numbers ≡ true → (WORDS ≤ words) × (NUMBERS ≤ numbers)
+long-enough words numbers h = let k = both (leb WORDS words) (leb NUMBERS numbers) h in (leb-true _ _ (k .0), leb-true _ _ (k .1))
+
+sent-more : (b : Bool) (o : Op Body) → Sent o → All Sent (more b o)
+sent-more true o h = (h, tt)
+sent-more false o h = tt
+
+module _ (c : FgoConfig) where
+  -- ---- the frames emitted are of bodies that pass
+
+  emitted-spoken : (ops : List (Op Body)) → All Sent ops → All (λ e. Spoken (e .scan .frame)) (run c ops .emitted)
+  emitted-spoken ops h =
+      let r = run c ops in
+      map-All Spoken (λ e. e .scan .frame) (r .emitted)
+      (All-left Spoken (map (λ e. e .scan .frame) (r .emitted)) (map (λ s. s .frame) (r .state .scans))
+      (subst (All Spoken) (sym (history c ops .inOrder)) (spoken c ops h)))
+
+  -- ---- where calls have led to
+
+  -- after the pushes and takes ops
+  pub record At (ops : List (Op Body)) (r : FixedLagRefiner) (m : Memory) : Type 0 where
+    pub settings : r .config ≡ c
+    pub state : stateOf r m ≡ run c ops .state
+    pub bodies : bodiesOk (m .bodies) (m .columns) (r .first .0) (r .held) ≡ true
+    pub bytes : All Sent ops
+
+  module _ (ok : legal c ≡ true) where
+    pub sound-at : (ops : List (Op Body)) (r : FixedLagRefiner) (m : Memory) → At ops r m → soundOk r m ≡ true
+    unfolding soundOk
+    sound-at ops r m a =
+        and-eq-true-iff _ _ .1 (a .bodies, (λ i. ruleOk (a .settings i) (a .state i)) ∙ rule-ok c (run c ops .state) (history c ops .ruled ok (a .bytes)) .0)
+
+    module _ (ops : List (Op Body)) (r : FixedLagRefiner) (m : Memory) (a : At ops r m) (k : Call) (h : Sent (k .sent)) (e : Keeps r m k) where
+      abbrev replied : Reply Emitted
+      replied = dueNext c ops k
+
+      due-is : due r m (k .sent) (k .words) (k .numbers) ≡ repliesTo frameIn (reply c) new written stateOf ops (enough k) (k .sent)
+      unfolding due laterRefusal
+      due-is = λ i. checked (cond (sound-at ops r m a i) (cond (enough k) 0 4) 3) (a .state i) (reply (a .settings i) (a .state i) (k .sent))
+
+      ends :
+          Ends written stateOf (repliesTo frameIn (reply c) new written stateOf ops (enough k) (k .sent)) r m (k .words) (k .numbers) (k .answer) (k .value) (k .memory)
+          (k .wordsBack) (k .numbersBack)
+      ends = subst (λ x. Ends written stateOf x r m (k .words) (k .numbers) (k .answer) (k .value) (k .memory) (k .wordsBack) (k .numbersBack)) due-is (e .ends)
+
+      bytes-more : All Sent (ops ++ more (enough k) (k .sent))
+      bytes-more = All-append Sent ops (more (enough k) (k .sent)) (a .bytes) (sent-more (enough k) (k .sent) h)
+
+      -- a frame that is given is the last one emitted
+      module _ (g : Emitted) (q : replied ≡ gives g) where
+        last-one : run c (ops ++ more (enough k) (k .sent)) .emitted ≡ run c ops .emitted ++ (g ∷ [])
+        last-one = ap (λ r. r .emitted) (run-more frameIn (reply c) new written stateOf ops (enough k) (k .sent)) ∙ ap (λ x. run c ops .emitted ++ emittedBy x) q
+
+        long : enough k ≡ true
+        long = due-frame (enough k) (run c ops .state) (reply c (run c ops .state) (k .sent)) g q
+
+        pub told-one : Told c (run c ops .emitted) g
+        told-one = history c (ops ++ more (enough k) (k .sent)) .every (run c ops .emitted) g [] last-one
+
+        pub searched-one : (rest : List Scan) × (settled c (run c ops .state) (k .sent) ≡ g .scan ∷ rest)
+        searched-one =
+            history c ops .asSearched (k .sent) g
+            (subst (λ b. run c (ops ++ more b (k .sent)) .emitted ≡ run c ops .emitted ++ (g ∷ [])) long last-one)
+
+        spoken-one : Spoken (g .scan .frame)
+        spoken-one =
+            let P : Emitted → Type 0 = λ e. Spoken (e .scan .frame) in
+            All-right P (run c ops .emitted) (g ∷ []) (subst (All P) last-one (emitted-spoken (ops ++ more (enough k) (k .sent)) bytes-more)) .0
+
+      rooms : (x : Reply Emitted) → replied ≡ x → (length (k .wordsBack) ≡ length (k .words)) × (length (k .numbersBack) ≡ length (k .numbers))
+      rooms x q =
+          let s = go x q in (
+            ap length (ends .words ∙ ap (λ x. wordsAfter written x (k .words)) q) ∙ s .0,
+            ap length (ends .numbers ∙ ap (λ x. numbersAfter written x (k .numbers)) q) ∙ s .1,
+          )
+        where
+          go : (x : Reply Emitted) → replied ≡ x → (length (wordsAfter written x (k .words)) ≡ length (k .words)) × (length (numbersAfter written x (k .numbers)) ≡ length (k .numbers))
+          go (refused n) q = (refl, refl)
+          go waits q = (refl, refl)
+          go (gives g) q =
+              let l = long-enough (length (k .words)) (length (k .numbers)) (long g q) in
+              let w = fit-words c (run c ops .emitted) g (told-one g q) (spoken-one g q) in
+              let n = fit-numbers c (run c ops .emitted) g (told-one g q) (spoken-one g q) in
+              (length-over 0 (wordsOf g) (k .words) (omega (arith, l .0)), length-over 0 (numbersOf g) (k .numbers) (omega (arith, l .1)))
+
+      at-next : At (ops ++ more (enough k) (k .sent)) (k .value) (k .memory)
+      at-next =
+          record {
+            settings = e .settings ∙ a .settings;
+            state = ends .state ∙ sym (ap (λ r. r .state) (run-more frameIn (reply c) new written stateOf ops (enough k) (k .sent)));
+            bodies = e .bodies (a .bodies);
+            bytes = bytes-more;
+          }
+
+    pub known : Known frameIn (reply c) new written stateOf Keeps (λ k. Sent (k .sent)) At
+    known =
+        record {
+          state = λ ops r m a. a .state;
+          ends = ends;
+          next = at-next;
+          room = λ ops r m a k h e. rooms ops r m a k h e (dueNext c ops k) refl;
+          numbered = λ ops r m a o. numbered c (run c ops .state) o;
+        }
+
+-- ---- from an opened refiner
+
+at-new : (c : FgoConfig) (m : Memory) → At c [] (newBy c) m
+unfolding stateOf bodiesOk all rows runFrom
+at-new c m = record { settings = refl; state = refl; bodies = refl; bytes = tt }
+
+module _ (c : FgoConfig) (r : FixedLagRefiner) (m : Memory) where
+  pub is-legal : (ks : List Call) → Session c r m ks → legal c ≡ true
+  is-legal ks s = opened-new c r (s .opening) .0
+
+  pub at-opened : (ks : List Call) → Session c r m ks → At c [] r m
+  at-opened ks s = subst (λ r. At c [] r m) (opened-new c r (s .opening) .1) (at-new c m)
+
+  -- after all the calls, and after the first of them
+  pub at-last : (ks : List Call) → Session c r m ks → At c (operations ks) (left r m ks .0) (left r m ks .1)
+  at-last ks s = calls.reached frameIn (reply c) new written stateOf (known c (is-legal ks s)) ks [] r m (at-opened ks s) (s .bytes) (s .calls)
+
+  pub at-first : (ks fs : List Call) → Session c r m (ks ++ fs) → At c (operations ks) (left r m ks .0) (left r m ks .1)
+  at-first ks fs s =
+      calls.at-first frameIn (reply c) new written stateOf (known c (is-legal (ks ++ fs) s)) r m (at-opened (ks ++ fs) s) ks fs (s .bytes) (s .calls)
+
+  -- a call among them
+  module _ (ks past : List Call) (k : Call) (later : List Call) (s : Session c r m ks) (p : ks ≡ past ++ (k ∷ later)) where
+    abbrev split : Session c r m (past ++ (k ∷ later))
+    split = subst (Session c r m) p s
+
+    one : At c (operations past) (left r m past .0) (left r m past .1) × Sent (k .sent) × Keeps (left r m past .0) (left r m past .1) k
+    unfolding Calls
+    one = (
+      at-first past (k ∷ later) split,
+      All-right (λ k. Sent (k .sent)) past (k ∷ later) (split .bytes) .0,
+      calls.calls-then Keeps r m past (k ∷ later) (split .calls) .0,
+    )
+
+  -- ---- the theorem
+
+  pub delivered : (ks : List Call) → Session c r m ks → Delivered c r m ks
+  delivered ks s =
+      let ok = is-legal ks s in
+      record {
+        delivered = calls.delivered frameIn (reply c) new written stateOf (known c ok) r m (at-opened ks s) ks (s .bytes) (s .calls);
+        told = λ past k later p e q. let o = one ks past k later s p in told-one c ok (operations past) (left r m past .0) (left r m past .1) (o .0) k (o .1) (o .2) e q;
+        searched = λ past k later p e q. let o = one ks past k later s p in searched-one c ok (operations past) (left r m past .0) (left r m past .1) (o .0) k (o .1) (o .2) e q;
+        history = history c (operations ks);
+        ruled = sound-at c ok (operations ks) (left r m ks .0) (left r m ks .1) (at-last ks s);
+      }

@@ -1,0 +1,4 @@
+pub mod Calls
+pub mod Refined
+pub mod Smoothed
+pub mod Joined

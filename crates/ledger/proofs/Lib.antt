@@ -1,7 +1,0 @@
-pub mod Conjunctions
-pub mod Counted
-pub mod AllOf
-pub mod Scans
-pub mod HeldGathered
-pub mod SoundLaw
-pub mod OwnedGathered

@@ -1,2 +1,0 @@
-// The state rule on the lent memory.
-pub mod rule;

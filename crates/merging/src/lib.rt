@@ -1,2 +1,0 @@
-// What the merges of a pair of tracks would cost, and which is best.
-pub mod merge;

@@ -1,2 +1,0 @@
-// Where the rows of two tracks come close.
-pub mod near;

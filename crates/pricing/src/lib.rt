@@ -1,2 +1,0 @@
-// What the rows of tracks cost, and what their windows go on from.
-pub mod price;

@@ -1,2 +1,0 @@
-// What the programs print of an emitted frame and of the counters.
-pub mod print;

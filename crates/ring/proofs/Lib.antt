@@ -1,3 +1,0 @@
-pub mod Forms
-pub mod Slots
-pub mod Storing

@@ -1,1 +1,0 @@
-// Runs of the refiner as model defines it, which the checker computes (proofs/).

@@ -1,0 +1,4 @@
+pub mod Forms
+pub mod Slots
+pub mod Storing
+pub mod Longest
