@@ -1,7 +1,7 @@
 -- A run grows by one push or take at a time, and not by one that is refused. Assumes nothing.
 use Prim.Native.Nat.{ℕ}
-use mathlib.Core.Path.{_≡_, ap, _∙_}
-use mathlib.Core.List.{List, [], _∷_, _++_, foldl-append, append-nil}
+use mathlib.Core.Path.{_≡_, sym, ap, _∙_}
+use mathlib.Core.List.{List, [], _∷_, _++_, foldl, foldl-append, append-nil, append-assoc}
 use mathlib.Core.Option.{some}
 use Rattle.buffers.specs.Answer.{Op, pushed, taken, Reply, refused, refusalIn}
 use Rattle.buffers.specs.Run.{Run, begin, emittedBy, acceptedBy, step, runFrom}
@@ -11,6 +11,22 @@ module _ {A F E S : Type 0} (frame : A → F) (reply : S → Op A → Reply E ×
   pub run-snoc : (s : S) (ops : List (Op A)) (o : Op A) → runFrom frame reply s (ops ++ (o ∷ [])) ≡ step frame reply (runFrom frame reply s ops) o
   unfolding runFrom
   run-snoc s ops o = foldl-append (step frame reply) (begin s) ops (o ∷ [])
+
+  -- what has been emitted stays
+  grows : (r : Run F E S) (more : List (Op A)) → (rest : List E) × (foldl (step frame reply) r more .emitted ≡ r .emitted ++ rest)
+  unfolding step
+  grows r [] = ([], sym (append-nil (r .emitted)))
+  grows r (o ∷ more) =
+      let g = grows (step frame reply r o) more in
+      let es = emittedBy (reply (r .state) o .0) in
+      (es ++ g .0, g .1 ∙ append-assoc (r .emitted) es (g .0))
+
+  pub run-grows :
+      (s : S) (ops more : List (Op A)) → (rest : List E) × (runFrom frame reply s (ops ++ more) .emitted ≡ runFrom frame reply s ops .emitted ++ rest)
+  unfolding runFrom
+  run-grows s ops more =
+      let g = grows (foldl (step frame reply) (begin s) ops) more in
+      (g .0, ap (λ r. r .emitted) (foldl-append (step frame reply) (begin s) ops more) ∙ g .1)
 
   -- one that is refused, and leaves the state as it is
   pub step-stays : (r : Run F E S) (o : Op A) (n : ℕ) → reply (r .state) o ≡ (refused n, r .state) → step frame reply r o ≡ r

@@ -1,6 +1,7 @@
 pub mod Bytes
 pub mod Every
 pub mod Passing
+pub mod Named
 pub mod Layouts
 pub mod Reading
 pub mod Settings

@@ -1,5 +1,6 @@
 -- Document 01, "Frame body", and refusals 5, 6 and 7. Definitions only.
-use Prim.Native.Nat.{ℕ, zero, suc, _+_, _-_, _*_}
+use Prim.Native.Nat.{ℕ, zero, suc, _+_, _-_, _*_, _<_}
+use mathlib.Core.Path.{_≡_}
 use mathlib.Core.List.{List, [], _∷_}
 use mathlib.Core.Bool.{Bool, true, cond, _&&_, not}
 use lib.ListN.{length, getD}
@@ -248,6 +249,19 @@ sensorsIn b = sensorCount (layout b) (b .bytes)
 -- associations
 abbrev pub associationsIn : Body → ℕ
 associationsIn b = associationCount (layout b) (b .bytes)
+
+-- ---- 7, in a frame's terms
+
+-- the observation that association j names
+abbrev pub indexOf : Frame → ℕ → ℕ
+indexOf f j = getD (f .associations) j noAssociation .index .0
+
+-- each association names an observation that is there, and no two name one
+pub record NamedOnce (f : Frame) : Type 0 where
+  pub within : (j : ℕ) → j < length (f .associations) → indexOf f j < length (f .observations)
+  pub once : (i j : ℕ) → i < length (f .associations) → j < length (f .associations) → indexOf f i ≡ indexOf f j → i ≡ j
+
+-- the law, in proofs/: named-once : (b : Body) → bodyRefusal b ≡ 0 → NamedOnce (frameIn b)
 
 -- ---- what the readers answer on any bytes: the field where its bytes are all there, and else a value that stands for none
 

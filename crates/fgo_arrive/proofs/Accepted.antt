@@ -1,29 +1,25 @@
 -- A frame that no number refuses, at a refiner that meets the rule: the rule and the room as fgo_spec has them, and what holding the frame asks.
 -- Assumes nothing.
-use Prim.Native.Nat.{ℕ, zero, suc, _+_, _*_, _≤_, _<_}
+use Prim.Native.Nat.{ℕ, suc, _+_, _≤_, _<_}
 use native.Mathlib.Omega.{arith}
 use mathlib.Core.Path.{_≡_, refl, _∙_}
 use mathlib.Core.Bool.{Bool, true, false, _||_}
 use mathlib.Core.List.{List, [], _∷_}
 use mathlib.Core.Option.{none, Option·some-ne-none}
-use lib.ListN.{take, drop, getD}
+use lib.ListN.{getD}
 use mir.Syntax.{w8}
 use mir.Val.{Fits}
 use borrow.Author.Tests.{ltb-false, leb-false}
-use Rattle.bounds.specs.Bounds.{ACCEPTED, COUNTED, BODY}
+use Rattle.bounds.specs.Bounds.{ACCEPTED, COUNTED}
 use Rattle.engine.specs.Body.{Body, frameIn, bodyRefusal}
-use Rattle.engine.proofs.Every.{both}
 use Rattle.fgo_spec.specs.Refiner.{firstOf}
-use Rattle.fgo_spec.specs.Rule.{All, Bytes, Spoken, Rule, ruleOk}
-use Rattle.fgo_spec.proofs.RuleLaw.{rule-of}
+use Rattle.fgo_spec.specs.Rule.{Bytes, Rule}
 use Rattle.fgo_spec.proofs.Accepting.{Room, has-room}
 use Rattle.fgo_state.specs.declared.state.FixedLagRefiner.{FixedLagRefiner}
-use Rattle.fgo_state.specs.Memory.{Memory, headAt, lengthIn, bytesAt, bodyAt, scanIn, slotAt, stateOf}
-use Rattle.fgo_state.specs.Sound.{bodiesOk, soundOk}
+use Rattle.fgo_state.specs.Memory.{Memory, stateOf}
 use Rattle.fgo_refuse.specs.Refusing.{fullIn}
 use Rattle.fgo_arrive.specs.Arriving.{Typed, Holds, Arrives}
-use Rattle.fgo_spec.proofs.Rows.{rows-all}
-use Rattle.fgo_state.proofs.Bodies.{body-passes}
+use Rattle.fgo_state.proofs.Testing.{tested}
 use Rattle.fgo_arrive.proofs.ReadyLaw.{sound-tells}
 use Rattle.fgo_refuse.proofs.Refusals.{found-same, none-found}
 
@@ -33,20 +29,6 @@ use Rattle.fgo_refuse.proofs.Refusals.{found-same, none-found}
 pub bytes-of : (l : List ℕ) → ((i : ℕ) → Fits w8 (getD l i 0)) → Bytes l
 bytes-of [] h = tt
 bytes-of (b ∷ l) h = (h 0 .fits, bytes-of l (λ i. h (suc i)))
-
-all-take : {A : Type 0} (P : A → Type 0) (n : ℕ) (l : List A) → All P l → All P (take n l)
-all-take P zero l h = tt
-all-take P (suc n) [] h = tt
-all-take P (suc n) (a ∷ l) h = (h .0, all-take P n l (h .1))
-
-all-drop : {A : Type 0} (P : A → Type 0) (n : ℕ) (l : List A) → All P l → All P (drop n l)
-all-drop P zero l h = h
-all-drop P (suc n) [] h = tt
-all-drop P (suc n) (a ∷ l) h = all-drop P n l (h .1)
-
-bytes-held : (bodies columns : List ℕ) (n : ℕ) → Bytes bodies → Bytes (bytesAt bodies columns n)
-unfolding bytesAt
-bytes-held bodies columns n h = all-take (λ b. b < 256) (lengthIn (headAt columns n)) (drop (BODY * slotAt n) bodies) (all-drop (λ b. b < 256) (BODY * slotAt n) bodies h)
 
 -- ---- 8
 
@@ -98,14 +80,7 @@ module _ (r : FixedLagRefiner) (m : Memory) (s : Body) (a : Arrives r m s) where
 
   module _ (l : Typed (m .bodies) (m .columns) (m .owners)) where
     pub rule : Rule (r .config) (stateOf r m)
-    unfolding soundOk stateOf scanIn
-    rule =
-        let h = both (bodiesOk (m .bodies) (m .columns) (r .first .0) (r .held)) (ruleOk (r .config) (stateOf r m)) (a .sound) in
-        rule-of (r .config) (stateOf r m) (h .1)
-        (rows-all (λ x. Spoken (x .frame)) (scanIn (m .bodies) (m .columns)) (r .first .0) (r .held)
-        (λ k q.
-        let n = r .first .0 + k in
-        (bodyAt (m .bodies) (m .columns) n, bytes-held (m .bodies) (m .columns) n (l .bytes), body-passes (m .bodies) (m .columns) (r .first .0) (r .held) (h .0) k q, refl)))
+    rule = tested r m (l .bytes) .0 (a .sound) .rule
 
     pub holds : Holds r s (m .bodies) (m .columns) (m .owners)
     holds =

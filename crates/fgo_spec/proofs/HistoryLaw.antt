@@ -1,27 +1,28 @@
 -- Demand 3: the history theorem, over every list of pushes and takes. Assumes nothing.
-use Prim.Native.Nat.{ℕ, zero, suc, _≤_}
+use Prim.Native.Nat.{ℕ, zero, suc, _≤_, _<_}
 use native.Mathlib.Nat.{le-trans}
 use native.Mathlib.Omega.{arith}
 use mathlib.Core.Path.{_≡_, refl, sym, ap, _∙_, subst}
 use mathlib.Core.Bool.{Bool, true, false, true≢false}
-use mathlib.Core.List.{List, [], _∷_, _++_, append-nil, append-assoc, append-cancel-left, head-eq-of-cons-eq, nil≢cons}
+use mathlib.Core.List.{List, [], _∷_, _++_, map, append-nil, append-assoc, append-cancel-left, head-eq-of-cons-eq, nil≢cons}
 use mathlib.Core.Option.{Option, none, some}
-use lib.ListN.{length}
+use lib.ListN.{length, getD, drop}
 use lib.Dec.{ltb}
 use borrow.Author.Tests.{ltb-true, ltb-false}
 use Rattle.buffers.specs.Answer.{Op, pushed, taken, Reply, refused, waits, gives, refusalIn}
 use Rattle.buffers.specs.Run.{Run, begin, emittedBy, acceptedBy, step, runFrom}
-use Rattle.buffers.proofs.Running.{run-snoc, step-stays}
+use Rattle.buffers.proofs.Running.{run-snoc, run-grows, step-stays}
 use Rattle.engine.specs.declared.config.FgoConfig.{FgoConfig}
 use Rattle.engine.specs.Config.{lag}
 use Rattle.engine.specs.Frame.{Frame}
-use Rattle.engine.specs.Body.{Body, layout, frameIn, bodyRefusal, decode, decodedBy}
+use Rattle.engine.specs.Body.{Body, frameIn, bodyRefusal, indexOf, NamedOnce, decode, decodedBy}
+use Rattle.engine.proofs.Named.{named-once}
 use Rattle.fgo_spec.specs.Windows.{Scan}
 use Rattle.fgo_spec.specs.Emitting.{Emitted}
 use Rattle.fgo_spec.specs.Refiner.{State, new, arrive, emit, leave, freezeOldest, settle, full8, full9, full10, firstOf, pushBy, pushRead, pushFrame, push, takes, reply}
 use Rattle.fgo_spec.specs.Rule.{All, Spoken}
-use Rattle.fgo_spec.specs.History.{run, Told, settled, Sent, History}
-use Rattle.fgo_spec.proofs.All.{All-append, mem-All, foldl-keeps}
+use Rattle.fgo_spec.specs.History.{run, Told, settled, Sent, Under, History}
+use Rattle.fgo_spec.proofs.All.{All-append, All-left, map-All, mem-All, foldl-keeps}
 use Rattle.fgo_spec.proofs.Invariant.{Inv, inv-new}
 use Rattle.fgo_spec.proofs.Accepting.{Room, has-room, arrive-length, inv-arrive}
 use Rattle.fgo_spec.proofs.Leaving.{told, inv-leave}
@@ -95,12 +96,13 @@ module _ (c : FgoConfig) where
     pub inv : Inv c (r .emitted) (r .accepted) (r .state)
     pub lagged : length (r .state .scans) ≤ lag c
     pub told-all : ToldFrom [] (r .emitted)
+    pub named : All NamedOnce (r .accepted)
 
   -- acc is what has been accepted after each answer
   module _ (r : Run Frame Emitted State) (i : Ran r) (acc : Reply Emitted → List Frame) where
     ran-does :
         (u : State) (Q : Type 0) (a : Reply Emitted × State) → Does (r .state) u Q a → ((n : ℕ) → acc (refused n) ≡ r .accepted) →
-        ((e : Emitted) → acc (gives e) ≡ acc waits) → (Q → Inv c (r .emitted) (acc waits) u × (length (u .scans) ≤ suc (lag c))) →
+        ((e : Emitted) → acc (gives e) ≡ acc waits) → (Q → Inv c (r .emitted) (acc waits) u × (length (u .scans) ≤ suc (lag c)) × All NamedOnce (acc waits)) →
         Ran (record { state = a .1; accepted = acc (a .0); emitted = r .emitted ++ emittedBy (a .0) })
     unfolding ToldFrom leave
     ran-does u Q a d same one next = go d
@@ -113,7 +115,7 @@ module _ (c : FgoConfig) where
 
         go : Does (r .state) u Q a → R a
         go (refuses n q) = subst R (sym q) (rw (append-nil es, same n) i)
-        go (holds k l q) = subst R (sym q) (rw (append-nil es) (record { inv = next k .0; lagged = l; told-all = i .told-all }))
+        go (holds k l q) = subst R (sym q) (rw (append-nil es) (record { inv = next k .0; lagged = l; told-all = i .told-all; named = next k .2 }))
         go (leaves k s ss p q) =
             let v = subst (λ l. Inv c es l u) (sym (one (emit c (u .first) (u .prefixes) s))) (next k .0) in
             let h : length (s ∷ ss) ≤ suc (lag c) = subst (λ l. length l ≤ suc (lag c)) p (next k .1) in
@@ -121,7 +123,8 @@ module _ (c : FgoConfig) where
             (record {
               inv = inv-leave c es (acc (gives (emit c (u .first) (u .prefixes) s))) u s ss p v;
               lagged = omega arith;
-              told-all = told-append [] es (emit c (u .first) (u .prefixes) s ∷ []) (i .told-all) (told c es (acc waits) u s ss p (next k .0), tt);
+              told-all = told-append [] es (emit c (u .first) (u .prefixes) s ∷ []) (i .told-all) (told c es (acc waits) u s ss p (next k .0) (next k .2), tt);
+              named = subst (All NamedOnce) (sym (one (emit c (u .first) (u .prefixes) s))) (next k .2);
             })
 
   ran-step : (r : Run Frame Emitted State) (o : Op Body) → Ran r → Ran (step frameIn (reply c) r o)
@@ -133,16 +136,17 @@ module _ (c : FgoConfig) where
       (λ k. (
         inv-arrive c (r .emitted) (r .accepted) t f (k .1) (i .inv),
         let h = i .lagged in omega (arith, arrive-length c (r .emitted) (r .accepted) t f (k .1) (i .inv)),
+        All-append NamedOnce (r .accepted) (f ∷ []) (i .named) (named-once b (k .0), tt),
       ))
   ran-step r taken i =
       ran-does r i (λ a. r .accepted ++ []) (r .state) (Unit {0}) (takes c (r .state)) (take-does (r .state)) (λ n. append-nil (r .accepted)) (λ e. refl)
-      (λ k. (rw (append-nil (r .accepted)) (i .inv), le-trans (i .lagged) (omega arith)))
+      (λ k. (rw (append-nil (r .accepted)) (i .inv), le-trans (i .lagged) (omega arith), All-append NamedOnce (r .accepted) [] (i .named) tt))
 
   pub ran : (ops : List (Op Body)) → Ran (run c ops)
   unfolding runFrom ToldFrom
   ran ops =
       foldl-keeps Ran (λ o. Unit {0}) (step frameIn (reply c)) (λ r o i u. ran-step r o i) (begin new) ops
-      (record { inv = inv-new c; lagged = omega arith; told-all = tt }) (mem-All (λ o. Unit {0}) ops (λ o m. tt))
+      (record { inv = inv-new c; lagged = omega arith; told-all = tt; named = tt }) (mem-All (λ o. Unit {0}) ops (λ o m. tt))
 
   -- ---- the ids are those of placing and search
 
@@ -156,6 +160,37 @@ module _ (c : FgoConfig) where
   unfolding step
   gave-step r (pushed b) e h = gave _ _ _ _ (push-does (r .state) b) e (append-cancel-left (r .emitted) _ (e ∷ []) h)
   gave-step r taken e h = gave _ _ _ _ (take-does (r .state)) e (append-cancel-left (r .emitted) _ (e ∷ []) h)
+
+  -- ---- an observation stays under the id that it was emitted under
+
+  named-at : (es : List Emitted) (n : ℕ) (e : Emitted) (after : List Emitted) → All (λ e. NamedOnce (e .scan .frame)) es → drop n es ≡ e ∷ after → NamedOnce (e .scan .frame)
+  named-at es zero e after h q = subst (All (λ e. NamedOnce (e .scan .frame))) q h .0
+  named-at [] (suc n) e after h q = absurd (nil≢cons q)
+  named-at (d ∷ es) (suc n) e after h q = named-at es n e after (h .1) q
+
+  drop-more : (es rest : List Emitted) (n : ℕ) (e : Emitted) (after : List Emitted) → drop n es ≡ e ∷ after → drop n (es ++ rest) ≡ e ∷ (after ++ rest)
+  drop-more es rest zero e after q = ap (λ l. l ++ rest) q
+  drop-more [] rest (suc n) e after q = absurd (nil≢cons q)
+  drop-more (d ∷ es) rest (suc n) e after q = drop-more es rest n e after q
+
+  under-one : (es : List Emitted) → All (λ e. NamedOnce (e .scan .frame)) es → (rest : List Emitted) (n i x y : ℕ) → Under es n i x → Under (es ++ rest) n i y → x ≡ y
+  under-one es h rest n i x y u v =
+      let e : u .frame ≡ v .frame = head-eq-of-cons-eq (sym (drop-more es rest n (u .frame) (u .after) (u .there)) ∙ v .there) in
+      let k = named-at es n (u .frame) (u .after) h (u .there) in
+      let o : v .j < length (u .frame .scan .frame .associations) = subst (λ d. v .j < length (d .scan .frame .associations)) (sym e) (v .one) in
+      let s : u .j ≡ v .j = k .once (u .j) (v .j) (u .one) o (u .observation ∙ sym (v .observation) ∙ ap (λ d. indexOf (d .scan .frame) (v .j)) (sym e)) in
+      sym (u .id) ∙ (λ l. getD (e l .scan .ids) (s l) 0) ∙ v .id
+
+  emitted-named : (ops : List (Op Body)) → All (λ e. NamedOnce (e .scan .frame)) (run c ops .emitted)
+  emitted-named ops =
+      let r = run c ops in
+      map-All NamedOnce (λ e. e .scan .frame) (r .emitted)
+      (All-left NamedOnce (map (λ e. e .scan .frame) (r .emitted)) (map (λ s. s .frame) (r .state .scans)) (subst (All NamedOnce) (sym (ran ops .inv .order)) (ran ops .named)))
+
+  under-later : (ops more : List (Op Body)) (n i x y : ℕ) → Under (run c ops .emitted) n i x → Under (run c (ops ++ more) .emitted) n i y → x ≡ y
+  under-later ops more n i x y u v =
+      let g = run-grows frameIn (reply c) new ops more in
+      under-one (run c ops .emitted) (emitted-named ops) (g .0) n i x y u (subst (λ l. Under l n i y) (g .1) v)
 
   -- ---- an operation that is refused changes nothing
 
@@ -205,6 +240,7 @@ module _ (c : FgoConfig) where
         inOrder = i .inv .order;
         every = λ past e later h. told-at [] past e later (subst (ToldFrom []) h (i .told-all));
         asSearched = λ o e h. gave-step r o e (ap (λ r. r .emitted) (sym (run-snoc frameIn (reply c) new ops o)) ∙ h);
+        dots = under-later ops;
         used = used c (r .emitted) (r .accepted) (r .state) (i .inv);
         refusals = λ o n h. run-snoc frameIn (reply c) new ops o ∙ step-stays frameIn (reply c) r o n (stays-reply (r .state) o n h);
         ruled = λ l h. ruled c (r .emitted) (r .accepted) (r .state) (i .inv) (spoken ops h) l (i .lagged);

@@ -14,6 +14,7 @@ use lib.Ieee.Bits.{is-true}
 use Rattle.engine.specs.declared.config.FgoConfig.{FgoConfig}
 use Rattle.engine.specs.Config.{coast, forgetAfter}
 use Rattle.engine.specs.Frame.{Frame}
+use Rattle.engine.specs.Body.{NamedOnce}
 use Rattle.fgo_spec.specs.Lists.{keep, has, times, find}
 use Rattle.fgo_spec.specs.Windows.{Scan, Prefix, inScan, window, present, inWindows, windowCount}
 use Rattle.fgo_spec.specs.Freezing.{freezeScan, listable, kept, remember}
@@ -21,7 +22,7 @@ use Rattle.fgo_spec.specs.Emitting.{Listed, Emitted, report, listing}
 use Rattle.fgo_spec.specs.Refiner.{State, emit, leave}
 use Rattle.fgo_spec.specs.Rule.{All}
 use Rattle.fgo_spec.specs.History.{scansOf, timeOf, NeverBack, Rising, afresh, Told}
-use Rattle.fgo_spec.proofs.All.{All-append, All-mem, mem-All}
+use Rattle.fgo_spec.proofs.All.{All-append, All-right, All-mem, mem-All}
 use Rattle.fgo_spec.proofs.Counting.{or-right, count-le}
 use Rattle.fgo_spec.proofs.Tables.{Up, up-keep, up-distinct, up-found, only, only-some, find-keep, find-mem, mem-find}
 use Rattle.fgo_spec.proofs.Presence.{stands-present}
@@ -173,10 +174,13 @@ module _ (c : FgoConfig) (es : List Emitted) (acc : List Frame) (t : State) (s :
   held-count : windowCount (t .scans) ≡ inWindows (s .ids) + windowCount ss
   held-count = ap windowCount q ∙ detections-cons s ss
 
-  pub told : Told c es em
+  pub told : All NamedOnce acc → Told c es em
   unfolding emit listing
-  told =
+  told named =
       record {
+        named =
+            subst (λ l. All NamedOnce (map (λ r. r .frame) l)) q
+            (All-right NamedOnce (map (λ e. e .scan .frame) es) (map (λ r. r .frame) (t .scans)) (subst (All NamedOnce) (sym (i .order)) named)) .0;
         complete = columns .0 .regular .complete;
         apart = columns .0 .regular .apart;
         rising = rising-table 0 (keep (listable c now) froze) (up-keep 0 (listable c now) froze froze-up);

@@ -4,7 +4,7 @@ use mathlib.Core.Path.{_≡_}
 use mathlib.Core.Bool.{true}
 use mathlib.Core.List.{List, [], _∷_, _++_, map, foldl, List·Memᴰ}
 use mathlib.Core.Option.{Option, none, some}
-use lib.ListN.{length}
+use lib.ListN.{length, getD, drop}
 use lib.Dec.{T}
 use lib.IntN.{ℤ, _-ℤ_}
 use lib.Signed.{leZ, _≤ℤ_}
@@ -17,7 +17,7 @@ use Rattle.engine.specs.declared.types.ClassLabel.{ClassLabel}
 use Rattle.engine.specs.declared.types.ClassLabel.the-variants.{Unknown}
 use Rattle.engine.specs.Config.{density, coast, forgetAfter, legal}
 use Rattle.engine.specs.Frame.{Frame}
-use Rattle.engine.specs.Body.{Body, frameIn}
+use Rattle.engine.specs.Body.{Body, frameIn, indexOf, NamedOnce}
 use Rattle.kf.specs.declared.filter.Kf.{Kf}
 use Rattle.kf.specs.Filter.{predicted}
 use Rattle.fgo_spec.specs.Lists.{times}
@@ -96,6 +96,8 @@ seen past e x = window x 0 (scansOf past ++ (e .scan ∷ []))
 pub record Told (c : FgoConfig) (past : List Emitted) (e : Emitted) : Type 0 where
   -- "each with its own associations in order": an id for each of them, 0 for none
   pub complete : length (e .scan .ids) ≡ length (e .scan .frame .associations)
+  -- each association names an observation of the frame, and no two name one
+  pub named : NamedOnce (e .scan .frame)
   -- "no two with one id"
   pub apart : (x : ℕ) → 0 < x → times x (e .scan .ids) ≤ 1
   -- the listed tracks are in id order, and no more than those that a smoother takes
@@ -121,6 +123,16 @@ Sent taken = Unit {0}
 abbrev pub Stands : ℕ → List Scan → Type 0
 Stands x ss = (s : Scan) × List·Memᴰ s ss × (0 < times x (s .ids))
 
+-- observation i of the n-th of the frames es stands under the id x: by association j, after the frames before it
+pub record Under (es : List Emitted) (n i x : ℕ) : Type 0 where
+  pub frame : Emitted
+  pub after : List Emitted
+  pub there : drop n es ≡ frame ∷ after
+  pub j : ℕ
+  pub one : j < length (frame .scan .frame .associations)
+  pub observation : indexOf (frame .scan .frame) j ≡ i
+  pub id : getD (frame .scan .ids) j 0 ≡ x
+
 -- demand 3, of a list of operations
 pub record History (c : FgoConfig) (ops : List (Op Body)) : Type 0 where
   -- "frames come out in the order accepted"
@@ -129,6 +141,9 @@ pub record History (c : FgoConfig) (ops : List (Op Body)) : Type 0 where
   pub every : (past : List Emitted) (e : Emitted) (later : List Emitted) → run c ops .emitted ≡ past ++ (e ∷ later) → Told c past e
   -- "with the ids that 01's placing and search give": a frame that one more operation emits is the oldest scan then held, with the ids that it then has
   pub asSearched : (o : Op Body) (e : Emitted) → run c (ops ++ (o ∷ [])) .emitted ≡ run c ops .emitted ++ (e ∷ []) → (rest : List Scan) × (settled c (run c ops .state) o ≡ e .scan ∷ rest)
+  -- "each dot under one id only": an observation, by its frame and its place in it, that is emitted under an id (0 for none) is emitted under no other, whatever
+  -- comes later
+  pub dots : (more : List (Op Body)) (n i x y : ℕ) → Under (run c ops .emitted) n i x → Under (run c (ops ++ more) .emitted) n i y → x ≡ y
   -- ids are never used again: a new one is above every id that an emitted or held scan has
   pub used : (x : ℕ) → 0 < x → Stands x (scansOf (run c ops .emitted) ++ run c ops .state .scans) → x < run c ops .state .«next_id»
   -- "After it the state and the lent buffers hold what they held before the call": an operation that is refused changes nothing

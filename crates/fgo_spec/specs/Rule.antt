@@ -1,7 +1,8 @@
 -- Document 01, "Refiner state rule", as a proposition and as a test that computes. Definitions only.
 --
--- Of the rule's parts these hold of every state by the way it is written: "every track is frozen or has a window; windows hold only held associations,
--- rising in scan; each held association lies in exactly one window or in clutter".
+-- Of the rule's parts these hold of every state by the way it is written: "every track is frozen or has a window; windows hold only held associations". That
+-- they hold them "rising in scan", and that "each held association lies in exactly one window or in clutter", is `complete` and `apart` of `ColumnRule`: an id
+-- for each association, and no track twice in a scan.
 use Prim.Native.Nat.{ℕ, zero, suc, _+_, _≤_, _<_}
 use mathlib.Core.Path.{_≡_}
 use mathlib.Core.Bool.{Bool, true, false, _&&_, _||_, not}

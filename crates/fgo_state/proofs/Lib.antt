@@ -1,6 +1,7 @@
 pub mod Present
 pub mod Live
 pub mod Bodies
+pub mod Testing
 pub mod Columns
 pub mod Counts
 pub mod Detections

@@ -4,7 +4,7 @@ use native.Mathlib.Omega.{arith}
 use mathlib.Core.Path.{_≡_, refl, sym, ap, _∙_, subst}
 use mathlib.Core.Bool.{Bool, true, false, cond}
 use mathlib.Core.List.{List, [], _∷_, _++_, map, flatMap, append-nil, append-assoc, map-append, nil≢cons}
-use mathlib.Core.Option.{Option, none, some, Option·some-injective, Option·none-ne-some}
+use mathlib.Core.Option.{some, Option·some-injective, Option·none-ne-some}
 use lib.ListN.{length, drop}
 use lib.Seq.{take-append-seam}
 use lib.Ieee.{Float}
@@ -16,6 +16,7 @@ use Rattle.buffers.proofs.Running.{run-snoc}
 use Rattle.fgo_spec.specs.Lists.{consIf, keep}
 use Rattle.fgo_spec.specs.Rule.{All}
 use Rattle.fgo_spec.proofs.All.{All-left, All-right}
+use Rattle.fgo_spec.proofs.Counting.{keep-append}
 use Rattle.histories.specs.Calls.{Call, writtenBy, Calls, left, enough, operations, accepted, wrote, dueAfter, Served, Delivered}
 
 -- ---- replies
@@ -65,13 +66,17 @@ module _ {E S : Type 0} where
 -- ---- calls
 
 module _ {A R M : Type 0} where
-  operations-cons : (k : Call A R M) (ks : List (Call A R M)) → operations (k ∷ ks) ≡ more (enough k) (k .sent) ++ operations ks
+  pub operations-cons : (k : Call A R M) (ks : List (Call A R M)) → operations (k ∷ ks) ≡ more (enough k) (k .sent) ++ operations ks
   unfolding operations keep
   operations-cons k ks = go (enough k)
     where
       go : (b : Bool) → map (λ k. k .sent) (consIf b k (keep enough ks)) ≡ more b (k .sent) ++ map (λ k. k .sent) (keep enough ks)
       go true = refl
       go false = refl
+
+  pub operations-append : (ks fs : List (Call A R M)) → operations (ks ++ fs) ≡ operations ks ++ operations fs
+  unfolding operations
+  operations-append ks fs = ap (map (λ k. k .sent)) (keep-append enough ks fs) ∙ map-append (λ k. k .sent) (keep enough ks) (keep enough fs)
 
   pub left-append : (r : R) (m : M) (ks fs : List (Call A R M)) → left r m (ks ++ fs) ≡ left (left r m ks .0) (left r m ks .1) fs
   unfolding left

@@ -1,9 +1,9 @@
 -- Demand 3 as one sees it who calls a smoother, and a refiner before it. Assumes nothing but that each call is as the contracts of push and take say.
-use Prim.Native.Nat.{ℕ, zero, suc, _≤_}
+use Prim.Native.Nat.{ℕ, zero, suc}
 use native.Mathlib.Omega.{arith}
 use mathlib.Core.Path.{_≡_, refl, sym, ap, _∙_, subst}
 use mathlib.Core.Bool.{Bool, true, false, true≢false, cond, _&&_}
-use mathlib.Core.List.{List, [], _∷_, _++_, map, nil≢cons, head-eq-of-cons-eq}
+use mathlib.Core.List.{List, [], _∷_, _++_, map, append-assoc, nil≢cons, head-eq-of-cons-eq}
 use mathlib.Core.Option.{Option, none, some, Option·some-injective, Option·none-ne-some}
 use lib.ListN.{length, length-append}
 use lib.Dec.{ltb}
@@ -11,11 +11,12 @@ use borrow.Author.Tests.{le-leb}
 use Rattle.bounds.specs.Bounds.{TRACKS}
 use Rattle.buffers.specs.declared.Answer.the-variants.{Refused}
 use Rattle.buffers.specs.Answer.{Opening, unopened, opened, openedBy, Op, pushed, taken, Reply, refused, waits, gives, refusalIn, Written, roomy, checked, Ends}
-use Rattle.buffers.specs.Run.{runFrom}
+use Rattle.buffers.specs.Run.{emittedBy, runFrom}
 use Rattle.engine.specs.declared.config.FgoConfig.{FgoConfig}
 use Rattle.engine.specs.Body.{Body}
 use Rattle.engine.proofs.Every.{both as each}
 use Rattle.fgo_spec.specs.Emitting.{Emitted, written}
+use Rattle.fgo_spec.specs.Lists.{keep}
 use Rattle.fgo_spec.specs.Rule.{All}
 use Rattle.fgo_spec.specs.History.{Sent, run}
 use Rattle.fgo_spec.proofs.All.{mem-All}
@@ -28,12 +29,12 @@ use Rattle.smoother_window.specs.declared.SmootherConfig.{SmootherConfig}
 use Rattle.smoother_window.specs.Config.{lag, density, most, bounded, legal}
 use Rattle.smoother.specs.Smoother.{State, new, windowFits, openRefusal, ruleOk, opens, held, settle, settleBy, emitOldest, pushBy, push, takes, reply}
 use Rattle.smoother.specs.Promise.{Window, stateIn, laterRefusal, due}
-use Rattle.histories.specs.Calls.{Calls, left, enough, operations, accepted, wrote, dueAfter}
+use Rattle.histories.specs.Calls.{Calls, writtenBy, left, enough, operations, accepted, wrote, dueAfter}
 use Rattle.histories.specs.Refined as refiner
-use Rattle.histories.specs.Smoothed.{smoothing}
+use Rattle.histories.specs.Smoothed.{smoothing, Smoothed}
 use Rattle.histories.specs.Joined.{Call, Keeps, Session, Delivered, InOrder, Joined}
 use Rattle.histories.proofs.CallsLaw as calls
-use Rattle.histories.proofs.CallsLaw.{Numbered, more, refused-of, run-more, repliesTo, Known}
+use Rattle.histories.proofs.CallsLaw.{Numbered, more, refused-of, due-frame, operations-cons, operations-append, run-more, repliesTo, Known}
 use Rattle.histories.proofs.SmootherRun.{ran}
 use Rattle.histories.proofs.RefinedLaw as refined
 use Rattle.histories.proofs.SmoothedLaw.{Parts, parts, passes, both}
@@ -220,6 +221,53 @@ module _ (d : SmootherConfig) (s : FixedLagSmoother) (w : Window) where
         takes = λ past k later e v o n q. take-serves (smoothing d (operations past) .state) n (own-at ks h past k later e v taken o n q);
       }
 
+  -- ---- a call that writes a frame
+
+  ids : (l : List Written) → map (λ f. f) l ≡ l
+  ids [] = refl
+  ids (f ∷ l) = ap (λ m. f ∷ m) (ids l)
+
+  gives-of : (a : Reply Written) (o : Written) → emittedBy a ≡ o ∷ [] → a ≡ gives o
+  gives-of (refused n) o e = absurd (nil≢cons e)
+  gives-of waits o e = absurd (nil≢cons e)
+  gives-of (gives f) o e = ap gives (head-eq-of-cons-eq e)
+
+  -- the pushes and takes with it, and the frames accepted and written by then
+  pub record One (js past : List Call) (k : Call) (later : List Call) (o : Written) : Type 0 where
+    pub split : operations js ≡ operations past ++ (k .sent ∷ operations later)
+    pub grown : smoothing d (operations past ++ (k .sent ∷ [])) .emitted ≡ smoothing d (operations past) .emitted ++ (o ∷ [])
+    pub by-then : smoothing d (operations past ++ (k .sent ∷ [])) .accepted ≡ accepted (λ f. f) (past ++ (k ∷ []))
+    pub number : length (smoothing d (operations past) .emitted) ≡ length (wrote past)
+
+  module _ (js : List Call) (h : Session d s w js) where
+    part : (past fs : List Call) → js ≡ past ++ fs → Session d s w past
+    part past fs x = record { opening = h .opening; calls = calls.calls-first Keeps s w past fs (subst (Calls Keeps s w) x (h .calls)) }
+
+    pub one-more :
+        (past : List Call) (k : Call) (later : List Call) → js ≡ past ++ (k ∷ later) → (o : Written) →
+        writtenBy (k .answer) (k .wordsBack) (k .numbersBack) ≡ o ∷ [] → One js past k later o
+    unfolding operations keep
+    one-more past k later x o q =
+        let ops = operations past in
+        let t = smoothing d ops .state in
+        let a = dueAfter (λ f. f) reply (new d) (λ f. f) stateIn ops k in
+        let wrote-one = calls.written-one (λ f. f) reply (new d) (λ f. f) stateIn (known d (fine js h .0)) ops (left s w past .0) (left s w past .1)
+        (at-first js h past (k ∷ later) x) k tt (keeps-at js h past k later x) in
+        let out : emittedBy a ≡ o ∷ [] = sym (ids (emittedBy a)) ∙ sym wrote-one ∙ q in
+        let v : enough k ≡ true = due-frame (enough k) t (reply t (k .sent)) o (gives-of a o out) in
+        let with-it : operations (past ++ (k ∷ [])) ≡ ops ++ (k .sent ∷ []) =
+        operations-append past (k ∷ []) ∙ ap (λ l. ops ++ l) (operations-cons k [] ∙ ap (λ b. more b (k .sent) ++ []) v) in
+        let z = delivered past (part past (k ∷ later) x) in
+        let y = delivered (past ++ (k ∷ [])) (part (past ++ (k ∷ [])) later (x ∙ sym (append-assoc past (k ∷ []) later))) in
+        record {
+          split = ap operations x ∙ operations-append past (k ∷ later) ∙ ap (λ l. ops ++ l) (operations-cons k later ∙ ap (λ b. more b (k .sent) ++ operations later) v);
+          grown =
+              subst (λ b. smoothing d (ops ++ more b (k .sent)) .emitted ≡ smoothing d ops .emitted ++ (o ∷ [])) v
+              (ap (λ r. r .emitted) (run-more (λ f. f) reply (new d) (λ f. f) stateIn ops (enough k) (k .sent)) ∙ ap (λ l. smoothing d ops .emitted ++ l) out);
+          by-then = ap (λ l. smoothing d l .accepted) (sym with-it) ∙ sym (y .delivered .taken-in);
+          number = sym (ap length (z .delivered .frames ∙ ids (smoothing d ops .emitted)));
+        }
+
 -- ---- refiner and smoother
 
 module _ (c : FgoConfig) (r : FixedLagRefiner) (m : Memory) (ks : List refiner.Call) (g : refiner.Session c r m ks) where
@@ -257,12 +305,13 @@ module _ (c : FgoConfig) (r : FixedLagRefiner) (m : Memory) (ks : List refiner.C
         order = p .whole;
         same = sym (p .left);
         both = j;
-        every = λ before o after q. j .every before o after (sym (ids (smoothing d (operations js) .emitted)) ∙ sym (z .delivered .frames) ∙ q);
+        every =
+            λ past k later x o q.
+            let u = one-more d s w js h past k later x o q in
+            subst (λ l. Smoothed c d (p .before) l (length (wrote past)) o) (u .by-then)
+            (subst (λ n. Smoothed c d (p .before) (smoothing d (operations past ++ (k .sent ∷ [])) .accepted) n o) (u .number)
+            (j .calls (operations past) (k .sent) (operations later) (u .split) o (u .grown)));
         pushes =
             λ past k later x v f y before after u n q.
             true≢false (sym (formed f before after u) ∙ ap (λ t. wellFormed t f) (sym wide) ∙ z .pushes past k later x v f y n q .1);
       }
-    where
-      ids : (l : List Written) → map (λ f. f) l ≡ l
-      ids [] = refl
-      ids (f ∷ l) = ap (λ m. f ∷ m) (ids l)

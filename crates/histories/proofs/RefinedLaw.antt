@@ -1,11 +1,10 @@
 -- Demand 3 as one who calls a refiner sees it. Assumes nothing but that each call is as the contracts of push and take say.
-use Prim.Native.Nat.{ℕ, zero, suc, _≤_}
+use Prim.Native.Nat.{ℕ, _≤_}
 use native.Mathlib.Omega.{arith}
 use mathlib.Core.Path.{_≡_, refl, sym, ap, _∙_, subst}
 use mathlib.Core.Bool.{Bool, true, false, cond, and-eq-true-iff}
 use mathlib.Core.List.{List, [], _∷_, _++_, map}
 use lib.ListN.{length}
-use lib.Ieee.{Float}
 use lib.Dec.{leb}
 use borrow.Author.Tests.{leb-true}
 use Rattle.bounds.specs.Bounds.{WORDS, NUMBERS}

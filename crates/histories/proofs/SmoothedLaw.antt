@@ -21,7 +21,7 @@ use Rattle.smoother_window.specs.Config.{lag, most}
 use Rattle.smoother_pass.specs.Pass.{emitted}
 use Rattle.smoother.specs.Smoother.{State, new, held, settle, pushBy, push, reply}
 use Rattle.histories.specs.Smoothed.{smoothing, Smoothed, Both, Passes}
-use Rattle.histories.proofs.SmootherRun.{Block, ran, every-left, last-left, reply-stays}
+use Rattle.histories.proofs.SmootherRun.{Block, ran, last-left, accepted-grows, reply-stays}
 use Rattle.histories.proofs.Fresh.{Known, emitted-fresh}
 use Rattle.histories.proofs.Formed.{well}
 use Rattle.histories.proofs.Bodies.{fine}
@@ -67,60 +67,50 @@ module _ (c : FgoConfig) (ops : List (Op Body)) (sent : All Sent ops) where
           known (past ++ (e ∷ [])) es later (p ∙ sym (append-assoc past (e ∷ []) (es ++ later))),
         )
 
-    -- a frame that came out is the smoothed form of an emitted one
+    -- a frame that came out, when the frames by had been accepted, is the smoothed form of one of them
     smoothed-of :
-        (rs : List Written) (k : ℕ) (o : Written) → Block d (map written first) rs k o →
-        (later : List Emitted) × (map written later ≡ rs) × Smoothed c d first later k o
-    smoothed-of rs k o b = go (p .after) refl
+        (by more : List Emitted) → first ≡ by ++ more → (acc : List Written) → map written by ≡ acc → (k : ℕ) (o : Written) → Block d acc k o → Smoothed c d first acc k o
+    smoothed-of by more f acc m k o b = go (p .after) refl
       where
-        p : Parts written first (b .front) (b .oldest ∷ (b .others ++ rs))
-        p = parts written first (b .front) (b .oldest ∷ (b .others ++ rs)) (b .among)
+        p : Parts written by (b .front) (b .oldest ∷ b .others)
+        p = parts written by (b .front) (b .oldest ∷ b .others) (m ∙ b .among)
 
-        go : (l : List Emitted) → p .after ≡ l → (later : List Emitted) × (map written later ≡ rs) × Smoothed c d first later k o
+        go : (l : List Emitted) → p .after ≡ l → Smoothed c d first acc k o
         go [] z = absurd (nil≢cons (ap (map written) (sym z) ∙ p .right))
         go (e ∷ l) z =
-            let s : map written (e ∷ l) ≡ b .oldest ∷ (b .others ++ rs) = ap (map written) (sym z) ∙ p .right in
-            let t = parts written l (b .others) rs (tail-eq-of-cons-eq s) in
-            let f = head-eq-of-cons-eq s in
-            let g = t .left in
-            let w : first ≡ p .before ++ (e ∷ (t .before ++ t .after)) = p .whole ∙ ap (λ m. p .before ++ m) (z ∙ ap (λ m. e ∷ m) (t .whole)) in (
-              t .after,
-              t .right,
-              record {
-                past = p .before;
-                source = e;
-                window = t .before;
-                order = w;
-                number = sym (length-map (p .before) written) ∙ ap length (p .left) ∙ b .number;
-                few = subst (λ n. n ≤ lag d) (sym (sym (length-map (t .before) written) ∙ ap length g)) (b .few);
-                form =
-                    b .form
-                    ∙ (λ i. emitted d (sym f i ∷ sym g i) (sym f i))
-                    ∙ emitted-fresh c d (p .before) e (t .before) (known (p .before) (e ∷ t .before) (t .after) w);
-              },
-            )
+            let s : map written (e ∷ l) ≡ b .oldest ∷ b .others = ap (map written) (sym z) ∙ p .right in
+            let f′ = head-eq-of-cons-eq s in
+            let g = tail-eq-of-cons-eq s in
+            let w : by ≡ p .before ++ (e ∷ l) = p .whole ∙ ap (λ m. p .before ++ m) z in
+            let v : first ≡ (p .before ++ (e ∷ l)) ++ more = f ∙ ap (λ m. m ++ more) w in
+            record {
+              past = p .before;
+              source = e;
+              window = l;
+              later = more;
+              all = v;
+              by-then = sym m ∙ ap (map written) w;
+              number = sym (length-map (p .before) written) ∙ ap length (p .left) ∙ b .number;
+              few = subst (λ n. n ≤ lag d) (sym (sym (length-map l written) ∙ ap length g)) (b .few);
+              form =
+                  b .form
+                  ∙ (λ i. emitted d (sym f′ i ∷ sym g i) (sym f′ i))
+                  ∙ emitted-fresh c d (p .before) e l (known (p .before) (e ∷ l) more (v ∙ append-assoc (p .before) (e ∷ l) more));
+            }
 
-    every-smoothed :
-        (before : List Written) (o : Written) (after : List Written) → r .emitted ≡ before ++ (o ∷ after) →
-        (later : List Emitted) × Smoothed c d first later (length before) o
-    every-smoothed before o after e =
-        let b = every-left d os before o after e in
-        let s = smoothed-of (b .0) (length before) o (subst (λ l. Block d l (b .0) (length before) o) a (b .1)) in
-        (s .0, s .2)
-
-    last-smoothed :
-        (earlier : List (Op Written)) (k : Op Written) (o : Written) → os ≡ earlier ++ (k ∷ []) → r .emitted ≡ smoothing d earlier .emitted ++ (o ∷ []) →
-        Smoothed c d first [] (length (smoothing d earlier .emitted)) o
-    last-smoothed earlier k o p g =
-        let e : r ≡ step (λ f. f) reply (smoothing d earlier) k = ap (smoothing d) p ∙ run-snoc (λ f. f) reply (new d) earlier k in
+    calls-smoothed :
+        (earlier : List (Op Written)) (k : Op Written) (later : List (Op Written)) → os ≡ earlier ++ (k ∷ later) → (o : Written) →
+        smoothing d (earlier ++ (k ∷ [])) .emitted ≡ smoothing d earlier .emitted ++ (o ∷ []) →
+        Smoothed c d first (smoothing d (earlier ++ (k ∷ [])) .accepted) (length (smoothing d earlier .emitted)) o
+    calls-smoothed earlier k later p o g =
+        let os′ = earlier ++ (k ∷ []) in
         let n = length (smoothing d earlier .emitted) in
+        let e : smoothing d os′ ≡ step (λ f. f) reply (smoothing d earlier) k = run-snoc (λ f. f) reply (new d) earlier k in
         let b = last-left d earlier k o (ap (λ r. r .emitted) (sym e) ∙ g) in
-        let s = smoothed-of [] n o (subst (λ l. Block d l [] n o) (ap (λ r. r .accepted) (sym e) ∙ a) b) in
-        subst (λ l. Smoothed c d first l n o) (none (s .0) (s .1)) (s .2)
-      where
-        none : (l : List Emitted) → map written l ≡ [] → l ≡ []
-        none [] z = refl
-        none (e ∷ l) z = absurd (nil≢cons (sym z))
+        let m = accepted-grows d os′ later in
+        let q = parts written first (smoothing d os′ .accepted) (m .0)
+        (sym a ∙ ap (λ l. smoothing d l .accepted) (p ∙ sym (append-assoc earlier (k ∷ []) later)) ∙ m .1) in
+        smoothed-of (q .before) (q .after) (q .whole) (smoothing d os′ .accepted) (q .left) n o (subst (λ l. Block d l n o) (ap (λ r. r .accepted) (sym e)) b)
 
     each-is : length (r .emitted) + length (r .state .frames) ≡ length first
     each-is =
@@ -140,8 +130,7 @@ module _ (c : FgoConfig) (ops : List (Op Body)) (sent : All Sent ops) where
     both =
         record {
           each = each-is;
-          every = every-smoothed;
-          last = last-smoothed;
+          calls = calls-smoothed;
           refusals = λ k n g. run-snoc (λ f. f) reply (new d) os k ∙ step-stays (λ f. f) reply r k n (reply-stays (r .state) k n g);
           pushes = λ past e later w. push-formed (r .state) (written e) (formed-here e (passes past e later w));
         }

@@ -1,10 +1,9 @@
 -- A run of a smoother: what has come out are, in order, the oldest of the frames then held, smoothed. Assumes nothing.
-use Prim.Native.Nat.{ℕ, suc, _+_, _≤_}
-use native.Mathlib.Nat.{add-zero, zero-add, suc-add, add-suc}
+use Prim.Native.Nat.{ℕ, _+_, _≤_}
 use native.Mathlib.Omega.{arith}
 use mathlib.Core.Path.{_≡_, refl, sym, ap, _∙_, subst}
 use mathlib.Core.Bool.{Bool, true, false, true≢false}
-use mathlib.Core.List.{List, [], _∷_, _++_, append-nil, append-assoc, append-cancel-left, head-eq-of-cons-eq, nil≢cons}
+use mathlib.Core.List.{List, [], _∷_, _++_, foldl, foldl-append, append-nil, append-assoc, append-cancel-left, head-eq-of-cons-eq, nil≢cons}
 use lib.ListN.{length, length-append}
 use lib.Dec.{ltb}
 use borrow.Author.Tests.{ltb-true, ltb-false}
@@ -82,55 +81,15 @@ module _ (d : SmootherConfig) where
 
   -- ---- the frames put out
 
-  -- o came out after k others, and rest was accepted after that
-  pub record Block (all rest : List Written) (k : ℕ) (o : Written) : Type 0 where
+  -- o came out after k others, when all these frames had been accepted
+  pub record Block (all : List Written) (k : ℕ) (o : Written) : Type 0 where
     pub front : List Written
     pub oldest : Written
     pub others : List Written
-    pub among : all ≡ front ++ (oldest ∷ (others ++ rest))
+    pub among : all ≡ front ++ (oldest ∷ others)
     pub number : length front ≡ k
     pub few : length others ≤ lag d
     pub form : o ≡ emitted d (oldest ∷ others) oldest
-
-  abbrev pub Left : List Written → ℕ → Written → Type 0
-  Left all k o = (rest : List Written) × Block all rest k o
-
-  abbrev Blocks : List Written → ℕ → List Written → Type 0
-  Blocks all k [] = Unit {0}
-  Blocks all k (o ∷ os) = Left all k o × Blocks all (suc k) os
-
-  blocks-more : (all ms : List Written) (k : ℕ) (os : List Written) → Blocks all k os → Blocks (all ++ ms) k os
-  blocks-more all ms k [] h = tt
-  blocks-more all ms k (o ∷ os) h = ((h .0 .0 ++ ms, one (h .0 .1)), blocks-more all ms (suc k) os (h .1))
-    where
-      one : Block all (h .0 .0) k o → Block (all ++ ms) (h .0 .0 ++ ms) k o
-      one b =
-          record {
-            front = b .front;
-            oldest = b .oldest;
-            others = b .others;
-            among =
-                ap (λ l. l ++ ms) (b .among)
-                ∙ append-assoc (b .front) (b .oldest ∷ (b .others ++ h .0 .0)) ms
-                ∙ ap (λ l. b .front ++ (b .oldest ∷ l)) (append-assoc (b .others) (h .0 .0) ms);
-            number = b .number;
-            few = b .few;
-            form = b .form;
-          }
-
-  blocks-snoc :
-      (all : List Written) (k : ℕ) (os : List Written) (o : Written) →
-      Blocks all k os → Left all (k + length os) o → Blocks all k (os ++ (o ∷ []))
-  blocks-snoc all k [] o h b = (subst (λ n. Left all n o) (add-zero k) b, tt)
-  blocks-snoc all k (p ∷ os) o h b =
-      (h .0, blocks-snoc all (suc k) os o (h .1) (subst (λ n. Left all n o) (add-suc k (length os) ∙ sym (suc-add k (length os))) b))
-
-  blocks-at :
-      (all : List Written) (k : ℕ) (before : List Written) (o : Written) (os : List Written) →
-      Blocks all k (before ++ (o ∷ os)) → Left all (k + length before) o
-  blocks-at all k [] o os h = subst (λ n. Left all n o) (sym (add-zero k)) (h .0)
-  blocks-at all k (p ∷ before) o os h =
-      subst (λ n. Left all n o) (suc-add k (length before) ∙ sym (add-suc k (length before))) (blocks-at all (suc k) before o os (h .1))
 
   -- ---- what a run keeps
 
@@ -141,18 +100,16 @@ module _ (d : SmootherConfig) where
     pub front : List Written
     pub line : acc ≡ front ++ fs
     pub number : length front ≡ length gs
-    pub blocks : Blocks acc 0 gs
 
   module _ (fs acc gs ms : List Written) (short : length ms ≤ 1) (i : Steady fs acc gs) where
     -- the oldest frame leaves
-    left : (f : Written) (hs : List Written) → fs ++ ms ≡ f ∷ hs → Block (acc ++ ms) [] (length gs) (emitted d (f ∷ hs) f)
+    left : (f : Written) (hs : List Written) → fs ++ ms ≡ f ∷ hs → Block (acc ++ ms) (length gs) (emitted d (f ∷ hs) f)
     left f hs p =
         record {
           front = i .front;
           oldest = f;
           others = hs;
-          among =
-              ap (λ l. l ++ ms) (i .line) ∙ append-assoc (i .front) fs ms ∙ ap (λ l. i .front ++ l) (p ∙ ap (λ l. f ∷ l) (sym (append-nil hs)));
+          among = ap (λ l. l ++ ms) (i .line) ∙ append-assoc (i .front) fs ms ∙ ap (λ l. i .front ++ l) p;
           number = i .number;
           few = let h = i .lagged in omega (arith, ap length p, length-append fs ms);
           form = refl;
@@ -171,7 +128,6 @@ module _ (d : SmootherConfig) where
           front = i .front;
           line = ap (λ l. l ++ ms) (i .line) ∙ append-assoc (i .front) fs ms;
           number = i .number;
-          blocks = blocks-more acc ms 0 gs (i .blocks);
         }
 
     kept-leaves : allFormed (most d) ms ≡ true → (f : Written) (hs : List Written) → fs ++ ms ≡ f ∷ hs → Steady hs (acc ++ ms) (gs ++ (emitted d (f ∷ hs) f ∷ []))
@@ -185,7 +141,6 @@ module _ (d : SmootherConfig) where
           line =
               ap (λ l. l ++ ms) (i .line) ∙ append-assoc (i .front) fs ms ∙ ap (λ l. i .front ++ l) p ∙ sym (append-assoc (i .front) (f ∷ []) hs);
           number = length-append (i .front) (f ∷ []) ∙ ap (λ n. n + 1) (i .number) ∙ sym (length-append gs (o ∷ []));
-          blocks = blocks-snoc (acc ++ ms) 0 gs o (blocks-more acc ms 0 gs (i .blocks)) ([], subst (λ n. Block (acc ++ ms) [] n o) (sym (zero-add (length gs))) (left f hs p));
         }
 
   pub record Ran (r : Run Written Written State) : Type 0 where
@@ -216,39 +171,47 @@ module _ (d : SmootherConfig) where
   unfolding runFrom allFormed
   ran os =
       foldl-keeps Ran (λ k. Unit {0}) (step (λ f. f) reply) (λ r k i u. ran-step r k i) (begin (new d)) os
-      (record { same = refl; kept = record { lagged = omega arith; formed = refl; front = []; line = refl; number = refl; blocks = tt } })
+      (record { same = refl; kept = record { lagged = omega arith; formed = refl; front = []; line = refl; number = refl } })
       (mem-All (λ k. Unit {0}) os (λ k m. tt))
 
   -- ---- what a run tells
-
-  pub every-left :
-      (sent : List (Op Written)) (before : List Written) (o : Written) (os : List Written) → smoothing d sent .emitted ≡ before ++ (o ∷ os) →
-      Left (smoothing d sent .accepted) (length before) o
-  every-left sent before o os e =
-      let r = smoothing d sent in
-      subst (λ n. Left (r .accepted) n o) (zero-add (length before))
-      (blocks-at (r .accepted) 0 before o os (subst (Blocks (r .accepted) 0) e (ran sent .kept .blocks)))
 
   none-more : (gs : List Written) (o : Written) → gs ≡ gs ++ (o ∷ []) → ⊥
   none-more gs o e = nil≢cons (append-cancel-left gs [] (o ∷ []) (append-nil gs ∙ e))
 
   gave :
       (fs acc gs ms : List Written) (r : Run Written Written State) → length ms ≤ 1 → Steady fs acc gs → Does fs acc gs ms r →
-      (o : Written) → r .emitted ≡ gs ++ (o ∷ []) → Block (r .accepted) [] (length gs) o
+      (o : Written) → r .emitted ≡ gs ++ (o ∷ []) → Block (r .accepted) (length gs) o
   gave fs acc gs ms r s i (refuses e) o h = absurd (none-more gs o (ap (λ r. r .emitted) (sym e) ∙ h))
   gave fs acc gs ms r s i (holds w l e) o h = absurd (none-more gs o (ap (λ r. r .emitted) (sym e) ∙ h))
   gave fs acc gs ms r s i (leaves w f hs p e) o h =
       let g = emitted d (f ∷ hs) f in
       let d : g ≡ o = head-eq-of-cons-eq (append-cancel-left gs (g ∷ []) (o ∷ []) (ap (λ r. r .emitted) (sym e) ∙ h)) in
-      subst (λ l. Block l [] (length gs) o) (ap (λ r. r .accepted) (sym e)) (subst (Block (acc ++ ms) [] (length gs)) d (left fs acc gs ms s i f hs p))
+      subst (λ l. Block l (length gs) o) (ap (λ r. r .accepted) (sym e)) (subst (Block (acc ++ ms) (length gs)) d (left fs acc gs ms s i f hs p))
 
   pub last-left :
       (os : List (Op Written)) (k : Op Written) (o : Written) → Steps (smoothing d os) k .emitted ≡ smoothing d os .emitted ++ (o ∷ []) →
-      Block (Steps (smoothing d os) k .accepted) [] (length (smoothing d os .emitted)) o
+      Block (Steps (smoothing d os) k .accepted) (length (smoothing d os .emitted)) o
   last-left os k o h =
       let r = smoothing d os in
       let i = ran os in
       gave (r .state .frames) (r .accepted) (r .emitted) (more k) (Steps r k) (short k) (i .kept) (calls-does r i k) o h
+
+  -- ---- what has been accepted stays
+
+  grows : (r : Run Written Written State) (more : List (Op Written)) → (rest : List Written) × (foldl Steps r more .accepted ≡ r .accepted ++ rest)
+  unfolding step
+  grows r [] = ([], sym (append-nil (r .accepted)))
+  grows r (o ∷ more) =
+      let g = grows (Steps r o) more in
+      let fs = acceptedBy (λ f. f) o (refusalIn (reply (r .state) o .0)) in
+      (fs ++ g .0, g .1 ∙ append-assoc (r .accepted) fs (g .0))
+
+  pub accepted-grows : (os more : List (Op Written)) → (rest : List Written) × (smoothing d (os ++ more) .accepted ≡ smoothing d os .accepted ++ rest)
+  unfolding runFrom
+  accepted-grows os more =
+      let g = grows (foldl Steps (begin (new d)) os) more in
+      (g .0, ap (λ r. r .accepted) (foldl-append Steps (begin (new d)) os more) ∙ g .1)
 
 -- ---- a push or a take that is refused changes nothing
 

@@ -18,7 +18,7 @@ use Rattle.smoother.specs.declared.Opened.the-variants.{Ready}
 use Rattle.smoother.specs.Smoother.{new, opens, reply}
 use Rattle.smoother.specs.Promise.{Window, stateIn, openingOf, Promised}
 use Rattle.histories.specs.Calls as calls
-use Rattle.histories.specs.Calls.{Calls, left, enough, operations, accepted, wrote}
+use Rattle.histories.specs.Calls.{Calls, writtenBy, left, enough, operations, accepted, wrote}
 use Rattle.histories.specs.Refined as refiner
 use Rattle.histories.specs.Smoothed.{smoothing, Smoothed, Both}
 
@@ -68,10 +68,10 @@ pub record Joined (c : FgoConfig) (ks : List refiner.Call) (d : SmootherConfig) 
   pub same : accepted (λ f. f) js ≡ map written first
   -- demand 3 over refiner and smoother
   pub both : Both c (operations ks) d (operations js) first
-  -- by which the frames that the smoother wrote are, in order, the smoothed forms of the frames accepted
+  -- by which each call that writes a frame writes the smoothed form of the next frame in order, over exactly the frames accepted by then and not written before
   pub every :
-      (before : List Written) (o : Written) (after : List Written) → wrote js ≡ before ++ (o ∷ after) →
-      (later : List Emitted) × Smoothed c d first later (length before) o
+      (past : List Call) (k : Call) (later : List Call) → js ≡ past ++ (k ∷ later) → (o : Written) → writtenBy (k .answer) (k .wordsBack) (k .numbersBack) ≡ o ∷ [] →
+      Smoothed c d first (accepted (λ f. f) (past ++ (k ∷ []))) (length (wrote past)) o
   -- with output buffers that are long enough, no push of a frame that the refiner wrote is refused
   pub pushes :
       (past : List Call) (k : Call) (later : List Call) → js ≡ past ++ (k ∷ later) → enough k ≡ true → (f : Written) → k .sent ≡ pushed f →

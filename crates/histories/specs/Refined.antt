@@ -1,9 +1,8 @@
 -- Demand 3 in the terms of one who calls a refiner: any list of pushes and takes from an opened one, with any bytes and any buffers. Definitions only.
-use Prim.Native.Nat.{ℕ}
 use mathlib.Core.Path.{_≡_}
 use mathlib.Core.Bool.{true}
 use mathlib.Core.List.{List, _∷_, _++_, map}
-use Rattle.buffers.specs.Answer.{Opening, opened, openedBy, Op, Reply, gives}
+use Rattle.buffers.specs.Answer.{opened, openedBy, Op, Reply, gives}
 use Rattle.engine.specs.declared.config.FgoConfig.{FgoConfig}
 use Rattle.engine.specs.Body.{Body, frameIn}
 use Rattle.fgo_spec.specs.Windows.{Scan}
@@ -13,10 +12,10 @@ use Rattle.fgo_spec.specs.Rule.{All}
 use Rattle.fgo_spec.specs.History.{run, settled, Sent, Told, History}
 use Rattle.fgo_state.specs.declared.state.FixedLagRefiner.{FixedLagRefiner}
 use Rattle.fgo_state.specs.Memory.{Memory, stateOf}
-use Rattle.fgo_state.specs.Sound.{soundOk}
+use Rattle.fgo_state.specs.Sound.{soundOk, Sound}
 use Rattle.fgo.specs.Promise.{newBy, openRefusal, due, Promised}
 use Rattle.histories.specs.Calls as calls
-use Rattle.histories.specs.Calls.{Calls, left, enough, operations, accepted, wrote, dueAfter}
+use Rattle.histories.specs.Calls.{Calls, left, operations, accepted, wrote, dueAfter}
 
 -- a call of push or of take
 abbrev pub Call : Type 0
@@ -57,6 +56,17 @@ pub record Delivered (c : FgoConfig) (r : FixedLagRefiner) (m : Memory) (ks : Li
   pub ruled : soundOk (left r m ks .0) (left r m ks .1) ≡ true
 
 -- the theorem, in proofs/: delivered : .. → Session c r m ks → Delivered c r m ks
+
+-- ---- 3: "the state breaks its rule"
+
+-- of a refiner and a memory whose bodies are bytes, whatever else they hold: a call that answers a answers 3 just where a held body is refused by 5, 6 or 7 or
+-- the state breaks the rule
+pub record Third (r : FixedLagRefiner) (m : Memory) (three : Type 0) : Type 0 where
+  pub only : three → Sound r m → ⊥
+  pub always : (Sound r m → ⊥) → three
+
+-- the laws, in proofs/: third : .. → Bytes (m .bodies) → Keeps r m k → Third r m (k .answer ≡ Refused 3)
+--                       third-counted : .. → Bytes (m .bodies) → Third r m (countedBy (countRefusal r m) n ≡ NotCounted 3)
 
 -- ---- finish
 

@@ -74,13 +74,15 @@ module _ (c : FgoConfig) (d : SmootherConfig) where
 
 -- ---- the theorem
 
--- The frame o came out after k others, when the frames first but for the last of them, later, had been accepted: it is the smoothed form of the next frame
--- in order, over the frames that were held behind it.
-pub record Smoothed (c : FgoConfig) (d : SmootherConfig) (first later : List Emitted) (k : ℕ) (o : Written) : Type 0 where
+-- The frame o came out after k others. By then the frames acc had been accepted, the first of the frames first; the next in order is source, and window are all
+-- that follow it among them: "exactly" those that were accepted by then and had not come out before. o is the smoothed form of source over them.
+pub record Smoothed (c : FgoConfig) (d : SmootherConfig) (first : List Emitted) (acc : List Written) (k : ℕ) (o : Written) : Type 0 where
   pub past : List Emitted
   pub source : Emitted
   pub window : List Emitted
-  pub order : first ≡ past ++ (source ∷ (window ++ later))
+  pub later : List Emitted
+  pub all : first ≡ (past ++ (source ∷ window)) ++ later
+  pub by-then : acc ≡ map written (past ++ (source ∷ window))
   pub number : length past ≡ k
   pub few : length window ≤ lag d
   pub form : o ≡ smoothedForm c d past source window
@@ -90,14 +92,11 @@ pub record Smoothed (c : FgoConfig) (d : SmootherConfig) (first later : List Emi
 pub record Both (c : FgoConfig) (ops : List (Op Body)) (d : SmootherConfig) (os : List (Op Written)) (first : List Emitted) : Type 0 where
   -- each frame that was accepted has come out or is held
   pub each : length (smoothing d os .emitted) + length (smoothing d os .state .frames) ≡ length first
-  -- what has come out are, in order, the smoothed forms of the frames accepted
-  pub every :
-      (before : List Written) (o : Written) (after : List Written) → smoothing d os .emitted ≡ before ++ (o ∷ after) →
-      (later : List Emitted) × Smoothed c d first later (length before) o
-  -- what the last of them put out is smoothed over all the frames accepted by then
-  pub last :
-      (earlier : List (Op Written)) (k : Op Written) (o : Written) → os ≡ earlier ++ (k ∷ []) →
-      smoothing d os .emitted ≡ smoothing d earlier .emitted ++ (o ∷ []) → Smoothed c d first [] (length (smoothing d earlier .emitted)) o
+  -- each push or take that puts a frame out: the smoothed form of the next frame in order, over exactly the frames accepted by then
+  pub calls :
+      (earlier : List (Op Written)) (k : Op Written) (later : List (Op Written)) → os ≡ earlier ++ (k ∷ later) → (o : Written) →
+      smoothing d (earlier ++ (k ∷ [])) .emitted ≡ smoothing d earlier .emitted ++ (o ∷ []) →
+      Smoothed c d first (smoothing d (earlier ++ (k ∷ [])) .accepted) (length (smoothing d earlier .emitted)) o
   -- "After it the state and the lent buffers hold what they held before the call": one that is refused changes nothing
   pub refusals : (k : Op Written) (n : ℕ) → reply (smoothing d os .state) k .0 ≡ refused n → smoothing d (os ++ (k ∷ [])) ≡ smoothing d os
   -- no push of an emitted frame is refused
