@@ -187,8 +187,8 @@ module _ (c : FgoConfig) (es : List Emitted) (acc : List Frame) (t : State) (s :
         few =
             rw (length-map (keep (listable c now) froze) (λ e. report c now (e .0) (e .1)))
             (omega (arith, froze-length, held-count, i .sum, count-le (listable c now) froze));
-        listed = listed;
-        exact = λ nb cf x l h e a. let n = never-snoc es em nb in exact (n .0) (n .1) cf x l h e a;
+        listed = λ l m. let k = listed l m in record { id = k .0; fresh = k .1; young = k .2 };
+        exact = λ nb cf l k. let n = never-snoc es em nb in exact (n .0) (n .1) cf (l .id) l (k .id) (k .fresh) (k .young);
       }
 
   -- ---- the state that is left

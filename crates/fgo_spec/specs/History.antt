@@ -92,6 +92,13 @@ Rising (x ∷ y ∷ l) = (x < y) × Rising (y ∷ l)
 abbrev pub seen : List Emitted → Emitted → ℕ → List Detection
 seen past e x = window x 0 (scansOf past ++ (e .scan ∷ []))
 
+-- a track that the frame e, emitted after the frames past, has to list: "position, speed and covariance are, bit for bit, 01's plain filter run afresh over exactly
+-- the observations emitted so far under that id, this frame's included, then predicted to this frame's time, its count and height those of the same observations"
+pub record ToList (c : FgoConfig) (past : List Emitted) (e : Emitted) (l : Listed) : Type 0 where
+  pub id : 0 < l .id
+  pub fresh : afresh c (timeOf e) (l .id) (seen past e (l .id)) ≡ some l
+  pub young : T (leZ (l .age) (coast c))
+
 -- what holds of the frame e that is emitted after the frames past
 pub record Told (c : FgoConfig) (past : List Emitted) (e : Emitted) : Type 0 where
   -- "each with its own associations in order": an id for each of them, 0 for none
@@ -103,11 +110,10 @@ pub record Told (c : FgoConfig) (past : List Emitted) (e : Emitted) : Type 0 whe
   -- the listed tracks are in id order, and no more than those that a smoother takes
   pub rising : Rising (map (λ l. l .id) (e .tracks))
   pub few : length (e .tracks) ≤ TRACKS
-  -- "each listed track's position, speed and covariance are, bit for bit, 01's plain filter run afresh over exactly the observations emitted so far under
-  -- that id, this frame's included, then predicted to this frame's time, its count and height those of the same observations"
-  pub listed : (l : Listed) → List·Memᴰ l (e .tracks) → (0 < l .id) × (afresh c (timeOf e) (l .id) (seen past e (l .id)) ≡ some l) × T (leZ (l .age) (coast c))
-  -- "if emitted times never go back and coast_ns <= forget_after_ns, the listed ids are exactly those emitted with age <= coast_ns"
-  pub exact : NeverBack (past ++ (e ∷ [])) → coast c ≤ℤ forgetAfter c → (x : ℕ) (l : Listed) → 0 < x → afresh c (timeOf e) x (seen past e x) ≡ some l → T (leZ (l .age) (coast c)) → List·Memᴰ l (e .tracks)
+  -- each track that the frame lists is one to list
+  pub listed : (l : Listed) → List·Memᴰ l (e .tracks) → ToList c past e l
+  -- "if emitted times never go back and coast_ns <= forget_after_ns, the listed ids are exactly those emitted with age <= coast_ns": and no other is
+  pub exact : NeverBack (past ++ (e ∷ [])) → coast c ≤ℤ forgetAfter c → (l : Listed) → ToList c past e l → List·Memᴰ l (e .tracks)
 
 -- the held scans after placing and search: the oldest is what a push, or a take, has to give
 abbrev pub settled : FgoConfig → State → Op Body → List Scan

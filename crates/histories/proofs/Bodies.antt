@@ -142,13 +142,13 @@ module _ (c : FgoConfig) (ops : List (Op Body)) (sent : All Sent ops) (past : Li
 
   track-bound : (l : Listed) → List·Memᴰ l (e .tracks) → Classed (l .class) × (l .count < 2 ^ 32)
   unfolding afresh
-  track-bound l m = go (seen past e (l .id)) refl (told .listed l m .1)
+  track-bound l m = go (seen past e (l .id)) refl (told .listed l m .fresh)
     where
       go : (w : List Detection) → window (l .id) 0 ss ≡ w → afresh c (timeOf e) (l .id) w ≡ some l → Classed (l .class) × (l .count < 2 ^ 32)
       go [] p h = absurd (Option·none-ne-some _ h)
       go (d ∷ ds) p h =
           let r = Option·some-injective _ _ h in
-          let n = window-length (l .id) 0 ss (once (l .id) (told .listed l m .0)) in
+          let n = window-length (l .id) 0 ss (once (l .id) (told .listed l m .id)) in
           let k : All (λ d. Classed (d .class)) (d ∷ ds) =
           subst (All (λ d. Classed (d .class))) p
           (window-All (λ d. Classed (d .class)) Bounded (length ss) (λ n f a g b. unfold detectionOf in (for-bound (a .track) (f .tracks) (b .classes))) (l .id) 0 ss (omega arith) bounded-all) in (

@@ -126,12 +126,13 @@ module _ {A F E S R M : Type 0} (frame : A → F) (reply : S → Op A → Reply 
       none-more taken = sym (append-nil (ran ops .accepted))
 
   -- What is known of calls that keep to a contract, and of which Ok holds: after the pushes and takes ops a value and its memory are such that At holds. They
-  -- mean the state then; a call ends as it should, and goes on to such a value and memory; a frame has room; and refusals are numbered 5 or above.
+  -- mean the state then, and so does the memory that is lent; a call ends as it should, and goes on to such a value and memory; a frame has room; and refusals are numbered 5 or above.
   pub record Known (Keeps : R → M → Call A R M → Type 0) (Ok : Call A R M → Type 0) (At : List (Op A) → R → M → Type 0) : Type 0 where
     pub state : (ops : List (Op A)) (r : R) (m : M) → At ops r m → stateOf r m ≡ ran ops .state
+    pub given : (ops : List (Op A)) (r : R) (m : M) → At ops r m → (k : Call A R M) → Keeps r m k → stateOf r (k .lent) ≡ ran ops .state
     pub ends :
         (ops : List (Op A)) (r : R) (m : M) → At ops r m → (k : Call A R M) → Ok k → Keeps r m k →
-        Ends written stateOf (repliesTo ops (enough k) (k .sent)) r m (k .words) (k .numbers) (k .answer) (k .value) (k .memory) (k .wordsBack) (k .numbersBack)
+        Ends written stateOf (repliesTo ops (enough k) (k .sent)) r (k .lent) (k .words) (k .numbers) (k .answer) (k .value) (k .memory) (k .wordsBack) (k .numbersBack)
     pub next :
         (ops : List (Op A)) (r : R) (m : M) → At ops r m → (k : Call A R M) → Ok k → Keeps r m k →
         At (ops ++ more (enough k) (k .sent)) (k .value) (k .memory)
@@ -157,7 +158,7 @@ module _ {A F E S R M : Type 0} (frame : A → F) (reply : S → Op A → Reply 
       number-at n q =
           due-number (enough k) (ran ops .state) (reply (ran ops .state) (k .sent)) n (z .numbered ops r m a (k .sent)) (refused-at n q)
 
-      pub served : Served frame reply start written stateOf ops r m k
+      pub served : Served frame reply start written stateOf ops r k
       served =
           let d = z .ends ops r m a k h e in
           record {
@@ -170,7 +171,7 @@ module _ {A F E S R M : Type 0} (frame : A → F) (reply : S → Op A → Reply 
             refusals =
                 λ n q.
                 let g = refused-at n q in
-                let u : Unchanged {E = E} (refused n) r m (k .value) (k .memory) = subst (λ x. Unchanged x r m (k .value) (k .memory)) g (d .unchanged) in
+                let u : Unchanged {E = E} (refused n) r (k .lent) (k .value) (k .memory) = subst (λ x. Unchanged x r (k .lent) (k .value) (k .memory)) g (d .unchanged) in
                 (u .0, u .1, d .words ∙ ap (λ x. wordsAfter written x (k .words)) g, d .numbers ∙ ap (λ x. numbersAfter written x (k .numbers)) g);
           }
 
@@ -239,7 +240,7 @@ module _ {A F E S R M : Type 0} (frame : A → F) (reply : S → Op A → Reply 
 
       served-at :
           (ks past : List (Call A R M)) (k : Call A R M) (later : List (Call A R M)) → All Ok ks → Calls Keeps r m ks → ks ≡ past ++ (k ∷ later) →
-          Served frame reply start written stateOf (operations past) (left r m past .0) (left r m past .1) k
+          Served frame reply start written stateOf (operations past) (left r m past .0) k
       unfolding Calls
       served-at ks past k later h cs e =
           let h′ = subst (All Ok) e h in

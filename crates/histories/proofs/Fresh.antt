@@ -21,13 +21,14 @@ use Rattle.engine.proofs.ReadBack.{time-fits}
 use Rattle.rts.specs.Smoothing.{Estimate}
 use Rattle.fgo_spec.specs.Lists.{has, any}
 use Rattle.fgo_spec.specs.Emitting.{Listed, Emitted, wordsOf, numbersOf, written}
+use Rattle.fgo_spec.specs.Rule.{All}
 use Rattle.fgo_spec.specs.History.{timeOf, seen, afresh, Told}
 use Rattle.fgo_spec.proofs.Counting.{any-append}
 use Rattle.smoother_frame.specs.Frame.{time, idWord, smoothedAs}
 use Rattle.smoother_window.specs.declared.SmootherConfig.{SmootherConfig}
 use Rattle.smoother_window.specs.Config.{density}
 use Rattle.smoother_pass.specs.Pass.{lastAt, timedAt, trackState, chain, chainIn, runBack, replaced, flat, smoothedFlag, smoothedAt, statesTo, emitted}
-use Rattle.histories.specs.Smoothed.{timedIf, withPast, freshIn, smoothedState, smoothedForm}
+use Rattle.histories.specs.Smoothed.{timedIf, Sourced, handed, freshIn, smoothedState, smoothedForm}
 use Rattle.histories.proofs.Reading.{At, element, track-word, numbers-past, state-is}
 
 -- a time in bounds is read back from its word
@@ -75,43 +76,45 @@ module _ (e : Emitted) where
 -- ---- the chain
 
 module _ (c : FgoConfig) (d : SmootherConfig) where
-  state-fresh : (past : List Emitted) (e : Emitted) (x : ℕ) → Told c past e → timeOk (timeOf e) ≡ true → trackState x (written e) ≡ freshIn c d x past e
+  -- what is known of an emitted frame: it is told of, with a time in bounds
+  abbrev pub Known : Sourced → Type 0
+  Known s = Told c (s .past) (s .frame) × (timeOk (timeOf (s .frame)) ≡ true)
+
+  state-fresh : (x : ℕ) (s : Sourced) → Known s → trackState x (handed s) ≡ freshIn c d x s
   unfolding trackState freshIn wordsOf
-  state-fresh past e x t b =
-      ap (λ z. timedAt z (numbersOf e) (lastAt x (wordsOf e) (length (e .tracks)))) (time-is e b)
-      ∙ last-is e (timeOf e) x (afresh c (timeOf e) x (seen past e x))
-      (λ l m k. subst (λ x. afresh c (timeOf e) x (seen past e x) ≡ some l) k (t .listed l m .1))
+  state-fresh x s k =
+      let e = s .frame in
+      let o = afresh c (timeOf e) x (seen (s .past) e x) in
+      ap (λ z. timedAt z (numbersOf e) (lastAt x (wordsOf e) (length (e .tracks)))) (time-is e (k .1))
+      ∙ last-is e (timeOf e) x o (λ l m q. subst (λ x. afresh c (timeOf e) x (seen (s .past) e x) ≡ some l) q (k .0 .listed l m .fresh))
       (length (e .tracks)) (le-refl (length (e .tracks)))
-      ∙ ap (λ l. cond (has x (map (λ l. l .id) l)) (timedIf (timeOf e) (afresh c (timeOf e) x (seen past e x))) none) (take-length (e .tracks))
+      ∙ ap (λ l. cond (has x (map (λ l. l .id) l)) (timedIf (timeOf e) o) none) (take-length (e .tracks))
 
-  -- what is known of the frames es, emitted after the frames past: each is told of, with a time in bounds
-  abbrev pub Known : List Emitted → List Emitted → Type 0
-  Known past [] = Unit {0}
-  Known past (e ∷ es) = Told c past e × (timeOk (timeOf e) ≡ true) × Known (past ++ (e ∷ [])) es
-
-  states-fresh : (x : ℕ) (past es : List Emitted) → Known past es → map (trackState x) (map written es) ≡ map (λ f. freshIn c d x (f .0) (f .1)) (withPast past es)
-  unfolding withPast
-  states-fresh x past [] k = refl
-  states-fresh x past (e ∷ es) k =
-      let s = state-fresh past e x (k .0) (k .1) in
-      let r = states-fresh x (past ++ (e ∷ [])) es (k .2) in
-      λ i. s i ∷ r i
+  states-fresh : (x : ℕ) (ss : List Sourced) → All Known ss → map (trackState x) (map handed ss) ≡ map (freshIn c d x) ss
+  states-fresh x [] k = refl
+  states-fresh x (s ∷ ss) k =
+      let a = state-fresh x s (k .0) in
+      let r = states-fresh x ss (k .1) in
+      λ i. a i ∷ r i
 
   -- ---- the frame that is emitted
 
-  module _ (past : List Emitted) (e : Emitted) (es : List Emitted) (k : Known past (e ∷ es)) where
+  module _ (s : Sourced) (ss : List Sourced) (k : All Known (s ∷ ss)) where
+    abbrev e : Emitted
+    e = s .frame
+
     abbrev fs : List Written
-    fs = map written (e ∷ es)
+    fs = map handed (s ∷ ss)
 
     abbrev S : Listed → Estimate Float
-    S = smoothedState c d past e es
+    S = smoothedState c d s ss
 
     track-fresh : (i : ℕ) → i < length (e .tracks) → (a : At (e .tracks) i) → smoothedAt d fs (written e) i ≡ S (a .item)
     unfolding smoothedAt smoothedState
     track-fresh i h a =
-        let s = state-is e i h a in
-        let b = ap (λ x. runBack (density d) (chainIn x fs)) (id-is e i h a) ∙ ap (λ l. runBack (density d) (chain l)) (states-fresh (a .item .id) past (e ∷ es) k) in
-        λ j. replaced (s j) (b j)
+        let t = state-is e i h a in
+        let b = ap (λ x. runBack (density d) (chainIn x fs)) (id-is e i h a) ∙ ap (λ l. runBack (density d) (chain l)) (states-fresh (a .item .id) (s ∷ ss) k) in
+        λ j. replaced (t j) (b j)
 
     rows-fresh : (n : ℕ) → n ≤ length (e .tracks) → statesTo d fs (written e) n ≡ flatMap (λ l. flat (S l)) (take n (e .tracks))
     unfolding statesTo flatMap
@@ -127,10 +130,10 @@ module _ (c : FgoConfig) (d : SmootherConfig) where
             ∙ flat-snoc (λ l. flat (S l)) (take n (e .tracks)) (a .item)
             ∙ ap (flatMap (λ l. flat (S l))) (sym (a .up))
 
-    pub emitted-fresh : emitted d fs (written e) ≡ smoothedForm c d past e es
+    pub emitted-fresh : emitted d fs (written e) ≡ smoothedForm c d s ss
     unfolding emitted smoothedForm wordsOf
     emitted-fresh =
         let n = length (e .tracks) in
-        let s = rows-fresh n (le-refl n) ∙ ap (flatMap (λ l. flat (S l))) (take-length (e .tracks)) in
+        let t = rows-fresh n (le-refl n) ∙ ap (flatMap (λ l. flat (S l))) (take-length (e .tracks)) in
         let p = numbers-past e in
-        λ j. record { words = smoothedAs (wordsOf e) (smoothedFlag d); numbers = s j ++ p j }
+        λ j. record { words = smoothedAs (wordsOf e) (smoothedFlag d); numbers = t j ++ p j }

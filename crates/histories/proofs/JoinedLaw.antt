@@ -31,13 +31,13 @@ use Rattle.smoother.specs.Smoother.{State, new, windowFits, openRefusal, ruleOk
 use Rattle.smoother.specs.Promise.{Window, stateIn, laterRefusal, due}
 use Rattle.histories.specs.Calls.{Calls, writtenBy, left, enough, operations, accepted, wrote, dueAfter}
 use Rattle.histories.specs.Refined as refiner
-use Rattle.histories.specs.Smoothed.{smoothing, Smoothed}
-use Rattle.histories.specs.Joined.{Call, Keeps, Session, Delivered, InOrder, Joined}
+use Rattle.histories.specs.Smoothed.{smoothing, handed, sourced, picked, Smoothed}
+use Rattle.histories.specs.Joined.{Call, Meets, Same, Keeps, Session, Delivered, InOrder, Joined}
 use Rattle.histories.proofs.CallsLaw as calls
 use Rattle.histories.proofs.CallsLaw.{Numbered, more, refused-of, due-frame, operations-cons, operations-append, run-more, repliesTo, Known}
 use Rattle.histories.proofs.SmootherRun.{ran}
 use Rattle.histories.proofs.RefinedLaw as refined
-use Rattle.histories.proofs.SmoothedLaw.{Parts, parts, passes, both}
+use Rattle.histories.proofs.SmoothedLaw.{Parts, parts, picked-map, sourced-frames, passes, both}
 
 -- ---- why a push or a take is refused
 
@@ -90,6 +90,10 @@ module _ (d : SmootherConfig) where
     pub state : stateIn s w ≡ smoothing d ops .state
     pub fits : windowFits d (length (w .words)) (length (w .numbers)) ≡ true
 
+  -- a window that stands for the same will do
+  pub lent-at : (ops : List (Op Written)) (s : FixedLagSmoother) (w : Window) → At ops s w → (w′ : Window) → Same s w w′ → At ops s w′
+  lent-at ops s w a w′ e = record { state = e .state ∙ a .state; fits = (λ i. windowFits d (e .words i) (e .numbers i)) ∙ a .fits }
+
   module _ (ok : legal d ≡ true) where
     -- the state keeps its rule
     ruled : (ops : List (Op Written)) → ruleOk (smoothing d ops .state) ≡ true
@@ -113,7 +117,7 @@ module _ (d : SmootherConfig) where
           (cond (ruleOk (a .state i)) (cond (roomy words numbers) 0 4) 3) 2)
           ∙ rw (each (bounded d) (finite (density d)) ok .0, a .fits, ruled ops)
 
-      module _ (k : Call) (e : Keeps s w k) where
+      module _ (k : Call) (e : Meets s w k) where
         due-is : due s w (k .sent) (k .words) (k .numbers) ≡ repliesTo (λ f. f) reply (new d) (λ f. f) stateIn ops (enough k) (k .sent)
         unfolding due
         due-is = λ i. checked (later (length (k .words)) (length (k .numbers)) i) (a .state i) (reply (a .state i) (k .sent))
@@ -142,9 +146,10 @@ module _ (d : SmootherConfig) where
     known =
         record {
           state = λ ops s w a. a .state;
-          ends = λ ops s w a k u e. ends ops s w a k e;
-          next = λ ops s w a k u e. at-next ops s w a k e;
-          room = λ ops s w a k u e. (e .words, e .numbers);
+          given = λ ops s w a k e. lent-at ops s w a (k .lent) (e .0) .state;
+          ends = λ ops s w a k u e. ends ops s (k .lent) (lent-at ops s w a (k .lent) (e .0)) k (e .1);
+          next = λ ops s w a k u e. at-next ops s (k .lent) (lent-at ops s w a (k .lent) (e .0)) k (e .1);
+          room = λ ops s w a k u e. (e .1 .words, e .1 .numbers);
           numbered = λ ops s w a o. numbered (smoothing d ops .state) o;
         }
 
@@ -170,7 +175,7 @@ module _ (d : SmootherConfig) (s : FixedLagSmoother) (w : Window) where
     unfolding opens
     new-at = opened-new (openRefusal d (length (w .words)) (length (w .numbers))) (stateIn s w) (new d) (h .opening)
 
-    fine : (legal d ≡ true) × (windowFits d (length (w .words)) (length (w .numbers)) ≡ true)
+    pub fine : (legal d ≡ true) × (windowFits d (length (w .words)) (length (w .numbers)) ≡ true)
     unfolding openRefusal
     fine = opening-of (legal d) (windowFits d (length (w .words)) (length (w .numbers))) (new-at .0)
 
@@ -178,11 +183,11 @@ module _ (d : SmootherConfig) (s : FixedLagSmoother) (w : Window) where
     unfolding runFrom
     at-opened = record { state = new-at .1; fits = fine .1 }
 
-    all-fine : (ks : List Call) → All (λ k. Unit {0}) ks
+    pub all-fine : (ks : List Call) → All (λ k. Unit {0}) ks
     all-fine ks = mem-All (λ k. Unit {0}) ks (λ k m. tt)
 
     -- after the first of some calls
-    at-first : (past fs : List Call) → ks ≡ past ++ fs → At d (operations past) (left s w past .0) (left s w past .1)
+    pub at-first : (past fs : List Call) → ks ≡ past ++ fs → At d (operations past) (left s w past .0) (left s w past .1)
     at-first past fs e =
         calls.at-first (λ f. f) reply (new d) (λ f. f) stateIn (known d (fine .0)) s w at-opened past fs (all-fine (past ++ fs)) (subst (Calls Keeps s w) e (h .calls))
 
@@ -194,7 +199,9 @@ module _ (d : SmootherConfig) (s : FixedLagSmoother) (w : Window) where
         (past : List Call) (k : Call) (later : List Call) → ks ≡ past ++ (k ∷ later) → enough k ≡ true → (o : Op Written) → k .sent ≡ o → (n : ℕ) →
         k .answer ≡ Refused n → reply (smoothing d (operations past) .state) o .0 ≡ refused n
     own-at past k later e =
-        own d (fine .0) (operations past) (left s w past .0) (left s w past .1) (at-first past (k ∷ later) e) k (keeps-at past k later e)
+        let q = keeps-at past k later e in
+        own d (fine .0) (operations past) (left s w past .0) (k .lent)
+        (lent-at d (operations past) (left s w past .0) (left s w past .1) (at-first past (k ∷ later) e) (k .lent) (q .0)) k (q .1)
 
   -- the window keeps its lengths
   sizes-left :
@@ -204,7 +211,7 @@ module _ (d : SmootherConfig) (s : FixedLagSmoother) (w : Window) where
   sizes-left [] s w cs = (refl, refl)
   sizes-left (k ∷ ks) s w cs =
       let z = sizes-left ks (k .value) (k .memory) (cs .1) in
-      (z .0 ∙ cs .0 .window-words, z .1 ∙ cs .0 .window-numbers)
+      (z .0 ∙ cs .0 .1 .window-words ∙ cs .0 .0 .words, z .1 ∙ cs .0 .1 .window-numbers ∙ cs .0 .0 .numbers)
 
   -- ---- the theorem
 
@@ -223,7 +230,7 @@ module _ (d : SmootherConfig) (s : FixedLagSmoother) (w : Window) where
 
   -- ---- a call that writes a frame
 
-  ids : (l : List Written) → map (λ f. f) l ≡ l
+  pub ids : (l : List Written) → map (λ f. f) l ≡ l
   ids [] = refl
   ids (f ∷ l) = ap (λ m. f ∷ m) (ids l)
 
@@ -293,25 +300,27 @@ module _ (c : FgoConfig) (r : FixedLagRefiner) (m : Memory) (ks : List refiner.C
           let y = head-eq-of-cons-eq (ap (map written) (sym z) ∙ p .right) in
           (λ i. wellFormed TRACKS (sym y i)) ∙ passes c ops bytes (p .before) e es (p .whole ∙ ap (λ es. p .before ++ es) z)
 
-  pub joined :
-      (d : SmootherConfig) (s : FixedLagSmoother) (w : Window) (js : List Call) → Session d s w js → most d ≡ TRACKS → InOrder ks js → Joined c ks d js
-  joined d s w js h wide o =
+  pub joined : (d : SmootherConfig) (s : FixedLagSmoother) (w : Window) (js : List Call) → Session d s w js → InOrder ks js → Joined c ks d js
+  joined d s w js h o =
       let z = delivered d s w js h in
-      let p = parts written (run c ops .emitted) (accepted (λ f. f) js) (o .rest) (frames-are ∙ o .order) in
-      let j = both c ops bytes d wide (operations js) (p .before) (p .after) (p .whole) (sym (z .delivered .taken-in) ∙ sym (p .left)) in
+      let es = run c ops .emitted in
+      let first = picked (o .marks) (sourced es) in
+      let same : accepted (λ f. f) js ≡ map handed first =
+      o .order ∙ ap (picked (o .marks)) (sym (sourced-frames [] es ∙ frames-are)) ∙ sym (picked-map handed (o .marks) (sourced es)) in
+      let j = both c ops bytes d (operations js) (o .marks) (sym (z .delivered .taken-in) ∙ same) in
       record {
-        first = p .before;
-        others = p .after;
-        order = p .whole;
-        same = sym (p .left);
+        marks = o .marks;
+        first = first;
+        some = refl;
+        same = same;
         both = j;
         every =
             λ past k later x o q.
             let u = one-more d s w js h past k later x o q in
-            subst (λ l. Smoothed c d (p .before) l (length (wrote past)) o) (u .by-then)
-            (subst (λ n. Smoothed c d (p .before) (smoothing d (operations past ++ (k .sent ∷ [])) .accepted) n o) (u .number)
+            subst (λ l. Smoothed c d first l (length (wrote past)) o) (u .by-then)
+            (subst (λ n. Smoothed c d first (smoothing d (operations past ++ (k .sent ∷ [])) .accepted) n o) (u .number)
             (j .calls (operations past) (k .sent) (operations later) (u .split) o (u .grown)));
         pushes =
-            λ past k later x v f y before after u n q.
+            λ wide past k later x v f y before after u n q.
             true≢false (sym (formed f before after u) ∙ ap (λ t. wellFormed t f) (sym wide) ∙ z .pushes past k later x v f y n q .1);
       }

@@ -3,6 +3,7 @@ pub mod Numbered
 pub mod ThirdLaw
 pub mod FrameSize
 pub mod RefinedLaw
+pub mod FinishCalls
 pub mod FinishLaw
 pub mod Reading
 pub mod Fresh
@@ -11,4 +12,5 @@ pub mod Bodies
 pub mod SmootherRun
 pub mod SmoothedLaw
 pub mod JoinedLaw
+pub mod FinishSmoothed
 pub mod Examples

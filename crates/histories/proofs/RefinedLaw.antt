@@ -1,11 +1,11 @@
 -- Demand 3 as one who calls a refiner sees it. Assumes nothing but that each call is as the contracts of push and take say.
-use Prim.Native.Nat.{ℕ, _≤_}
+use Prim.Native.Nat.{ℕ, _+_, _≤_}
 use native.Mathlib.Omega.{arith}
 use mathlib.Core.Path.{_≡_, refl, sym, ap, _∙_, subst}
 use mathlib.Core.Bool.{Bool, true, false, cond, and-eq-true-iff}
 use mathlib.Core.List.{List, [], _∷_, _++_, map}
 use lib.ListN.{length}
-use lib.Dec.{leb}
+use lib.Dec.{leb, eqb}
 use borrow.Author.Tests.{leb-true}
 use Rattle.bounds.specs.Bounds.{WORDS, NUMBERS}
 use Rattle.buffers.specs.Answer.{Op, Reply, refused, waits, gives, roomy, checked, wordsAfter, numbersAfter, Ends}
@@ -13,8 +13,8 @@ use Rattle.buffers.specs.Run.{emittedBy, runFrom}
 use Rattle.buffers.proofs.Over.{length-over}
 use Rattle.engine.specs.declared.config.FgoConfig.{FgoConfig}
 use Rattle.engine.specs.Config.{legal}
-use Rattle.engine.specs.Body.{Body, all, frameIn, rows}
-use Rattle.engine.proofs.Every.{both}
+use Rattle.engine.specs.Body.{Body, all, frameIn, bodyRefusal, rows}
+use Rattle.engine.proofs.Every.{both, all-at, all-true}
 use Rattle.fgo_spec.specs.Windows.{Scan}
 use Rattle.fgo_spec.specs.Emitting.{Emitted, wordsOf, numbersOf, written}
 use Rattle.fgo_spec.specs.Refiner.{new, reply}
@@ -24,12 +24,12 @@ use Rattle.fgo_spec.proofs.All.{All-append, All-left, All-right, map-All}
 use Rattle.fgo_spec.proofs.RuleLaw.{rule-ok}
 use Rattle.fgo_spec.proofs.HistoryLaw.{spoken, history}
 use Rattle.fgo_state.specs.declared.state.FixedLagRefiner.{FixedLagRefiner}
-use Rattle.fgo_state.specs.Memory.{Memory, stateOf}
+use Rattle.fgo_state.specs.Memory.{Memory, bodyAt, stateOf}
 use Rattle.fgo_state.specs.Sound.{bodiesOk, soundOk}
 use Rattle.fgo.specs.Promise.{newBy, laterRefusal, due}
 use Rattle.fgo.proofs.Opening.{opened-new}
 use Rattle.histories.specs.Calls.{Calls, left, enough, operations}
-use Rattle.histories.specs.Refined.{Call, Keeps, Session, dueNext, Delivered}
+use Rattle.histories.specs.Refined.{Call, Meets, Same, Keeps, Session, dueNext, Delivered}
 use Rattle.histories.proofs.Numbered.{numbered}
 use Rattle.histories.proofs.FrameSize.{fit-words, fit-numbers}
 use Rattle.histories.proofs.CallsLaw as calls
@@ -61,13 +61,26 @@ module _ (c : FgoConfig) where
     pub bodies : bodiesOk (m .bodies) (m .columns) (r .first .0) (r .held) ≡ true
     pub bytes : All Sent ops
 
+  -- memory that stands for the same will do
+  pub lent-at : (ops : List (Op Body)) (r : FixedLagRefiner) (m : Memory) → At ops r m → (m′ : Memory) → Same r m m′ → At ops r m′
+  unfolding bodiesOk
+  lent-at ops r m a m′ s =
+      record {
+        settings = a .settings;
+        state = s .state ∙ a .state;
+        bodies =
+            all-true _ (r .held)
+            (λ i l. ap (λ (b : Body). eqb (bodyRefusal b) 0) (s .bodies i l) ∙ all-at (λ i. eqb (bodyRefusal (bodyAt (m .bodies) (m .columns) (r .first .0 + i))) 0) (r .held) i (a .bodies) l);
+        bytes = a .bytes;
+      }
+
   module _ (ok : legal c ≡ true) where
     pub sound-at : (ops : List (Op Body)) (r : FixedLagRefiner) (m : Memory) → At ops r m → soundOk r m ≡ true
     unfolding soundOk
     sound-at ops r m a =
         and-eq-true-iff _ _ .1 (a .bodies, (λ i. ruleOk (a .settings i) (a .state i)) ∙ rule-ok c (run c ops .state) (history c ops .ruled ok (a .bytes)) .0)
 
-    module _ (ops : List (Op Body)) (r : FixedLagRefiner) (m : Memory) (a : At ops r m) (k : Call) (h : Sent (k .sent)) (e : Keeps r m k) where
+    module _ (ops : List (Op Body)) (r : FixedLagRefiner) (m : Memory) (a : At ops r m) (k : Call) (h : Sent (k .sent)) (e : Meets r m k) where
       abbrev replied : Reply Emitted
       replied = dueNext c ops k
 
@@ -133,9 +146,10 @@ module _ (c : FgoConfig) where
     known =
         record {
           state = λ ops r m a. a .state;
-          ends = ends;
-          next = at-next;
-          room = λ ops r m a k h e. rooms ops r m a k h e (dueNext c ops k) refl;
+          given = λ ops r m a k e. lent-at ops r m a (k .lent) (e .0) .state;
+          ends = λ ops r m a k h e. ends ops r (k .lent) (lent-at ops r m a (k .lent) (e .0)) k h (e .1);
+          next = λ ops r m a k h e. at-next ops r (k .lent) (lent-at ops r m a (k .lent) (e .0)) k h (e .1);
+          room = λ ops r m a k h e. rooms ops r (k .lent) (lent-at ops r m a (k .lent) (e .0)) k h (e .1) (dueNext c ops k) refl;
           numbered = λ ops r m a o. numbered c (run c ops .state) o;
         }
 
@@ -165,13 +179,14 @@ module _ (c : FgoConfig) (r : FixedLagRefiner) (m : Memory) where
     abbrev split : Session c r m (past ++ (k ∷ later))
     split = subst (Session c r m) p s
 
-    one : At c (operations past) (left r m past .0) (left r m past .1) × Sent (k .sent) × Keeps (left r m past .0) (left r m past .1) k
+    one : At c (operations past) (left r m past .0) (k .lent) × Sent (k .sent) × Meets (left r m past .0) (k .lent) k
     unfolding Calls
-    one = (
-      at-first past (k ∷ later) split,
-      All-right (λ k. Sent (k .sent)) past (k ∷ later) (split .bytes) .0,
-      calls.calls-then Keeps r m past (k ∷ later) (split .calls) .0,
-    )
+    one =
+        let q = calls.calls-then Keeps r m past (k ∷ later) (split .calls) .0 in (
+          lent-at c (operations past) (left r m past .0) (left r m past .1) (at-first past (k ∷ later) split) (k .lent) (q .0),
+          All-right (λ k. Sent (k .sent)) past (k ∷ later) (split .bytes) .0,
+          q .1,
+        )
 
   -- ---- the theorem
 
@@ -180,8 +195,8 @@ module _ (c : FgoConfig) (r : FixedLagRefiner) (m : Memory) where
       let ok = is-legal ks s in
       record {
         delivered = calls.delivered frameIn (reply c) new written stateOf (known c ok) r m (at-opened ks s) ks (s .bytes) (s .calls);
-        told = λ past k later p e q. let o = one ks past k later s p in told-one c ok (operations past) (left r m past .0) (left r m past .1) (o .0) k (o .1) (o .2) e q;
-        searched = λ past k later p e q. let o = one ks past k later s p in searched-one c ok (operations past) (left r m past .0) (left r m past .1) (o .0) k (o .1) (o .2) e q;
+        told = λ past k later p e q. let o = one ks past k later s p in told-one c ok (operations past) (left r m past .0) (k .lent) (o .0) k (o .1) (o .2) e q;
+        searched = λ past k later p e q. let o = one ks past k later s p in searched-one c ok (operations past) (left r m past .0) (k .lent) (o .0) k (o .1) (o .2) e q;
         history = history c (operations ks);
         ruled = sound-at c ok (operations ks) (left r m ks .0) (left r m ks .1) (at-last ks s);
       }

@@ -18,7 +18,7 @@ use Rattle.fgo_state.proofs.Testing.{tested}
 use Rattle.fgo.specs.declared.Counted.{Counted}
 use Rattle.fgo.specs.declared.Counted.the-variants.{Refused as NotCounted, Moves}
 use Rattle.fgo.specs.Promise.{laterRefusal, due, countedBy, countRefusal}
-use Rattle.histories.specs.Refined.{Call, Keeps, Third}
+use Rattle.histories.specs.Refined.{Call, Meets, Third}
 use Rattle.histories.proofs.CallsLaw.{Numbered, refused-of}
 use Rattle.histories.proofs.Numbered.{numbered}
 
@@ -41,7 +41,7 @@ module _ (r : FixedLagRefiner) (m : Memory) (bytes : Bytes (m .bodies)) where
       never q = let z : _≡_ {A = ℕ} 1 0 = ap (λ b. cond b 1 0) q in omega arith
   fails false e = (λ q s. let z : _≡_ {A = ℕ} 0 1 = ap (λ b. cond b 1 0) (sym e ∙ tested r m bytes .1 s) in omega arith, λ h. refl)
 
-  pub third : (k : Call) → Keeps r m k → Third r m (k .answer ≡ Refused 3)
+  pub third : (k : Call) → Meets r m k → Third r m (k .answer ≡ Refused 3)
   unfolding due laterRefusal
   third k e =
       let f = fails (soundOk r m) refl in

@@ -14,10 +14,11 @@ use Rattle.fgo_spec.specs.Rule.{All}
 
 -- ---- a call
 
--- what is sent, a push of something or a take, with the two buffers that are lent for a frame; and what comes back: the answer, the value that is handed on
--- and the memory that goes with it, and the two buffers
+-- what is sent, a push of something or a take, with the memory and the two buffers for a frame that are lent; and what comes back: the answer, the value that is
+-- handed on and the memory that goes with it, and the two buffers
 pub record Call (A R M : Type 0) : Type 0 where
   pub sent : Op A
+  pub lent : M
   pub words : List ℕ
   pub numbers : List Float
   pub answer : Answer
@@ -35,7 +36,7 @@ writtenBy (Frame w n) ws ns = record { words = take w ws; numbers = take n ns } 
 module _ {A R M : Type 0} where
   -- ---- calls one after another
 
-  -- each is given the value and the memory that the one before it gave back, and is as its contract says
+  -- each is given the value that the one before it gave back, and keeps to its contract after the memory that came with it
   unfoldable pub Calls : (R → M → Call A R M → Type 0) → R → M → List (Call A R M) → Type 0
   Calls Keeps r m [] = Unit {0}
   Calls Keeps r m (k ∷ ks) = Keeps r m k × Calls Keeps (k .value) (k .memory) ks
@@ -86,8 +87,8 @@ module _ {A R M : Type 0} where
     abbrev pub dueAfter : List (Op A) → Call A R M → Reply E
     dueAfter ops k = let s = ran ops .state in checked (cond (enough k) 0 4) s (reply s (k .sent)) .0
 
-    -- what holds of a call that comes after the pushes and takes ops and is given the value r and the memory m
-    pub record Served (ops : List (Op A)) (r : R) (m : M) (k : Call A R M) : Type 0 where
+    -- what holds of a call that comes after the pushes and takes ops and is given the value r
+    pub record Served (ops : List (Op A)) (r : R) (k : Call A R M) : Type 0 where
       -- the answer is the due one; a frame that is due is written at the start of the buffers, and "The rest stays"; else nothing is written
       pub answer : k .answer ≡ answerOf written (dueAfter ops k)
       pub words : k .wordsBack ≡ wordsAfter written (dueAfter ops k) (k .words)
@@ -99,14 +100,14 @@ module _ {A R M : Type 0} where
       pub short : (enough k ≡ false → k .answer ≡ Refused 4) × (k .answer ≡ Refused 4 → enough k ≡ false)
       -- "After it the state and the lent buffers hold what they held before the call"
       pub refusals :
-          (n : ℕ) → k .answer ≡ Refused n → (k .value ≡ r) × (k .memory ≡ m) × (k .wordsBack ≡ k .words) × (k .numbersBack ≡ k .numbers)
+          (n : ℕ) → k .answer ≡ Refused n → (k .value ≡ r) × (k .memory ≡ k .lent) × (k .wordsBack ≡ k .words) × (k .numbersBack ≡ k .numbers)
 
     -- what holds of the calls ks that begin with the value r and the memory m
     pub record Delivered (r : R) (m : M) (ks : List (Call A R M)) : Type 0 where
       -- every call
       pub every :
           (past : List (Call A R M)) (k : Call A R M) (later : List (Call A R M)) → ks ≡ past ++ (k ∷ later) →
-          Served (operations past) (left r m past .0) (left r m past .1) k
+          Served (operations past) (left r m past .0) k
       -- the frames written are those emitted, one for one and in order
       pub frames : wrote ks ≡ map written (ran (operations ks) .emitted)
       -- and so are the frames accepted

@@ -1,4 +1,5 @@
 -- Demand 3 in the terms of one who calls a refiner: any list of pushes and takes from an opened one, with any bytes and any buffers. Definitions only.
+use Prim.Native.Nat.{ℕ, _+_, _<_}
 use mathlib.Core.Path.{_≡_}
 use mathlib.Core.Bool.{true}
 use mathlib.Core.List.{List, _∷_, _++_, map}
@@ -11,7 +12,7 @@ use Rattle.fgo_spec.specs.Refiner.{new, reply, finish}
 use Rattle.fgo_spec.specs.Rule.{All}
 use Rattle.fgo_spec.specs.History.{run, settled, Sent, Told, History}
 use Rattle.fgo_state.specs.declared.state.FixedLagRefiner.{FixedLagRefiner}
-use Rattle.fgo_state.specs.Memory.{Memory, stateOf}
+use Rattle.fgo_state.specs.Memory.{Memory, bodyAt, stateOf}
 use Rattle.fgo_state.specs.Sound.{soundOk, Sound}
 use Rattle.fgo.specs.Promise.{newBy, openRefusal, due, Promised}
 use Rattle.histories.specs.Calls as calls
@@ -21,11 +22,22 @@ use Rattle.histories.specs.Calls.{Calls, left, operations, accepted, wro
 abbrev pub Call : Type 0
 Call = calls.Call Body FixedLagRefiner Memory
 
--- it is as the contract of push, or of take, says
-abbrev pub Keeps : FixedLagRefiner → Memory → Call → Type 0
-Keeps r m k =
+-- it is lent the memory m, and is as the contract of push, or of take, says
+abbrev pub Meets : FixedLagRefiner → Memory → Call → Type 0
+Meets r m k =
     Promised (due r m (k .sent) (k .words) (k .numbers)) r m (k .words) (k .numbers) (record { answer = k .answer; state = k .value }) (k .memory) (k .wordsBack)
     (k .numbersBack)
+
+-- memory that stands for the same: the bodies held are those of m, and so is all that the state says. What lies past a count may be anything: a caller may clear it,
+-- and move or copy the rest.
+pub record Same (r : FixedLagRefiner) (m m′ : Memory) : Type 0 where
+  pub bodies :
+      (i : ℕ) → i < r .held → bodyAt (m′ .bodies) (m′ .columns) (r .first .0 + i) ≡ bodyAt (m .bodies) (m .columns) (r .first .0 + i)
+  pub state : stateOf r m′ ≡ stateOf r m
+
+-- after the memory m came back, it is lent memory that stands for the same, and is as its contract says
+abbrev pub Keeps : FixedLagRefiner → Memory → Call → Type 0
+Keeps r m k = Same r m (k .lent) × Meets r (k .lent) k
 
 -- "any list of pushes and takes runs from a new refiner, refused ones included": the refiner is one that open gave, and what is pushed are bytes; the memory
 -- holds anything at first, and the buffers anything at each call
@@ -59,13 +71,13 @@ pub record Delivered (c : FgoConfig) (r : FixedLagRefiner) (m : Memory) (ks : Li
 
 -- ---- 3: "the state breaks its rule"
 
--- of a refiner and a memory whose bodies are bytes, whatever else they hold: a call that answers a answers 3 just where a held body is refused by 5, 6 or 7 or
--- the state breaks the rule
+-- Of a refiner and a memory whose bodies are bytes, whatever else they hold; three says that a call answers 3. It does just where a held body is refused by 5, 6
+-- or 7, or the state breaks the rule.
 pub record Third (r : FixedLagRefiner) (m : Memory) (three : Type 0) : Type 0 where
   pub only : three → Sound r m → ⊥
   pub always : (Sound r m → ⊥) → three
 
--- the laws, in proofs/: third : .. → Bytes (m .bodies) → Keeps r m k → Third r m (k .answer ≡ Refused 3)
+-- the laws, in proofs/: third : .. → Bytes (m .bodies) → Meets r m k → Third r m (k .answer ≡ Refused 3)
 --                       third-counted : .. → Bytes (m .bodies) → Third r m (countedBy (countRefusal r m) n ≡ NotCounted 3)
 
 -- ---- finish
