@@ -1,6 +1,6 @@
 -- "`finish` is take, repeated until 13", of a refiner and of a smoother alike: it gives the frames that wait, oldest first, and ends. Assumes nothing but what
 -- is known of each call.
-use Prim.Native.Nat.{ℕ, suc}
+use Prim.Native.Nat.{suc}
 use native.Mathlib.Omega.{arith}
 use mathlib.Core.Path.{_≡_, refl, sym, ap, _∙_}
 use mathlib.Core.Bool.{Bool, true, false, cond}
@@ -11,7 +11,7 @@ use Rattle.buffers.specs.declared.Answer.the-variants.{Refused}
 use Rattle.buffers.specs.Answer.{Op, taken, Reply, refused, gives, refusalIn, Written, checked, answerOf}
 use Rattle.buffers.specs.Run.{Run, emittedBy, runFrom}
 use Rattle.fgo_spec.specs.Rule.{All}
-use Rattle.histories.specs.Calls.{Call, writtenBy, Calls, left, enough, operations, wrote, dueAfter, Finish}
+use Rattle.histories.specs.Calls.{Call, writtenBy, Calls, left, enough, wrote, dueAfter, Finish}
 use Rattle.histories.proofs.CallsLaw.{refused-of, more, run-more, Known, served, written-one}
 
 none-of : {X : Type 0} (l : List X) → length l ≡ 0 → l ≡ []

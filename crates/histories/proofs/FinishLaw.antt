@@ -3,9 +3,8 @@ use Prim.Native.Nat.{suc}
 use mathlib.Core.Path.{_≡_, refl, sym, ap, _∙_}
 use mathlib.Core.List.{List, [], _∷_, _++_, map, append-nil}
 use lib.ListN.{length}
-use Rattle.buffers.specs.Answer.{Op}
 use Rattle.engine.specs.declared.config.FgoConfig.{FgoConfig}
-use Rattle.engine.specs.Body.{Body, frameIn}
+use Rattle.engine.specs.Body.{frameIn}
 use Rattle.engine.proofs.Passing.{length-rows}
 use Rattle.fgo_spec.specs.Emitting.{written}
 use Rattle.fgo_spec.specs.Refiner.{new, emit, leave, freezeOldest, takes, reply, finish}
@@ -18,7 +17,7 @@ use Rattle.histories.specs.Calls.{left, operations, Finish, Ending}
 use Rattle.histories.specs.Refined.{Call, Keeps, Session, Finished}
 use Rattle.histories.proofs.CallsLaw.{left-append, calls-then}
 use Rattle.histories.proofs.FinishCalls.{Taking, frames-given, none-left, comes-to-end}
-use Rattle.histories.proofs.RefinedLaw.{At, known, is-legal, at-last, at-first, delivered}
+use Rattle.histories.proofs.RefinedLaw.{known, is-legal, at-last, at-first, delivered}
 
 -- a take of document 01's refiner
 takes-one : (c : FgoConfig) → Taking frameIn (reply c) new written stateOf (λ t. t .scans) (λ t. finish c t (t .scans))

@@ -9,7 +9,7 @@ use Rattle.smoother_window.specs.declared.FixedLagSmoother.{FixedLagSmoother}
 use Rattle.smoother_window.specs.declared.SmootherConfig.{SmootherConfig}
 use Rattle.smoother_window.proofs.Forms.{frames-long}
 use Rattle.smoother_pass.specs.Pass.{emitted}
-use Rattle.smoother.specs.Smoother.{new, holding, emitOldest, takes, reply, finish}
+use Rattle.smoother.specs.Smoother.{new, emitOldest, takes, reply, finish}
 use Rattle.smoother.specs.Promise.{Window, stateIn}
 use Rattle.histories.specs.Calls.{left, operations, Finish, Ending}
 use Rattle.histories.specs.Smoothed.{smoothing}
@@ -17,7 +17,7 @@ use Rattle.histories.specs.Joined.{Call, Keeps, Session, Finished}
 use Rattle.histories.proofs.CallsLaw.{left-append, calls-then}
 use Rattle.histories.proofs.FinishCalls.{Taking, frames-given, none-left, comes-to-end}
 use Rattle.histories.proofs.SmootherRun.{ran}
-use Rattle.histories.proofs.JoinedLaw.{At, known, fine, all-fine, at-first, delivered, ids}
+use Rattle.histories.proofs.JoinedLaw.{known, fine, all-fine, at-first, delivered, ids}
 
 -- a take of the smoother as defined
 takes-one : (d : SmootherConfig) → Taking (λ f. f) reply (new d) (λ f. f) stateIn (λ s. s .frames) (λ s. finish s (s .frames))

@@ -1,17 +1,18 @@
 -- Demand 3 as one sees it who calls a smoother, and a refiner before it. Assumes nothing but that each call is as the contracts of push and take say.
-use Prim.Native.Nat.{ℕ, zero, suc}
+use Prim.Native.Nat.{ℕ}
 use native.Mathlib.Omega.{arith}
 use mathlib.Core.Path.{_≡_, refl, sym, ap, _∙_, subst}
 use mathlib.Core.Bool.{Bool, true, false, true≢false, cond, _&&_}
 use mathlib.Core.List.{List, [], _∷_, _++_, map, append-assoc, nil≢cons, head-eq-of-cons-eq}
-use mathlib.Core.Option.{Option, none, some, Option·some-injective, Option·none-ne-some}
+use mathlib.Core.Option.{some, Option·some-injective, Option·none-ne-some}
 use lib.ListN.{length, length-append}
 use lib.Dec.{ltb}
 use borrow.Author.Tests.{le-leb}
 use Rattle.bounds.specs.Bounds.{TRACKS}
 use Rattle.buffers.specs.declared.Answer.the-variants.{Refused}
-use Rattle.buffers.specs.Answer.{Opening, unopened, opened, openedBy, Op, pushed, taken, Reply, refused, waits, gives, refusalIn, Written, roomy, checked, Ends}
+use Rattle.buffers.specs.Answer.{Op, pushed, taken, Reply, refused, waits, gives, refusalIn, Written, roomy, checked, Ends}
 use Rattle.buffers.specs.Run.{emittedBy, runFrom}
+use Rattle.buffers.proofs.Checking.{open-passed}
 use Rattle.engine.specs.declared.config.FgoConfig.{FgoConfig}
 use Rattle.engine.specs.Body.{Body}
 use Rattle.engine.proofs.Every.{both as each}
@@ -155,14 +156,6 @@ module _ (d : SmootherConfig) where
 
 -- ---- from an opened smoother
 
-abbrev newIn : Opening State → Option State
-newIn (unopened n) = none
-newIn (opened u) = some u
-
-opened-new : (n : ℕ) (t u : State) → opened t ≡ openedBy n u → (n ≡ 0) × (t ≡ u)
-opened-new zero t u e = (refl, Option·some-injective t u (ap newIn e))
-opened-new (suc n) t u e = absurd (Option·none-ne-some t (sym (ap newIn e)))
-
 -- what opening leaves
 opening-of : (a b : Bool) → _≡_ {A = ℕ} (cond a (cond b 0 2) 1) 0 → (a ≡ true) × (b ≡ true)
 opening-of true true e = (refl, refl)
@@ -173,7 +166,9 @@ module _ (d : SmootherConfig) (s : FixedLagSmoother) (w : Window) where
   module _ (ks : List Call) (h : Session d s w ks) where
     new-at : (openRefusal d (length (w .words)) (length (w .numbers)) ≡ 0) × (stateIn s w ≡ new d)
     unfolding opens
-    new-at = opened-new (openRefusal d (length (w .words)) (length (w .numbers))) (stateIn s w) (new d) (h .opening)
+    new-at =
+        let p = open-passed (openRefusal d (length (w .words)) (length (w .numbers))) (new d) (stateIn s w) (sym (h .opening)) in
+        (p .0, sym (p .1))
 
     pub fine : (legal d ≡ true) × (windowFits d (length (w .words)) (length (w .numbers)) ≡ true)
     unfolding openRefusal

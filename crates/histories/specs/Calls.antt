@@ -14,8 +14,8 @@ use Rattle.fgo_spec.specs.Rule.{All}
 
 -- ---- a call
 
--- what is sent, a push of something or a take, with the memory and the two buffers for a frame that are lent; and what comes back: the answer, the value that is
--- handed on and the memory that goes with it, and the two buffers
+-- what is sent, a push of something or a take, with the memory and the two buffers for a frame that are lent; and what comes back: the answer, the value that
+-- is handed on and the memory that goes with it, and the two buffers
 pub record Call (A R M : Type 0) : Type 0 where
   pub sent : Op A
   pub lent : M

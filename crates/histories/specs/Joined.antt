@@ -91,9 +91,10 @@ pub record Joined (c : FgoConfig) (ks : List refiner.Call) (d : SmootherConfig) 
   pub same : accepted (λ f. f) js ≡ map handed first
   -- demand 3 over refiner and smoother
   pub both : Both c (operations ks) d (operations js) first
-  -- by which each call that writes a frame writes the smoothed form of the next frame in order, over exactly the frames accepted by then and not written before
+  -- by which each call that writes a frame writes the smoothed form of the next in order, over exactly the frames accepted by then and not written before
   pub every :
-      (past : List Call) (k : Call) (later : List Call) → js ≡ past ++ (k ∷ later) → (o : Written) → writtenBy (k .answer) (k .wordsBack) (k .numbersBack) ≡ o ∷ [] →
+      (past : List Call) (k : Call) (later : List Call) → js ≡ past ++ (k ∷ later) →
+      (o : Written) → writtenBy (k .answer) (k .wordsBack) (k .numbersBack) ≡ o ∷ [] →
       Smoothed c d first (accepted (λ f. f) (past ++ (k ∷ []))) (length (wrote past)) o
   -- with C 128 and output buffers that are long enough, no push of a frame that the refiner wrote is refused
   pub pushes :

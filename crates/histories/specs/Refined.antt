@@ -25,11 +25,11 @@ Call = calls.Call Body FixedLagRefiner Memory
 -- it is lent the memory m, and is as the contract of push, or of take, says
 abbrev pub Meets : FixedLagRefiner → Memory → Call → Type 0
 Meets r m k =
-    Promised (due r m (k .sent) (k .words) (k .numbers)) r m (k .words) (k .numbers) (record { answer = k .answer; state = k .value }) (k .memory) (k .wordsBack)
-    (k .numbersBack)
+    Promised (due r m (k .sent) (k .words) (k .numbers)) r m (k .words) (k .numbers) (record { answer = k .answer; state = k .value }) (k .memory)
+    (k .wordsBack) (k .numbersBack)
 
--- memory that stands for the same: the bodies held are those of m, and so is all that the state says. What lies past a count may be anything: a caller may clear it,
--- and move or copy the rest.
+-- memory that stands for the same: the bodies held are those of m, and so is all that the state says. What lies past a count may be anything: a caller may
+-- clear it, and move or copy the rest.
 pub record Same (r : FixedLagRefiner) (m m′ : Memory) : Type 0 where
   pub bodies :
       (i : ℕ) → i < r .held → bodyAt (m′ .bodies) (m′ .columns) (r .first .0 + i) ≡ bodyAt (m .bodies) (m .columns) (r .first .0 + i)
@@ -71,8 +71,8 @@ pub record Delivered (c : FgoConfig) (r : FixedLagRefiner) (m : Memory) (ks : Li
 
 -- ---- 3: "the state breaks its rule"
 
--- Of a refiner and a memory whose bodies are bytes, whatever else they hold; three says that a call answers 3. It does just where a held body is refused by 5, 6
--- or 7, or the state breaks the rule.
+-- Of a refiner and a memory whose bodies are bytes, whatever else they hold; three says that a call answers 3. It does just where a held body is refused by
+-- 5, 6 or 7, or the state breaks the rule.
 pub record Third (r : FixedLagRefiner) (m : Memory) (three : Type 0) : Type 0 where
   pub only : three → Sound r m → ⊥
   pub always : (Sound r m → ⊥) → three
