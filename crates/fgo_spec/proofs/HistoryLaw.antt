@@ -1,8 +1,9 @@
 -- Demand 3: the history theorem, over every list of pushes and takes. Assumes nothing.
 use Prim.Native.Nat.{ℕ, zero, suc, _≤_, _<_}
-use native.Mathlib.Nat.{le-trans}
+use native.Mathlib.Nat.{le-refl, le-trans, lt-irrefl}
 use native.Mathlib.Omega.{arith}
 use mathlib.Core.Path.{_≡_, refl, sym, ap, _∙_, subst}
+use mathlib.Core.Logic.{_⊎_, inl, inr}
 use mathlib.Core.Bool.{Bool, true, false, true≢false}
 use mathlib.Core.List.{List, [], _∷_, _++_, map, append-nil, append-assoc, append-cancel-left, head-eq-of-cons-eq, nil≢cons}
 use mathlib.Core.Option.{Option, none, some}
@@ -21,12 +22,14 @@ use Rattle.fgo_spec.specs.Windows.{Scan}
 use Rattle.fgo_spec.specs.Emitting.{Emitted}
 use Rattle.fgo_spec.specs.Refiner.{State, new, arrive, emit, leave, freezeOldest, settle, full8, full9, full10, firstOf, pushBy, pushRead, pushFrame, push, takes, reply}
 use Rattle.fgo_spec.specs.Rule.{All, Spoken}
-use Rattle.fgo_spec.specs.History.{run, Told, settled, Sent, Under, History}
+use Rattle.fgo_spec.specs.History.{run, scansOf, Told, settled, Sent, Stands, standing, Under, History}
 use Rattle.fgo_spec.proofs.All.{All-append, All-left, map-All, mem-All, foldl-keeps}
 use Rattle.fgo_spec.proofs.Invariant.{Inv, inv-new}
-use Rattle.fgo_spec.proofs.Accepting.{Room, has-room, arrive-length, inv-arrive}
+use Rattle.fgo_spec.proofs.Accepting.{arrive-length, inv-arrive}
+use Rattle.fgo_spec.proofs.Doing.{Does, refuses, holds, leaves, Passes, take-does, push-does}
 use Rattle.fgo_spec.proofs.Leaving.{told, inv-leave}
 use Rattle.fgo_spec.proofs.Ruled.{used, ruled}
+use Rattle.fgo_spec.proofs.Giving.{gives-once}
 
 module _ (c : FgoConfig) where
   -- ---- what is told of each emitted frame, in order
@@ -47,49 +50,6 @@ module _ (c : FgoConfig) where
   told-at past (d ∷ before) e after h =
       subst (λ l. Told c l e) (append-assoc past (d ∷ []) before) (told-at (past ++ (d ∷ [])) before e after (h .1))
 
-  -- ---- what an operation does
-
-  -- it is refused and leaves the state t; or it goes on with the state u, of which Q holds, and waits, or u's oldest scan leaves
-  data Does (t u : State) (Q : Type 0) (a : Reply Emitted × State) : Type 0 where
-    refuses : (n : ℕ) → a ≡ (refused n, t) → Does t u Q a
-    holds : Q → length (u .scans) ≤ lag c → a ≡ (waits, u) → Does t u Q a
-    leaves : Q → (s : Scan) (ss : List Scan) → u .scans ≡ s ∷ ss → a ≡ (gives (emit c (u .first) (u .prefixes) s), leave c u s ss) → Does t u Q a
-
-  take-does : (t : State) → Does t t (Unit {0}) (takes c t)
-  unfolding takes freezeOldest
-  take-does t = go (t .scans) refl
-    where
-      go : (l : List Scan) → t .scans ≡ l → Does t t (Unit {0}) (freezeOldest c t (t .scans))
-      go [] e = refuses 13 (ap (freezeOldest c t) e)
-      go (s ∷ ss) e = leaves tt s ss e (ap (freezeOldest c t) e)
-
-  -- the body passes, and there is room for its frame
-  abbrev Passes : State → Body → Type 0
-  Passes t b = (bodyRefusal b ≡ 0) × Room t (frameIn b)
-
-  push-does : (t : State) (b : Body) → Does t (arrive c t (frameIn b)) (Passes t b) (push c t b)
-  unfolding push decode pushFrame settle freezeOldest
-  push-does t b = read (bodyRefusal b) refl
-    where
-      f : Frame
-      f = frameIn b
-
-      u : State
-      u = arrive c t f
-
-      settles : (x : Bool) → ltb (lag c) (length (u .scans)) ≡ x → Passes t b → (l : List Scan) → u .scans ≡ l → Does t u (Passes t b) (settle c u x)
-      settles false q k l e = holds k (ltb-false (lag c) (length (u .scans)) q) refl
-      settles true q k [] e = absurd (let z = ltb-true (lag c) (length (u .scans)) q in omega (arith, ap length e))
-      settles true q k (s ∷ ss) e = leaves k s ss e (ap (freezeOldest c u) e)
-
-      room : bodyRefusal b ≡ 0 → (o : Option ℕ) → firstOf (full8 t) (full9 t f) (full10 t f) ≡ o → Does t u (Passes t b) (pushBy o c t f)
-      room z (some n) q = refuses n refl
-      room z none q = settles (ltb (lag c) (length (u .scans))) refl (z, has-room t f q) (u .scans) refl
-
-      read : (n : ℕ) → bodyRefusal b ≡ n → Does t u (Passes t b) (pushRead c t (decodedBy n f))
-      read zero z = room z (firstOf (full8 t) (full9 t f) (full10 t f)) refl
-      read (suc n) z = refuses (suc n) refl
-
   -- ---- what it leaves
 
   pub record Ran (r : Run Frame Emitted State) : Type 0 where
@@ -101,7 +61,7 @@ module _ (c : FgoConfig) where
   -- acc is what has been accepted after each answer
   module _ (r : Run Frame Emitted State) (i : Ran r) (acc : Reply Emitted → List Frame) where
     ran-does :
-        (u : State) (Q : Type 0) (a : Reply Emitted × State) → Does (r .state) u Q a → ((n : ℕ) → acc (refused n) ≡ r .accepted) →
+        (u : State) (Q : Type 0) (a : Reply Emitted × State) → Does c (r .state) u Q a → ((n : ℕ) → acc (refused n) ≡ r .accepted) →
         ((e : Emitted) → acc (gives e) ≡ acc waits) → (Q → Inv c (r .emitted) (acc waits) u × (length (u .scans) ≤ suc (lag c)) × All NamedOnce (acc waits)) →
         Ran (record { state = a .1; accepted = acc (a .0); emitted = r .emitted ++ emittedBy (a .0) })
     unfolding ToldFrom leave
@@ -113,7 +73,7 @@ module _ (c : FgoConfig) where
         R : Reply Emitted × State → Type 0
         R a = Ran (record { state = a .1; accepted = acc (a .0); emitted = es ++ emittedBy (a .0) })
 
-        go : Does (r .state) u Q a → R a
+        go : Does c (r .state) u Q a → R a
         go (refuses n q) = subst R (sym q) (rw (append-nil es, same n) i)
         go (holds k l q) = subst R (sym q) (rw (append-nil es) (record { inv = next k .0; lagged = l; told-all = i .told-all; named = next k .2 }))
         go (leaves k s ss p q) =
@@ -127,19 +87,19 @@ module _ (c : FgoConfig) where
               named = subst (All NamedOnce) (sym (one (emit c (u .first) (u .prefixes) s))) (next k .2);
             })
 
-  ran-step : (r : Run Frame Emitted State) (o : Op Body) → Ran r → Ran (step frameIn (reply c) r o)
+  pub ran-step : (r : Run Frame Emitted State) (o : Op Body) → Ran r → Ran (step frameIn (reply c) r o)
   unfolding step
   ran-step r (pushed b) i =
       let t = r .state in
       let f = frameIn b in
-      ran-does r i (λ a. r .accepted ++ acceptedBy frameIn (pushed b) (refusalIn a)) (arrive c t f) (Passes t b) (push c t b) (push-does t b) (λ n. append-nil (r .accepted)) (λ e. refl)
+      ran-does r i (λ a. r .accepted ++ acceptedBy frameIn (pushed b) (refusalIn a)) (arrive c t f) (Passes c t b) (push c t b) (push-does c t b) (λ n. append-nil (r .accepted)) (λ e. refl)
       (λ k. (
         inv-arrive c (r .emitted) (r .accepted) t f (k .1) (i .inv),
         let h = i .lagged in omega (arith, arrive-length c (r .emitted) (r .accepted) t f (k .1) (i .inv)),
         All-append NamedOnce (r .accepted) (f ∷ []) (i .named) (named-once b (k .0), tt),
       ))
   ran-step r taken i =
-      ran-does r i (λ a. r .accepted ++ []) (r .state) (Unit {0}) (takes c (r .state)) (take-does (r .state)) (λ n. append-nil (r .accepted)) (λ e. refl)
+      ran-does r i (λ a. r .accepted ++ []) (r .state) (Unit {0}) (takes c (r .state)) (take-does c (r .state)) (λ n. append-nil (r .accepted)) (λ e. refl)
       (λ k. (rw (append-nil (r .accepted)) (i .inv), le-trans (i .lagged) (omega arith), All-append NamedOnce (r .accepted) [] (i .named) tt))
 
   pub ran : (ops : List (Op Body)) → Ran (run c ops)
@@ -150,7 +110,7 @@ module _ (c : FgoConfig) where
 
   -- ---- the ids are those of placing and search
 
-  gave : (t u : State) (Q : Type 0) (a : Reply Emitted × State) → Does t u Q a → (e : Emitted) → emittedBy (a .0) ≡ e ∷ [] → (rest : List Scan) × (u .scans ≡ e .scan ∷ rest)
+  gave : (t u : State) (Q : Type 0) (a : Reply Emitted × State) → Does c t u Q a → (e : Emitted) → emittedBy (a .0) ≡ e ∷ [] → (rest : List Scan) × (u .scans ≡ e .scan ∷ rest)
   unfolding emit
   gave t u Q a (refuses n q) e h = absurd (nil≢cons (ap (λ b. emittedBy (b .0)) (sym q) ∙ h))
   gave t u Q a (holds k l q) e h = absurd (nil≢cons (ap (λ b. emittedBy (b .0)) (sym q) ∙ h))
@@ -158,8 +118,8 @@ module _ (c : FgoConfig) where
 
   gave-step : (r : Run Frame Emitted State) (o : Op Body) (e : Emitted) → step frameIn (reply c) r o .emitted ≡ r .emitted ++ (e ∷ []) → (rest : List Scan) × (settled c (r .state) o ≡ e .scan ∷ rest)
   unfolding step
-  gave-step r (pushed b) e h = gave _ _ _ _ (push-does (r .state) b) e (append-cancel-left (r .emitted) _ (e ∷ []) h)
-  gave-step r taken e h = gave _ _ _ _ (take-does (r .state)) e (append-cancel-left (r .emitted) _ (e ∷ []) h)
+  gave-step r (pushed b) e h = gave _ _ _ _ (push-does c (r .state) b) e (append-cancel-left (r .emitted) _ (e ∷ []) h)
+  gave-step r taken e h = gave _ _ _ _ (take-does c (r .state)) e (append-cancel-left (r .emitted) _ (e ∷ []) h)
 
   -- ---- an observation stays under the id that it was emitted under
 
@@ -199,21 +159,21 @@ module _ (c : FgoConfig) where
   isRefused waits = false
   isRefused (gives e) = false
 
-  stays : (t u : State) (Q : Type 0) (a : Reply Emitted × State) → Does t u Q a → (n : ℕ) → a .0 ≡ refused n → a ≡ (refused n, t)
+  stays : (t u : State) (Q : Type 0) (a : Reply Emitted × State) → Does c t u Q a → (n : ℕ) → a .0 ≡ refused n → a ≡ (refused n, t)
   stays t u Q a (refuses k q) n h = λ i. (h i, q i .1)
   stays t u Q a (holds k l q) n h = absurd (true≢false (ap isRefused (sym h ∙ ap (λ b. b .0) q)))
   stays t u Q a (leaves k s ss p q) n h = absurd (true≢false (ap isRefused (sym h ∙ ap (λ b. b .0) q)))
 
   stays-reply : (t : State) (o : Op Body) (n : ℕ) → reply c t o .0 ≡ refused n → reply c t o ≡ (refused n, t)
-  stays-reply t (pushed b) n h = stays _ _ _ _ (push-does t b) n h
-  stays-reply t taken n h = stays _ _ _ _ (take-does t) n h
+  stays-reply t (pushed b) n h = stays _ _ _ _ (push-does c t b) n h
+  stays-reply t taken n h = stays _ _ _ _ (take-does c t) n h
 
   -- ---- of bytes, bodies say what is accepted
 
   spoken-step : (r : Run Frame Emitted State) (o : Op Body) → All Spoken (r .accepted) → Sent o → All Spoken (step frameIn (reply c) r o .accepted)
   unfolding step
   spoken-step r taken k h = All-append Spoken (r .accepted) [] k tt
-  spoken-step r (pushed b) k h = All-append Spoken (r .accepted) _ k (go (push-does (r .state) b))
+  spoken-step r (pushed b) k h = All-append Spoken (r .accepted) _ k (go (push-does c (r .state) b))
     where
       f : Frame
       f = frameIn b
@@ -221,7 +181,7 @@ module _ (c : FgoConfig) where
       S : Reply Emitted × State → Type 0
       S a = All Spoken (acceptedBy frameIn (pushed b) (refusalIn (a .0)))
 
-      go : Does (r .state) (arrive c (r .state) f) (Passes (r .state) b) (push c (r .state) b) → S (push c (r .state) b)
+      go : Does c (r .state) (arrive c (r .state) f) (Passes c (r .state) b) (push c (r .state) b) → S (push c (r .state) b)
       go (refuses n q) = subst S (sym q) tt
       go (holds k l q) = subst S (sym q) ((b, h, k .0, refl), tt)
       go (leaves k s ss p q) = subst S (sym q) ((b, h, k .0, refl), tt)
@@ -229,6 +189,39 @@ module _ (c : FgoConfig) where
   pub spoken : (ops : List (Op Body)) → All Sent ops → All Spoken (run c ops .accepted)
   unfolding runFrom
   spoken ops h = foldl-keeps (λ r. All Spoken (r .accepted)) Sent (step frameIn (reply c)) spoken-step (begin new) ops tt h
+
+  -- ---- an id is given out once
+
+  given-once : (ops : List (Op Body)) (o : Op Body) → (x : ℕ) → 0 < x → Stands x (standing c (ops ++ (o ∷ []))) → Stands x (standing c ops) ⊎ (run c ops .state .«next_id» ≤ x)
+  unfolding step
+  given-once ops o x h z =
+      let r = run c ops in
+      gives-once c (r .emitted) (r .accepted) (r .state) (ran ops .inv) o .given x h (subst (λ (r : Run Frame Emitted State). Stands x (scansOf (r .emitted) ++ r .state .scans)) (run-snoc frameIn (reply c) new ops o) z)
+
+  rises-step : (ops : List (Op Body)) (o : Op Body) → run c ops .state .«next_id» ≤ run c (ops ++ (o ∷ [])) .state .«next_id»
+  unfolding step
+  rises-step ops o =
+      let r = run c ops in
+      subst (λ (q : Run Frame Emitted State). r .state .«next_id» ≤ q .state .«next_id») (sym (run-snoc frameIn (reply c) new ops o))
+      (gives-once c (r .emitted) (r .accepted) (r .state) (ran ops .inv) o .rises)
+
+  rises-more : (ops more : List (Op Body)) → run c ops .state .«next_id» ≤ run c (ops ++ more) .state .«next_id»
+  rises-more ops [] = rw (append-nil ops) (le-refl (run c ops .state .«next_id»))
+  rises-more ops (o ∷ more) =
+      le-trans (rises-step ops o) (subst (λ l. run c (ops ++ (o ∷ [])) .state .«next_id» ≤ run c l .state .«next_id») (append-assoc ops (o ∷ []) more) (rises-more (ops ++ (o ∷ [])) more))
+
+  -- one that does not stand, and is below the next id, never will
+  never-again : (ops rest : List (Op Body)) (x : ℕ) → 0 < x → x < run c ops .state .«next_id» → (Stands x (standing c ops) → ⊥) → Stands x (standing c (ops ++ rest)) → ⊥
+  never-again ops [] x h b g z = g (subst (λ l. Stands x (standing c l)) (append-nil ops) z)
+  never-again ops (o ∷ rest) x h b g z =
+      never-again (ops ++ (o ∷ [])) rest x h (le-trans b (rises-step ops o)) still (subst (λ l. Stands x (standing c l)) (sym (append-assoc ops (o ∷ []) rest)) z)
+    where
+      still : Stands x (standing c (ops ++ (o ∷ []))) → ⊥
+      still k = go (given-once ops o x h k)
+        where
+          go : Stands x (standing c ops) ⊎ (run c ops .state .«next_id» ≤ x) → ⊥
+          go (inl s) = g s
+          go (inr n) = lt-irrefl x (le-trans b n)
 
   -- ---- the theorem
 
@@ -242,6 +235,11 @@ module _ (c : FgoConfig) where
         asSearched = λ o e h. gave-step r o e (ap (λ r. r .emitted) (sym (run-snoc frameIn (reply c) new ops o)) ∙ h);
         dots = under-later ops;
         used = used c (r .emitted) (r .accepted) (r .state) (i .inv);
+        rises = rises-more ops;
+        given = given-once ops;
+        once =
+            λ more rest x h s g z.
+            never-again (ops ++ more) rest x h (le-trans (used c (r .emitted) (r .accepted) (r .state) (i .inv) x h s) (rises-more ops more)) g z;
         refusals = λ o n h. run-snoc frameIn (reply c) new ops o ∙ step-stays frameIn (reply c) r o n (stays-reply (r .state) o n h);
         ruled = λ l h. ruled c (r .emitted) (r .accepted) (r .state) (i .inv) (spoken ops h) l (i .lagged);
       }

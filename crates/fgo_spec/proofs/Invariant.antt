@@ -24,11 +24,11 @@ use Rattle.fgo_spec.proofs.Growing.{grown}
 use Rattle.fgo_spec.proofs.Owners.{Owned}
 use Rattle.fgo_spec.proofs.Arrival.{Column}
 
--- the last of some frames is not after a time
-unfoldable pub LastBy : List Emitted → ℤ → Type 0
+-- the last of some times is not after a time
+unfoldable pub LastBy : List ℤ → ℤ → Type 0
 LastBy [] now = Unit {0}
-LastBy (e ∷ []) now = timeOf e ≤ℤ now
-LastBy (e ∷ f ∷ es) now = LastBy (f ∷ es) now
+LastBy (s ∷ []) now = s ≤ℤ now
+LastBy (s ∷ t ∷ ts) now = LastBy (t ∷ ts) now
 
 module _ (c : FgoConfig) where
   -- x's frozen part is what the scans emitted have under x
@@ -51,8 +51,8 @@ module _ (c : FgoConfig) where
     pub fresh : (x : ℕ) → t .«next_id» ≤ x → True (scansOf es) (t .prefixes) x
     -- what was emitted under other ids is too old to be listed
     pub dead :
-        NeverBack es → coast c ≤ℤ forgetAfter c → (x : ℕ) (p : Prefix) → 0 < x → find x (t .prefixes) ≡ none →
-        grown c none (window x 0 (scansOf es)) ≡ some p → (now : ℤ) → LastBy es now → T (leZ (now -ℤ p .lastNs) (coast c)) → ⊥
+        NeverBack (map timeOf es) → coast c ≤ℤ forgetAfter c → (x : ℕ) (p : Prefix) → 0 < x → find x (t .prefixes) ≡ none →
+        grown c none (window x 0 (scansOf es)) ≡ some p → (now : ℤ) → LastBy (map timeOf es) now → T (leZ (now -ℤ p .lastNs) (coast c)) → ⊥
     pub gone : All (Column (λ x. x < t .«next_id»)) (scansOf es)
     pub sum : length (t .prefixes) + windowCount (t .scans) ≤ DETECTIONS
     pub owners : Owned (t .prefixes) (t .scans) (t .owners)

@@ -47,12 +47,12 @@ holder-most e (b ∷ k) l [] is a i h q = absurd (omega arith)
 holder-most e (b ∷ k) l (j ∷ js) is a i h q = le-trans (holder-most e k l js is a i (omega arith) q) (omega arith)
 
 -- the holder is at the first association, with that engine id, or further on
-abbrev Case : ℕ → Association → List Association → ℕ → List ℕ → Type 0
+abbrev pub Case : ℕ → Association → List Association → ℕ → List ℕ → Type 0
 Case e a l i is =
     let x = holderIn e (a ∷ l) (i ∷ is) in
     ((isEngine e (a .track) ≡ true) × (0 < i) × (x ≡ i)) ⊎ ((0 < holderIn e l is) × (x ≡ holderIn e l is))
 
-holder-cases : (e : ℕ) (a : Association) (l : List Association) (i : ℕ) (is : List ℕ) → 0 < holderIn e (a ∷ l) (i ∷ is) → Case e a l i is
+pub holder-cases : (e : ℕ) (a : Association) (l : List Association) (i : ℕ) (is : List ℕ) → 0 < holderIn e (a ∷ l) (i ∷ is) → Case e a l i is
 unfolding holderIn
 holder-cases e a l i is h = go (isEngine e (a .track)) (decLe i (holderIn e l is)) h
   where
@@ -129,7 +129,7 @@ latest-any e ss y h = go (latest-or e ss)
     go (inr f) = absurd (omega (arith, f 0))
 
 -- what holds of the holders in the scans, and of the default, holds of the latest
-latest-is :
+pub latest-is :
     (e : ℕ) (Q : ℕ → Type 0) (ss : List Scan) → All (λ s. 0 < holder e s → Q (holder e s)) ss → (y : ℕ) → (0 < y → Q y) → 0 < latest e y ss →
     Q (latest e y ss)
 unfolding latest
@@ -153,7 +153,7 @@ latest-present e ss p =
     (λ s m q. stands-present (holder e s) ss q m (holder-stands e (s .frame .associations) (s .ids) q)))
     0 (λ q. absurd (omega arith)) p
 
-latest-later : (e : ℕ) (ss : List Scan) (y : ℕ) → 0 < y → 0 < latest e y ss
+pub latest-later : (e : ℕ) (ss : List Scan) (y : ℕ) → 0 < y → 0 < latest e y ss
 unfolding latest
 latest-later e [] y h = h
 latest-later e (s ∷ ss) y h = latest-later e ss (orElse (holder e s) y) (go (holder e s))

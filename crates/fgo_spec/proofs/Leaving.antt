@@ -35,23 +35,23 @@ use Rattle.fgo_spec.proofs.Invariant.{LastBy, True, Good, Inv}
 
 -- ---- times of emitted frames
 
-never-snoc : (es : List Emitted) (e : Emitted) → NeverBack (es ++ (e ∷ [])) → NeverBack es × LastBy es (timeOf e)
+never-snoc : (ts : List ℤ) (t : ℤ) → NeverBack (ts ++ (t ∷ [])) → NeverBack ts × LastBy ts t
 unfolding NeverBack LastBy
-never-snoc [] e h = (tt, tt)
-never-snoc (d ∷ []) e h = (tt, h .0)
-never-snoc (d ∷ f ∷ es) e h = let r = never-snoc (f ∷ es) e (h .1) in ((h .0, r .0), r .1)
+never-snoc [] t h = (tt, tt)
+never-snoc (r ∷ []) t h = (tt, h .0)
+never-snoc (r ∷ s ∷ ts) t h = let k = never-snoc (s ∷ ts) t (h .1) in ((h .0, k .0), k .1)
 
-last-later : (es : List Emitted) (a b : ℤ) → a ≤ℤ b → LastBy es a → LastBy es b
+last-later : (ts : List ℤ) (a b : ℤ) → a ≤ℤ b → LastBy ts a → LastBy ts b
 unfolding LastBy
 last-later [] a b h l = tt
-last-later (e ∷ []) a b h l = ≤ℤ-trans l h
-last-later (e ∷ f ∷ es) a b h l = last-later (f ∷ es) a b h l
+last-later (t ∷ []) a b h l = ≤ℤ-trans l h
+last-later (s ∷ t ∷ ts) a b h l = last-later (t ∷ ts) a b h l
 
-last-snoc : (es : List Emitted) (e : Emitted) (now : ℤ) → LastBy (es ++ (e ∷ [])) now → timeOf e ≤ℤ now
+last-snoc : (ts : List ℤ) (t now : ℤ) → LastBy (ts ++ (t ∷ [])) now → t ≤ℤ now
 unfolding LastBy
-last-snoc [] e now l = l
-last-snoc (d ∷ []) e now l = l
-last-snoc (d ∷ f ∷ es) e now l = last-snoc (f ∷ es) e now l
+last-snoc [] t now l = l
+last-snoc (s ∷ []) t now l = l
+last-snoc (r ∷ s ∷ ts) t now l = last-snoc (s ∷ ts) t now l
 
 -- ---- the frame and the state
 
@@ -132,15 +132,15 @@ module _ (c : FgoConfig) (es : List Emitted) (acc : List Frame) (t : State) (s :
 
   -- what was emitted under an id that is not frozen is too old
   too-old :
-      NeverBack es → LastBy es now → coast c ≤ℤ forgetAfter c → (x : ℕ) (p : Prefix) → 0 < x → find x froze ≡ none →
+      NeverBack (map timeOf es) → LastBy (map timeOf es) now → coast c ≤ℤ forgetAfter c → (x : ℕ) (p : Prefix) → 0 < x → find x froze ≡ none →
       grown c none (window x 0 past) ≡ some p → (at : ℤ) → now ≤ℤ at → T (leZ (at -ℤ p .lastNs) (coast c)) → ⊥
   too-old nb lb cf x p h e g at b a =
       let n = grown-none c (find x (t .prefixes)) (inScan x (t .first) s) (sym (froze-is x h) ∙ e) in
       let w : window x 0 past ≡ window x 0 (scansOf es) = window-is x ∙ ap (λ l. window x 0 (scansOf es) ++ l) (n .1) ∙ append-nil (window x 0 (scansOf es)) in
-      i .dead nb cf x p h (n .0) (ap (grown c none) (sym w) ∙ g) at (last-later es now at b lb) a
+      i .dead nb cf x p h (n .0) (ap (grown c none) (sym w) ∙ g) at (last-later (map timeOf es) now at b lb) a
 
   exact :
-      NeverBack es → LastBy es now → coast c ≤ℤ forgetAfter c → (x : ℕ) (l : Listed) → 0 < x → afresh c now x (window x 0 past) ≡ some l →
+      NeverBack (map timeOf es) → LastBy (map timeOf es) now → coast c ≤ℤ forgetAfter c → (x : ℕ) (l : Listed) → 0 < x → afresh c now x (window x 0 past) ≡ some l →
       T (leZ (l .age) (coast c)) → List·Memᴰ l (listing c now froze)
   unfolding listing report
   exact nb lb cf x l h e a = go (grown c none (window x 0 past)) refl (grown-afresh c now x (window x 0 past) ∙ e)
@@ -174,6 +174,10 @@ module _ (c : FgoConfig) (es : List Emitted) (acc : List Frame) (t : State) (s :
   held-count : windowCount (t .scans) ≡ inWindows (s .ids) + windowCount ss
   held-count = ap windowCount q ∙ detections-cons s ss
 
+  never : NeverBack (map timeOf (es ++ (em ∷ []))) → NeverBack (map timeOf es) × LastBy (map timeOf es) now
+  unfolding emit
+  never nb = never-snoc (map timeOf es) now (subst NeverBack (map-append timeOf es (em ∷ [])) nb)
+
   pub told : All NamedOnce acc → Told c es em
   unfolding emit listing
   told named =
@@ -188,7 +192,7 @@ module _ (c : FgoConfig) (es : List Emitted) (acc : List Frame) (t : State) (s :
             rw (length-map (keep (listable c now) froze) (λ e. report c now (e .0) (e .1)))
             (omega (arith, froze-length, held-count, i .sum, count-le (listable c now) froze));
         listed = λ l m. let k = listed l m in record { id = k .0; fresh = k .1; young = k .2 };
-        exact = λ nb cf l k. let n = never-snoc es em nb in exact (n .0) (n .1) cf (l .id) l (k .id) (k .fresh) (k .young);
+        exact = λ nb cf l k. let n = never nb in exact (n .0) (n .1) cf (l .id) l (k .id) (k .fresh) (k .young);
       }
 
   -- ---- the state that is left
@@ -229,7 +233,7 @@ module _ (c : FgoConfig) (es : List Emitted) (acc : List Frame) (t : State) (s :
       no (some p) e = absurd (lt-irrefl x (le-trans (froze-good x p e .1 .1) h))
 
   left-dead :
-      NeverBack es → LastBy es now → coast c ≤ℤ forgetAfter c → (x : ℕ) (p : Prefix) → 0 < x → find x left ≡ none →
+      NeverBack (map timeOf es) → LastBy (map timeOf es) now → coast c ≤ℤ forgetAfter c → (x : ℕ) (p : Prefix) → 0 < x → find x left ≡ none →
       grown c none (window x 0 past) ≡ some p → (at : ℤ) → now ≤ℤ at → T (leZ (at -ℤ p .lastNs) (coast c)) → ⊥
   left-dead nb lb cf x p h e g at b a = go (find x froze) refl
     where
@@ -261,8 +265,8 @@ module _ (c : FgoConfig) (es : List Emitted) (acc : List Frame) (t : State) (s :
         fresh = λ x h. subst (λ l. True c l left x) (sym S) (left-fresh x h);
         dead =
             λ nb cf x p h e g at lb a.
-            let n = never-snoc es em nb in
-            left-dead (n .0) (n .1) cf x p h e (subst (λ l. grown c none (window x 0 l) ≡ some p) S g) at (last-snoc es em at lb) a;
+            let n = never nb in
+            left-dead (n .0) (n .1) cf x p h e (subst (λ l. grown c none (window x 0 l) ≡ some p) S g) at (last-snoc (map timeOf es) now at (subst (λ l. LastBy l at) (map-append timeOf es (em ∷ [])) lb)) a;
         gone =
             subst (All (Column (λ x. x < t .«next_id»))) (sym S)
             (All-append (Column (λ x. x < t .«next_id»)) (scansOf es) (s ∷ []) (i .gone) (column-weaken G (λ x. x < t .«next_id») (λ x g. g .1) s (columns .0), tt));

@@ -20,7 +20,11 @@ pub mod Accepting
 pub mod Leaving
 pub mod RuleLaw
 pub mod Ruled
+pub mod Doing
+pub mod Giving
+pub mod Sighting
 pub mod HistoryLaw
+pub mod Following
 pub mod Finishing
 pub mod Lettered
 pub mod Examples

@@ -6,7 +6,7 @@ use native.Mathlib.Decide.{ℕ-discrete}
 use mathlib.Core.Path.{_≡_, refl, sym, ap, _∙_, subst}
 use mathlib.Core.Bool.{Bool}
 use mathlib.Core.List.{List, [], _∷_, map, map-map}
-use mathlib.Core.Option.{Option, none, some, Option·none-ne-some, Option·some-injective}
+use mathlib.Core.Option.{Option, none, some, Option·map}
 use lib.ListN.{length, length-map}
 use lib.Dec.{T}
 use lib.Ieee.Bits.{is-true}
@@ -52,19 +52,21 @@ owned-live K ps ss os t d n own =
         find-keep test e os d ∙ ap (only test e) (own e p) ∙ rw (is-true (live ps ss x) (or-right (isSome (find x ps)) (has x (present ss)) (latest-present e ss p)))
 
 -- what is found after the values were worked over
-find-map : (g : ℕ → ℕ → ℕ) (e : ℕ) (os : List (ℕ × ℕ)) {x : ℕ} → find e os ≡ some x → find e (map (λ o. (o .0, g (o .0) (o .1))) os) ≡ some (g e x)
+pub find-map : (g : ℕ → ℕ → ℕ) (e : ℕ) (os : List (ℕ × ℕ)) → find e (map (λ o. (o .0, g (o .0) (o .1))) os) ≡ Option·map (g e) (find e os)
 unfolding find
-find-map g e [] h = absurd (Option·none-ne-some _ h)
-find-map g e (o ∷ os) {x} h = go (ℕ-discrete e (o .0)) (find-map g e os)
+find-map g e [] = refl
+find-map g e (o ∷ os) = go (ℕ-discrete e (o .0)) (find-map g e os)
   where
     os′ : List (ℕ × ℕ)
     os′ = map (λ o. (o .0, g (o .0) (o .1))) os
 
-    go : Dec (e ≡ o .0) → (find e os ≡ some x → find e os′ ≡ some (g e x)) → find e ((o .0, g (o .0) (o .1)) ∷ os′) ≡ some (g e x)
+    go : Dec (e ≡ o .0) → find e os′ ≡ Option·map (g e) (find e os) → find e ((o .0, g (o .0) (o .1)) ∷ os′) ≡ Option·map (g e) (find e (o ∷ os))
     go (yes q) r =
-        let v : o .1 ≡ x = Option·some-injective _ _ (sym (found-here e o os q) ∙ h) in
-        found-here e (o .0, g (o .0) (o .1)) os′ q ∙ ap some (λ i. g (sym q i) (v i))
-    go (no n) r = found-past e (o .0, g (o .0) (o .1)) os′ n ∙ r (sym (found-past e o os n) ∙ h)
+        found-here e (o .0, g (o .0) (o .1)) os′ q ∙ ap (λ k. some (g k (o .1))) (sym q) ∙ ap (Option·map (g e)) (sym (found-here e o os q))
+    go (no n) r = found-past e (o .0, g (o .0) (o .1)) os′ n ∙ r ∙ ap (Option·map (g e)) (sym (found-past e o os n))
+
+pub distinct-map : (g : ℕ → ℕ → ℕ) (os : List (ℕ × ℕ)) → Distinct os → Distinct (map (λ o. (o .0, g (o .0) (o .1))) os)
+distinct-map g os d e = subst (λ k. times e k ≤ 1) (sym (map-map (λ o. o .0) (λ o. (o .0, g (o .0) (o .1))) os)) (d e)
 
 some-of : (o : Option ℕ) → T (isSome o) → (x : ℕ) × (o ≡ some x)
 some-of none t = absurd t
@@ -75,7 +77,7 @@ pub owned-reown :
     (ps : List (ℕ × Prefix)) (ss : List Scan) (os : List (ℕ × ℕ)) → All (TiedScan (Has os)) ss → Distinct os → length os ≤ OWNED →
     Owned ps ss (reown ps ss os)
 unfolding reown
-owned-reown ps ss os t d n = owned-live (Has os) ps ss os′ t (λ e. subst (λ k. times e k ≤ 1) (sym same) (d e)) (rw (length-map os new) n) own
+owned-reown ps ss os t d n = owned-live (Has os) ps ss os′ t (distinct-map (λ e y. latest e y ss) os d) (rw (length-map os new) n) own
   where
     new : ℕ × ℕ → ℕ × ℕ
     new o = (o .0, latest (o .0) (o .1) ss)
@@ -83,13 +85,10 @@ owned-reown ps ss os t d n = owned-live (Has os) ps ss os′ t (λ e. subst (λ 
     os′ : List (ℕ × ℕ)
     os′ = map new os
 
-    same : keys os′ ≡ keys os
-    same = map-map (λ o. o .0) new os
-
     own : (e : ℕ) → 0 < latest e 0 ss → find e os′ ≡ some (latest e 0 ss)
     own e p =
         let y = some-of (find e os) (latest-known (Has os) e ss t p) in
-        find-map (λ e y. latest e y ss) e os (y .1) ∙ ap some (latest-any e ss (y .0) p)
+        find-map (λ e y. latest e y ss) e os ∙ ap (Option·map (λ y. latest e y ss)) (y .1) ∙ ap some (latest-any e ss (y .0) p)
 
 -- after the oldest scan left
 pub owned-leave : (ps qs : List (ℕ × Prefix)) (s : Scan) (ss : List Scan) (os : List (ℕ × ℕ)) → Owned ps (s ∷ ss) os → Owned qs ss (liveOwners qs ss os)

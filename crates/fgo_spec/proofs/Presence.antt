@@ -9,6 +9,7 @@ use mir.Facts.{and-yes, yes-and}
 use Rattle.fgo_spec.specs.Lists.{keep, any, has, times, find, isSome}
 use Rattle.fgo_spec.specs.Windows.{Scan, Prefix, present, live}
 use Rattle.fgo_spec.specs.Rule.{All}
+use Rattle.fgo_spec.proofs.All.{mem-All}
 use Rattle.fgo_spec.proofs.Counting.{any-All, any-count, count-any, any-flatMap, mem-any, has-sort, has-keep}
 
 -- Q holds of each id above 0 that stands in a scan
@@ -35,6 +36,10 @@ present-is Q ss h x t =
       z,
       any-All (λ s. has x (s .ids)) (Names Q) (λ s f k. f x z (any-count (eqb x) (s .ids) k)) ss h (p .1),
     )
+
+-- an id that is present stands
+pub present-stands : (x : ℕ) (ss : List Scan) → T (has x (present ss)) → (s : Scan) × List·Memᴰ s ss × (0 < times x (s .ids))
+present-stands x ss t = present-is (λ x. (s : Scan) × List·Memᴰ s ss × (0 < times x (s .ids))) ss (mem-All (Names (λ x. (s : Scan) × List·Memᴰ s ss × (0 < times x (s .ids)))) ss (λ s m x h k. (s, m, k))) x t .1
 
 -- what holds of frozen ids and of those that stand in the scans holds of live ones
 pub live-is :

@@ -2,6 +2,7 @@
 use Prim.Native.Nat.{ℕ, _≤_, _<_}
 use mathlib.Core.Path.{_≡_}
 use mathlib.Core.Bool.{true}
+use mathlib.Core.Logic.{_⊎_}
 use mathlib.Core.List.{List, [], _∷_, _++_, map, foldl, List·Memᴰ}
 use mathlib.Core.Option.{Option, none, some}
 use lib.ListN.{length, getD, drop}
@@ -76,11 +77,11 @@ scansOf es = map (λ e. e .scan) es
 abbrev pub timeOf : Emitted → ℤ
 timeOf e = e .scan .frame .time
 
--- "emitted times never go back"
-unfoldable pub NeverBack : List Emitted → Type 0
+-- "emitted times never go back": each is at or after the one before it
+unfoldable pub NeverBack : List ℤ → Type 0
 NeverBack [] = Unit {0}
-NeverBack (e ∷ []) = Unit {0}
-NeverBack (e ∷ f ∷ es) = (timeOf e ≤ℤ timeOf f) × NeverBack (f ∷ es)
+NeverBack (s ∷ []) = Unit {0}
+NeverBack (s ∷ t ∷ ts) = (s ≤ℤ t) × NeverBack (t ∷ ts)
 
 -- each number is above the one before it
 unfoldable pub Rising : List ℕ → Type 0
@@ -113,7 +114,7 @@ pub record Told (c : FgoConfig) (past : List Emitted) (e : Emitted) : Type 0 whe
   -- each track that the frame lists is one to list
   pub listed : (l : Listed) → List·Memᴰ l (e .tracks) → ToList c past e l
   -- "if emitted times never go back and coast_ns <= forget_after_ns, the listed ids are exactly those emitted with age <= coast_ns": and no other is
-  pub exact : NeverBack (past ++ (e ∷ [])) → coast c ≤ℤ forgetAfter c → (l : Listed) → ToList c past e l → List·Memᴰ l (e .tracks)
+  pub exact : NeverBack (map timeOf (past ++ (e ∷ []))) → coast c ≤ℤ forgetAfter c → (l : Listed) → ToList c past e l → List·Memᴰ l (e .tracks)
 
 -- the held scans after placing and search: the oldest is what a push, or a take, has to give
 abbrev pub settled : FgoConfig → State → Op Body → List Scan
@@ -128,6 +129,10 @@ Sent taken = Unit {0}
 -- x stands in one of the scans
 abbrev pub Stands : ℕ → List Scan → Type 0
 Stands x ss = (s : Scan) × List·Memᴰ s ss × (0 < times x (s .ids))
+
+-- the scans emitted and those held after some pushes and takes, in the order accepted, each with its ids
+abbrev pub standing : FgoConfig → List (Op Body) → List Scan
+standing c ops = scansOf (run c ops .emitted) ++ run c ops .state .scans
 
 -- observation i of the n-th of the frames es stands under the id x: by association j, after the frames before it
 pub record Under (es : List Emitted) (n i x : ℕ) : Type 0 where
@@ -146,12 +151,21 @@ pub record History (c : FgoConfig) (ops : List (Op Body)) : Type 0 where
   -- every emitted frame
   pub every : (past : List Emitted) (e : Emitted) (later : List Emitted) → run c ops .emitted ≡ past ++ (e ∷ later) → Told c past e
   -- "with the ids that 01's placing and search give": a frame that one more operation emits is the oldest scan then held, with the ids that it then has
-  pub asSearched : (o : Op Body) (e : Emitted) → run c (ops ++ (o ∷ [])) .emitted ≡ run c ops .emitted ++ (e ∷ []) → (rest : List Scan) × (settled c (run c ops .state) o ≡ e .scan ∷ rest)
+  pub asSearched :
+      (o : Op Body) (e : Emitted) → run c (ops ++ (o ∷ [])) .emitted ≡ run c ops .emitted ++ (e ∷ []) →
+      (rest : List Scan) × (settled c (run c ops .state) o ≡ e .scan ∷ rest)
   -- "each dot under one id only": an observation, by its frame and its place in it, that is emitted under an id (0 for none) is emitted under no other, whatever
   -- comes later
   pub dots : (more : List (Op Body)) (n i x y : ℕ) → Under (run c ops .emitted) n i x → Under (run c (ops ++ more) .emitted) n i y → x ≡ y
-  -- ids are never used again: a new one is above every id that an emitted or held scan has
-  pub used : (x : ℕ) → 0 < x → Stands x (scansOf (run c ops .emitted) ++ run c ops .state .scans) → x < run c ops .state .«next_id»
+  -- the next id is above every id that an emitted or held scan has, and never goes down
+  pub used : (x : ℕ) → 0 < x → Stands x (standing c ops) → x < run c ops .state .«next_id»
+  pub rises : (more : List (Op Body)) → run c ops .state .«next_id» ≤ run c (ops ++ more) .state .«next_id»
+  -- an id is given out once: what stands after one more operation stood before it or begins with the next id; and one that stood and is gone stays gone
+  pub given :
+      (o : Op Body) (x : ℕ) → 0 < x → Stands x (standing c (ops ++ (o ∷ []))) → Stands x (standing c ops) ⊎ (run c ops .state .«next_id» ≤ x)
+  pub once :
+      (more rest : List (Op Body)) (x : ℕ) → 0 < x → Stands x (standing c ops) → (Stands x (standing c (ops ++ more)) → ⊥) →
+      Stands x (standing c ((ops ++ more) ++ rest)) → ⊥
   -- "After it the state and the lent buffers hold what they held before the call": an operation that is refused changes nothing
   pub refusals : (o : Op Body) (n : ℕ) → reply c (run c ops .state) o .0 ≡ refused n → run c (ops ++ (o ∷ [])) ≡ run c ops
   -- every state that bytes lead to meets the state rule, so 3 is never answered to who keeps to push and take

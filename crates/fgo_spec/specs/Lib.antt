@@ -8,5 +8,6 @@ pub mod Emitting
 pub mod Refiner
 pub mod Rule
 pub mod History
+pub mod Following
 pub mod Faithful
 pub mod Gathered
