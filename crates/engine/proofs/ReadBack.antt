@@ -5,7 +5,7 @@ use mathlib.Core.List.{List, _++_}
 use mathlib.Core.Bool.{Bool, true, false, cond, not}
 use native.Mathlib.Omega.{arith}
 use native.Mathlib.Nat.{add-zero, zero-add, one-le-pow}
-use lib.Dec.{T, eqb, lit<, lit≤}
+use lib.Dec.{T, eqb, lit<}
 use lib.IntN.{ℤ, pos, negsuc}
 use lib.Ieee.{Float, binary64, ofBits, fits}
 use lib.Ieee.Bits.{ofBits-toBits, toBits-lt}

@@ -2,13 +2,13 @@
 use Prim.Native.Nat.{ℕ, _+_, _≤_, _<_}
 use native.Mathlib.Nat.{zero-add, le-trans}
 use native.Mathlib.Omega.{arith}
-use mathlib.Core.Path.{_≡_, sym, subst, _∙_}
+use mathlib.Core.Path.{_≡_, subst}
 use mathlib.Core.Bool.{true}
 use mathlib.Core.List.{List, [], _∷_}
 use lib.ListN.{length}
 use lib.Dec.{leb, ltb}
 use borrow.Author.Tests.{leb-true, ltb-true}
-use Rattle.bounds.specs.Bounds.{LAG, ACCEPTED, DETECTIONS, FROZEN, OWNED, HEIGHTS}
+use Rattle.bounds.specs.Bounds.{LAG, ACCEPTED, DETECTIONS, OWNED, HEIGHTS}
 use Rattle.engine.specs.Config.{legal, lag}
 use Rattle.engine.proofs.Every.{both}
 use Rattle.engine.proofs.Settings.{legal-tells}

@@ -7,12 +7,11 @@ use native.Mathlib.Nat.{add-zero, zero-add, add-assoc}
 use native.Mathlib.Omega.{arith}
 use borrow.Author.Tests.{leb-true, ltb-true, ltb-false}
 use lib.Dec.{leb, ltb, lit<}
-use lib.ListN.{length, getD, take, drop, length-append, length-drop, drop-of-length-le}
+use lib.ListN.{length, getD, drop, length-append, length-drop, drop-of-length-le}
 use lib.Seq.{getD-append-add, getD-take, getD-drop, length-take-le}
 use lib.Ieee.{Float, nan}
 use Rattle.bounds.specs.Bounds.{FROZEN, PART, PARTS, KF, HEIGHTS, FILTER, FILTERS}
 use Rattle.scalar.specs.Scalar.{word, signed}
-use Rattle.kf.specs.declared.filter.Kf.{Kf}
 use Rattle.kf.specs.Filter.{kfIn, kfNumbers}
 use Rattle.buffers.specs.Buffers.{over}
 use Rattle.buffers.proofs.Over.{over-before, over-in, over-after, over-more}

@@ -8,10 +8,10 @@ use mathlib.Core.Bool.{Bool, true, false, _&&_, _||_, true≢false}
 use mathlib.Core.List.{List, [], _∷_, _++_, append-nil, append-assoc, append-cancel-left, head-eq-of-cons-eq, nil≢cons, map, map-append, flatMap, List·Memᴰ, List·Memᴰ·head, List·Memᴰ·tail, List·Memᴰ·not-nil, List·Memᴰ·cases-cons, List·Memᴰ·append-cases, List·Memᴰ·eq-of-singleton, Memᴰ·append-left, Memᴰ·append-right}
 use mathlib.Core.Option.{Option, none, some, Option·map, Option·none-ne-some, Option·some-injective, map-eq-some-iff}
 use lib.ListN.{length}
-use lib.Dec.{T, ltb, eqb}
+use lib.Dec.{T, ltb}
 use lib.Ieee.Bits.{is-true}
 use borrow.Author.Tests.{eqb-true}
-use Rattle.buffers.specs.Answer.{Op, pushed, taken, Reply, refused, waits, gives, refusalIn}
+use Rattle.buffers.specs.Answer.{Op, pushed, taken, Reply, refusalIn}
 use Rattle.buffers.specs.Run.{Run, begin, emittedBy, acceptedBy, step, runFrom}
 use Rattle.buffers.proofs.Running.{run-snoc}
 use Rattle.engine.specs.declared.config.FgoConfig.{FgoConfig}
@@ -21,10 +21,10 @@ use Rattle.engine.specs.declared.types.Association.{Association}
 use Rattle.engine.specs.Config.{maxPasses}
 use Rattle.engine.specs.Frame.{Frame}
 use Rattle.engine.specs.Body.{Body, frameIn}
-use Rattle.fgo_spec.specs.Lists.{keep, any, has, times, find, isSome}
-use Rattle.fgo_spec.specs.Windows.{Scan, Prefix, window, inScan, present, live}
-use Rattle.fgo_spec.specs.Placing.{Placing, place}
-use Rattle.fgo_spec.specs.Searching.{Search, Searched, passes, improve}
+use Rattle.fgo_spec.specs.Lists.{any, has, times, find, isSome}
+use Rattle.fgo_spec.specs.Windows.{Scan, Prefix, present, live}
+use Rattle.fgo_spec.specs.Placing.{Placing}
+use Rattle.fgo_spec.specs.Searching.{Search, passes, improve}
 use Rattle.fgo_spec.specs.Owning.{isEngine, holderIn, latest, liveOwners, reown}
 use Rattle.fgo_spec.specs.Freezing.{freezeScan, kept, remember}
 use Rattle.fgo_spec.specs.Emitting.{Emitted}
@@ -32,7 +32,7 @@ use Rattle.fgo_spec.specs.Refiner.{State, new, placed, withScan, searche
 use Rattle.fgo_spec.specs.Rule.{All}
 use Rattle.fgo_spec.specs.History.{run, scansOf, Stands, standing}
 use Rattle.fgo_spec.specs.Following.{sighted, sightedAll, sightings, Unrepeated, Followed}
-use Rattle.fgo_spec.proofs.All.{All-left, All-right, All-append, mem-All, foldl-keeps}
+use Rattle.fgo_spec.proofs.All.{All-left, All-right, mem-All, foldl-keeps}
 use Rattle.fgo_spec.proofs.Counting.{or-right, any-append, times-here, times-tail}
 use Rattle.fgo_spec.proofs.Tables.{Distinct, only, only-some, find-keep, up-distinct}
 use Rattle.fgo_spec.proofs.Presence.{present-has, stands-present, present-stands}
@@ -49,7 +49,7 @@ use Rattle.fgo_spec.proofs.HistoryLaw.{Ran, ran-step, ran}
 
 -- ---- sightings of scans
 
-sightings-append : (ss ts : List Scan) → sightings (ss ++ ts) ≡ sightings ss ++ sightings ts
+pub sightings-append : (ss ts : List Scan) → sightings (ss ++ ts) ≡ sightings ss ++ sightings ts
 unfolding sightings flatMap
 sightings-append [] ts = refl
 sightings-append (s ∷ ss) ts =

@@ -1,22 +1,19 @@
 -- An id is given out once: what stands after an operation stood before it, or begins with the next id. Assumes nothing.
 use Prim.Native.Nat.{ℕ, suc, _≤_, _<_}
-use native.Mathlib.Nat.{le-refl, le-of-eq, le-trans, lt-irrefl, eq-zero-or-pos}
+use native.Mathlib.Nat.{le-refl, le-of-eq, le-trans, eq-zero-or-pos}
 use mathlib.Core.Path.{_≡_, refl, sym, ap, _∙_, subst}
 use mathlib.Core.Logic.{_⊎_, inl, inr}
 use mathlib.Core.List.{List, [], _∷_, _++_, nil≢cons, List·Memᴰ, List·Memᴰ·head, List·Memᴰ·tail, List·Memᴰ·append-cases, Memᴰ·append-left, Memᴰ·append-right}
 use mathlib.Core.Option.{none, some, Option·none-ne-some}
-use lib.Dec.{T}
 use Rattle.buffers.specs.Answer.{Op, pushed, taken, Reply}
 use Rattle.buffers.specs.Run.{emittedBy}
 use Rattle.engine.specs.declared.config.FgoConfig.{FgoConfig}
 use Rattle.engine.specs.Frame.{Frame}
 use Rattle.engine.specs.Body.{Body, frameIn}
 use Rattle.fgo_spec.specs.Lists.{times, find}
-use Rattle.fgo_spec.specs.Windows.{Scan, Detection, Prefix, inScan, window, live}
-use Rattle.fgo_spec.specs.Searching.{Search}
+use Rattle.fgo_spec.specs.Windows.{Scan, Detection, Prefix, window}
 use Rattle.fgo_spec.specs.Emitting.{Emitted}
 use Rattle.fgo_spec.specs.Refiner.{State, searched, arrive, push, takes, reply}
-use Rattle.fgo_spec.specs.Rule.{All}
 use Rattle.fgo_spec.specs.History.{scansOf, Stands}
 use Rattle.fgo_spec.proofs.All.{All-mem, mem-All}
 use Rattle.fgo_spec.proofs.Tables.{up-found}
@@ -26,8 +23,7 @@ use Rattle.fgo_spec.proofs.Keeping.{Known}
 use Rattle.fgo_spec.proofs.Growing.{grown}
 use Rattle.fgo_spec.proofs.Arrival.{Column, Arrived, arrived}
 use Rattle.fgo_spec.proofs.Invariant.{Good, Inv}
-use Rattle.fgo_spec.proofs.Accepting.{Room}
-use Rattle.fgo_spec.proofs.Doing.{Does, Leads, stays, goes, leads, take-does, push-does}
+use Rattle.fgo_spec.proofs.Doing.{Leads, stays, goes, leads, take-does, push-does}
 
 -- an id that has a window stands
 window-stands : (x n : ℕ) (ss : List Scan) (d : Detection) (ds : List Detection) → window x n ss ≡ d ∷ ds → Stands x ss

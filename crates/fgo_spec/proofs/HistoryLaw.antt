@@ -6,21 +6,18 @@ use mathlib.Core.Path.{_≡_, refl, sym, ap, _∙_, subst}
 use mathlib.Core.Logic.{_⊎_, inl, inr}
 use mathlib.Core.Bool.{Bool, true, false, true≢false}
 use mathlib.Core.List.{List, [], _∷_, _++_, map, append-nil, append-assoc, append-cancel-left, head-eq-of-cons-eq, nil≢cons}
-use mathlib.Core.Option.{Option, none, some}
 use lib.ListN.{length, getD, drop}
-use lib.Dec.{ltb}
-use borrow.Author.Tests.{ltb-true, ltb-false}
 use Rattle.buffers.specs.Answer.{Op, pushed, taken, Reply, refused, waits, gives, refusalIn}
 use Rattle.buffers.specs.Run.{Run, begin, emittedBy, acceptedBy, step, runFrom}
-use Rattle.buffers.proofs.Running.{run-snoc, run-grows, step-stays}
+use Rattle.buffers.proofs.Running.{run-snoc, emitted-grows, step-stays}
 use Rattle.engine.specs.declared.config.FgoConfig.{FgoConfig}
 use Rattle.engine.specs.Config.{lag}
 use Rattle.engine.specs.Frame.{Frame}
-use Rattle.engine.specs.Body.{Body, frameIn, bodyRefusal, indexOf, NamedOnce, decode, decodedBy}
+use Rattle.engine.specs.Body.{Body, frameIn, indexOf, NamedOnce}
 use Rattle.engine.proofs.Named.{named-once}
 use Rattle.fgo_spec.specs.Windows.{Scan}
 use Rattle.fgo_spec.specs.Emitting.{Emitted}
-use Rattle.fgo_spec.specs.Refiner.{State, new, arrive, emit, leave, freezeOldest, settle, full8, full9, full10, firstOf, pushBy, pushRead, pushFrame, push, takes, reply}
+use Rattle.fgo_spec.specs.Refiner.{State, new, arrive, emit, leave, push, takes, reply}
 use Rattle.fgo_spec.specs.Rule.{All, Spoken}
 use Rattle.fgo_spec.specs.History.{run, scansOf, Told, settled, Sent, Stands, standing, Under, History}
 use Rattle.fgo_spec.proofs.All.{All-append, All-left, map-All, mem-All, foldl-keeps}
@@ -149,7 +146,7 @@ module _ (c : FgoConfig) where
 
   under-later : (ops more : List (Op Body)) (n i x y : ℕ) → Under (run c ops .emitted) n i x → Under (run c (ops ++ more) .emitted) n i y → x ≡ y
   under-later ops more n i x y u v =
-      let g = run-grows frameIn (reply c) new ops more in
+      let g = emitted-grows frameIn (reply c) new ops more in
       under-one (run c ops .emitted) (emitted-named ops) (g .0) n i x y u (subst (λ l. Under l n i y) (g .1) v)
 
   -- ---- an operation that is refused changes nothing

@@ -21,7 +21,7 @@ use Rattle.fgo_spec.specs.Freezing.{freezeScan, listable, kept, remember
 use Rattle.fgo_spec.specs.Emitting.{Listed, Emitted, report, listing}
 use Rattle.fgo_spec.specs.Refiner.{State, emit, leave}
 use Rattle.fgo_spec.specs.Rule.{All}
-use Rattle.fgo_spec.specs.History.{scansOf, timeOf, NeverBack, Rising, afresh, Told}
+use Rattle.fgo_spec.specs.History.{scansOf, timeOf, NeverBack, Rising, afresh, ToList, Told}
 use Rattle.fgo_spec.proofs.All.{All-append, All-right, All-mem, mem-All}
 use Rattle.fgo_spec.proofs.Counting.{or-right, count-le}
 use Rattle.fgo_spec.proofs.Tables.{Up, up-keep, up-distinct, up-found, only, only-some, find-keep, find-mem, mem-find}
@@ -114,21 +114,23 @@ module _ (c : FgoConfig) (es : List Emitted) (acc : List Frame) (t : State) (s :
   abbrev em : Emitted
   em = emit c (t .first) (t .prefixes) s
 
-  abbrev Right : Listed → Type 0
-  Right l = (0 < l .id) × (afresh c now (l .id) (window (l .id) 0 past) ≡ some l) × T (leZ (l .age) (coast c))
+  to-list : (x : ℕ) (p : Prefix) → find x froze ≡ some p → T (listable c now (x, p)) → ToList c es em (report c now x p)
+  unfolding report emit
+  to-list x p e y =
+      record {
+        id = froze-good x p e .0;
+        fresh = sym (grown-afresh c now x (window x 0 past)) ∙ ap (reportOf c now x) (sym (froze-true x p e) ∙ e);
+        young = y;
+      }
 
-  right : (x : ℕ) (p : Prefix) → find x froze ≡ some p → T (listable c now (x, p)) → Right (report c now x p)
-  unfolding report
-  right x p e y = (froze-good x p e .0, sym (grown-afresh c now x (window x 0 past)) ∙ ap (reportOf c now x) (sym (froze-true x p e) ∙ e), y)
-
-  listed : (l : Listed) → List·Memᴰ l (listing c now froze) → Right l
+  listed : (l : Listed) → List·Memᴰ l (listing c now froze) → ToList c es em l
   unfolding listing
   listed l m =
       let k = Memᴰ·of-map (λ e. report c now (e .0) (e .1)) (keep (listable c now) froze) m in
       let e = k .0 in
       let f = mem-find e (keep (listable c now) froze) (up-distinct 0 (keep (listable c now) froze) (up-keep 0 (listable c now) froze froze-up)) (k .1) in
       let g = only-some (listable c now) (e .0) (find (e .0) froze) (sym (find-keep (listable c now) (e .0) froze (up-distinct 0 froze froze-up)) ∙ f) in
-      subst Right (k .2) (right (e .0) (e .1) (g .0) (g .1))
+      subst (ToList c es em) (k .2) (to-list (e .0) (e .1) (g .0) (g .1))
 
   -- what was emitted under an id that is not frozen is too old
   too-old :
@@ -191,7 +193,7 @@ module _ (c : FgoConfig) (es : List Emitted) (acc : List Frame) (t : State) (s :
         few =
             rw (length-map (keep (listable c now) froze) (λ e. report c now (e .0) (e .1)))
             (omega (arith, froze-length, held-count, i .sum, count-le (listable c now) froze));
-        listed = λ l m. let k = listed l m in record { id = k .0; fresh = k .1; young = k .2 };
+        listed = listed;
         exact = λ nb cf l k. let n = never nb in exact (n .0) (n .1) cf (l .id) l (k .id) (k .fresh) (k .young);
       }
 

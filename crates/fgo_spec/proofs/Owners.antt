@@ -17,7 +17,7 @@ use Rattle.fgo_spec.specs.Owning.{latest, liveOwners, reown}
 use Rattle.fgo_spec.specs.Rule.{All}
 use Rattle.fgo_spec.proofs.All.{All-keep, mem-All}
 use Rattle.fgo_spec.proofs.Counting.{or-right, count-le}
-use Rattle.fgo_spec.proofs.Tables.{found-here, found-past, keys, Distinct, keys-keep, only, find-keep}
+use Rattle.fgo_spec.proofs.Tables.{found-here, found-past, Distinct, keys-keep, only, find-keep}
 use Rattle.fgo_spec.proofs.Ties.{TiedScan}
 use Rattle.fgo_spec.proofs.Latest.{latest-any, latest-known, latest-present, tied-latest}
 use Rattle.fgo_spec.proofs.Placement.{Has, has-entry}

@@ -1,12 +1,12 @@
 -- Placing alone: dots of two engine ids never go under one id, and those of one engine id stay together while their track lives. Assumes nothing.
 use Prim.Native.Nat.{ℕ, zero, suc, _+_, _≤_, _<_}
-use native.Mathlib.Nat.{le-refl, le-trans, lt-irrefl}
+use native.Mathlib.Nat.{le-refl, le-trans}
 use native.Mathlib.Decide.{ℕ-discrete}
 use native.Mathlib.Omega.{arith}
 use mathlib.Core.Path.{_≡_, refl, sym, ap, _∙_, subst}
 use mathlib.Core.Logic.{_⊎_, inl, inr}
 use mathlib.Core.Bool.{Bool, true, false, cond, _&&_, _||_, not, true≢false}
-use mathlib.Core.List.{List, [], _∷_, _++_, append-nil, append-assoc, List·Memᴰ, List·Memᴰ·head, List·Memᴰ·tail, List·Memᴰ·not-nil, List·Memᴰ·cases-cons, List·Memᴰ·append-cases, List·Memᴰ·eq-of-singleton, Memᴰ·cast, Memᴰ·append-left, Memᴰ·append-right}
+use mathlib.Core.List.{List, [], _∷_, _++_, append-nil, append-assoc, List·Memᴰ, List·Memᴰ·head, List·Memᴰ·not-nil, List·Memᴰ·append-cases, List·Memᴰ·eq-of-singleton, Memᴰ·append-left, Memᴰ·append-right}
 use mathlib.Core.Option.{Option, none, some, Option·none-ne-some, Option·some-injective}
 use lib.ListN.{length, length-append}
 use lib.Dec.{T, eqb}
@@ -19,7 +19,7 @@ use Rattle.engine.specs.declared.types.Association.{Association}
 use Rattle.fgo_spec.specs.Lists.{keep, any, has, find, assign}
 use Rattle.fgo_spec.specs.Windows.{Scan, Prefix, live}
 use Rattle.fgo_spec.specs.Placing.{Placing, freeOwner, placeTrack, placeOne, place}
-use Rattle.fgo_spec.specs.Owning.{isEngine, holderIn}
+use Rattle.fgo_spec.specs.Owning.{isEngine}
 use Rattle.fgo_spec.specs.Following.{sighted, sightedAll}
 use Rattle.fgo_spec.proofs.Counting.{count-append, count-cons, bump, bump-le, any-append}
 use Rattle.fgo_spec.proofs.Tables.{found-here, found-past, find-assign}

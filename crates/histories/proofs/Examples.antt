@@ -42,6 +42,7 @@ use Rattle.smoother_frame.specs.Frame.{headOk as formHead, trackOk as formTrack
 use Rattle.smoother_window.specs.declared.SmootherConfig.{SmootherConfig}
 use Rattle.smoother_pass.specs.Pass.{chain, runBack, smoothedAt, statesTo, emitted, stateAt, lastAt, trackState}
 use Rattle.smoother.specs.Smoother.{settle as settleFrame, emitOldest, push as pushSmoother, takes as takeSmoother}
+use Rattle.histories.specs.Audit.{idsIn, observed}
 use Rattle.histories.specs.Smoothed.{smoothing}
 
 -- a dot at (x, 2, 0.5) at time t, of engine id 7
@@ -138,3 +139,18 @@ pub stepped :
     ∷ []
 unfolding smoothedTwice
 stepped = refl
+
+-- ---- what was seen under an id, read off bodies and words alone
+
+-- the bodies, and what is written of them
+pub seenTwice : ℕ → List ℕ
+unfolding smoothedTwice observed idsIn
+seenTwice x =
+    map (λ d. bitsOf (d .x))
+    (observed x 0 (body Narrow (encode Narrow (dotted 0 0x3ff0_0000_0000_0000)) ∷ body Narrow (encode Narrow (dotted 100000000 0x3ff4_0000_0000_0000)) ∷ [])
+    (map written (run (lagging 0) (twice 100000000) .emitted)))
+
+-- both dots under 1, and none under 2
+pub seen-twice : (seenTwice 1 ≡ 0x3ff0_0000_0000_0000 ∷ 0x3ff4_0000_0000_0000 ∷ []) × (seenTwice 2 ≡ [])
+unfolding seenTwice
+seen-twice = (refl, refl)

@@ -45,7 +45,7 @@ flat-snoc g (b ∷ l) a = append-assoc (g b) (flatMap g l) (g a) ∙ ap (λ k. g
 -- ---- one frame's states
 
 module _ (e : Emitted) where
-  id-is : (i : ℕ) → i < length (e .tracks) → (a : At (e .tracks) i) → idWord (wordsOf e) i ≡ a .item .id
+  pub id-is : (i : ℕ) → i < length (e .tracks) → (a : At (e .tracks) i) → idWord (wordsOf e) i ≡ a .item .id
   id-is i h a = ap (λ n. getD (wordsOf e) n 0) (sym (add-zero _)) ∙ track-word e i h a 0
 
   -- where all tracks of the id x are the one that o gives, the last of them is it

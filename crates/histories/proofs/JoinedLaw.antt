@@ -16,7 +16,7 @@ use Rattle.buffers.proofs.Checking.{open-passed}
 use Rattle.engine.specs.declared.config.FgoConfig.{FgoConfig}
 use Rattle.engine.specs.Body.{Body}
 use Rattle.engine.proofs.Every.{both as each}
-use Rattle.fgo_spec.specs.Emitting.{Emitted, written}
+use Rattle.fgo_spec.specs.Emitting.{written}
 use Rattle.fgo_spec.specs.Lists.{keep}
 use Rattle.fgo_spec.specs.Rule.{All}
 use Rattle.fgo_spec.specs.History.{Sent, run}
@@ -38,7 +38,8 @@ use Rattle.histories.proofs.CallsLaw as calls
 use Rattle.histories.proofs.CallsLaw.{Numbered, more, refused-of, due-frame, operations-cons, operations-append, run-more, repliesTo, Known}
 use Rattle.histories.proofs.SmootherRun.{ran}
 use Rattle.histories.proofs.RefinedLaw as refined
-use Rattle.histories.proofs.SmoothedLaw.{Parts, parts, picked-map, sourced-frames, passes, both}
+use Rattle.histories.proofs.Parts.{around}
+use Rattle.histories.proofs.SmoothedLaw.{picked-map, sourced-frames, passes, both}
 
 -- ---- why a push or a take is refused
 
@@ -284,16 +285,9 @@ module _ (c : FgoConfig) (r : FixedLagRefiner) (m : Memory) (ks : List refiner.C
 
   -- a frame that the refiner wrote is well formed
   formed : (f : Written) (before after : List Written) → wrote ks ≡ before ++ (f ∷ after) → wellFormed TRACKS f ≡ true
-  formed f before after w = go (p .after) refl
-    where
-      p : Parts written (run c ops .emitted) before (f ∷ after)
-      p = parts written (run c ops .emitted) before (f ∷ after) (frames-are ∙ w)
-
-      go : (es : List Emitted) → p .after ≡ es → wellFormed TRACKS f ≡ true
-      go [] z = absurd (nil≢cons (ap (map written) (sym z) ∙ p .right))
-      go (e ∷ es) z =
-          let y = head-eq-of-cons-eq (ap (map written) (sym z) ∙ p .right) in
-          (λ i. wellFormed TRACKS (sym y i)) ∙ passes c ops bytes (p .before) e es (p .whole ∙ ap (λ es. p .before ++ es) z)
+  formed f before after w =
+      let p = around written (run c ops .emitted) before f after (frames-are ∙ w) in
+      (λ i. wellFormed TRACKS (sym (p .here) i)) ∙ passes c ops bytes (p .before) (p .item) (p .after) (p .whole)
 
   pub joined : (d : SmootherConfig) (s : FixedLagSmoother) (w : Window) (js : List Call) → Session d s w js → InOrder ks js → Joined c ks d js
   joined d s w js h o =

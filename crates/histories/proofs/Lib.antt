@@ -5,6 +5,7 @@ pub mod FrameSize
 pub mod RefinedLaw
 pub mod FinishCalls
 pub mod FinishLaw
+pub mod Parts
 pub mod Reading
 pub mod Fresh
 pub mod Formed
@@ -14,3 +15,4 @@ pub mod SmoothedLaw
 pub mod JoinedLaw
 pub mod FinishSmoothed
 pub mod Examples
+pub mod AuditLaw

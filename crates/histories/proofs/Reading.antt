@@ -9,6 +9,7 @@ use lib.Seq.{drop-length, drop-append-add, drop-drop, drop-at, getD-drop}
 use lib.Ieee.{Float, nan}
 use Rattle.bounds.specs.Bounds.{HEAD, TRACK, LINK, VECTOR, COVARIANCE, STATE}
 use Rattle.engine.specs.declared.types.Association.{Association}
+use Rattle.engine.specs.Frame.{noAssociation}
 use Rattle.engine.proofs.Laid.{length-flat}
 use Rattle.fgo_spec.specs.Emitting.{Listed, Emitted, trackWords, associationWords, associationsWords, headWords, wordsOf, trackNumbers, costNumber, numbersOf}
 use Rattle.smoother_frame.specs.Frame.{wordsLong, numbersLong}
@@ -65,6 +66,8 @@ pub record Associated (al : List Association) (is : List ℕ) (r : List ℕ) (j 
   pub item : Association
   pub id : ℕ
   pub after : List ℕ
+  pub at : getD al j noAssociation ≡ item
+  pub under : getD is j 0 ≡ id
   pub words : drop (LINK * j) (associationsWords al is ++ r) ≡ associationWords item id ++ after
   pub cost : getD (map (λ a. costNumber (a .cost)) al) j nan ≡ costNumber (item .cost)
 
@@ -73,12 +76,12 @@ unfolding associationsWords
 association [] is r j e h = absurd (omega arith)
 association (a ∷ al) [] r j e h = absurd (omega arith)
 association (a ∷ al) (i ∷ is) r zero e h =
-    record { item = a; id = i; after = associationsWords al is ++ r; words = ap (λ n. drop n (associationsWords (a ∷ al) (i ∷ is) ++ r)) (mul-zero LINK); cost = refl }
+    record { item = a; id = i; after = associationsWords al is ++ r; at = refl; under = refl; words = ap (λ n. drop n (associationsWords (a ∷ al) (i ∷ is) ++ r)) (mul-zero LINK); cost = refl }
 association (a ∷ al) (i ∷ is) r (suc j) e h =
     let b = association al is r j (omega arith) (omega arith) in
     let n : LINK * suc j ≡ LINK + LINK * j = omega arith in
     let l = associationsWords (a ∷ al) (i ∷ is) ++ r in
-    record { item = b .item; id = b .id; after = b .after; words = ap (λ k. drop k l) n ∙ sym (drop-drop (LINK * j) LINK l) ∙ b .words; cost = b .cost }
+    record { item = b .item; id = b .id; after = b .after; at = b .at; under = b .under; words = ap (λ k. drop k l) n ∙ sym (drop-drop (LINK * j) LINK l) ∙ b .words; cost = b .cost }
 
 associations-length : (al : List Association) (is : List ℕ) → length is ≡ length al → length (associationsWords al is) ≡ LINK * length al
 unfolding associationsWords
@@ -102,19 +105,22 @@ module _ (e : Emitted) where
   abbrev costs : List Float
   costs = map (λ a. costNumber (a .cost)) ass
 
+  pub track-words :
+      (i : ℕ) → i < length tracks → (a : At tracks i) → drop (HEAD + TRACK * i) (wordsOf e) ≡ trackWords (a .item) ++ (flatMap trackWords (a .after) ++ rest)
+  unfolding wordsOf
+  track-words i h a =
+      drop-append-add (headWords e) (flatMap trackWords tracks ++ rest) (TRACK * i) ∙ row-at trackWords TRACK (λ l. refl) tracks rest i h a
+
   pub track-word :
       (i : ℕ) → i < length tracks → (a : At tracks i) (k : ℕ) →
       getD (wordsOf e) (HEAD + TRACK * i + k) 0 ≡ getD (trackWords (a .item) ++ (flatMap trackWords (a .after) ++ rest)) k 0
-  unfolding wordsOf
-  track-word i h a k =
-      place (wordsOf e) _ (HEAD + TRACK * i) k 0
-      (drop-append-add (headWords e) (flatMap trackWords tracks ++ rest) (TRACK * i) ∙ row-at trackWords TRACK (λ l. refl) tracks rest i h a)
+  track-word i h a k = place (wordsOf e) _ (HEAD + TRACK * i) k 0 (track-words i h a)
 
   words-past : drop (HEAD + TRACK * length tracks) (wordsOf e) ≡ rest
   unfolding wordsOf
   words-past = drop-append-add (headWords e) (flatMap trackWords tracks ++ rest) (TRACK * length tracks) ∙ rows-past trackWords TRACK (λ l. refl) tracks rest
 
-  track-numbers : (i : ℕ) → i < length tracks → (a : At tracks i) → drop (STATE * i) (numbersOf e) ≡ trackNumbers (a .item) ++ (flatMap trackNumbers (a .after) ++ costs)
+  pub track-numbers : (i : ℕ) → i < length tracks → (a : At tracks i) → drop (STATE * i) (numbersOf e) ≡ trackNumbers (a .item) ++ (flatMap trackNumbers (a .after) ++ costs)
   unfolding numbersOf
   track-numbers i h a = row-at trackNumbers STATE (λ l. refl) tracks costs i h a
 
@@ -130,12 +136,15 @@ module _ (e : Emitted) where
       let f = sym (drop-drop VECTOR (STATE * i) (numbersOf e)) ∙ ap (drop VECTOR) d in
       λ j. record { x = take VECTOR (d j); p = take COVARIANCE (f j) }
 
+  pub association-words :
+      (j : ℕ) (a : Associated ass (e .scan .ids) (e .scan .frame .sensors) j) →
+      drop (HEAD + TRACK * length tracks + LINK * j) (wordsOf e) ≡ associationWords (a .item) (a .id) ++ a .after
+  association-words j a = sym (drop-drop (LINK * j) (HEAD + TRACK * length tracks) (wordsOf e)) ∙ ap (drop (LINK * j)) words-past ∙ a .words
+
   pub association-word :
       (j : ℕ) (a : Associated ass (e .scan .ids) (e .scan .frame .sensors) j) (k : ℕ) →
       getD (wordsOf e) (HEAD + TRACK * length tracks + LINK * j + k) 0 ≡ getD (associationWords (a .item) (a .id) ++ a .after) k 0
-  association-word j a k =
-      place (wordsOf e) _ (HEAD + TRACK * length tracks + LINK * j) k 0
-      (sym (drop-drop (LINK * j) (HEAD + TRACK * length tracks) (wordsOf e)) ∙ ap (drop (LINK * j)) words-past ∙ a .words)
+  association-word j a k = place (wordsOf e) _ (HEAD + TRACK * length tracks + LINK * j) k 0 (association-words j a)
 
   pub cost-number : (j : ℕ) → getD (numbersOf e) (STATE * length tracks + j) nan ≡ getD costs j nan
   cost-number j = place (numbersOf e) costs (STATE * length tracks) j nan numbers-past

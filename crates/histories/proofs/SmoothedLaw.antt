@@ -8,7 +8,7 @@ use lib.ListN.{length, length-append, length-map}
 use Rattle.bounds.specs.Bounds.{TRACKS}
 use Rattle.buffers.specs.Answer.{Op, Written}
 use Rattle.buffers.specs.Run.{Run, step}
-use Rattle.buffers.proofs.Running.{run-snoc, step-stays}
+use Rattle.buffers.proofs.Running.{run-snoc, accepted-grows, step-stays}
 use Rattle.engine.specs.declared.config.FgoConfig.{FgoConfig}
 use Rattle.engine.specs.Body.{Body}
 use Rattle.fgo_spec.specs.Emitting.{Emitted, written}
@@ -22,27 +22,11 @@ use Rattle.smoother_window.specs.Config.{lag, most}
 use Rattle.smoother_pass.specs.Pass.{emitted}
 use Rattle.smoother.specs.Smoother.{State, new, held, settle, pushBy, push, reply}
 use Rattle.histories.specs.Smoothed.{smoothing, Sourced, handed, sourcedAfter, sourced, picked, Smoothed, Both, Passes}
-use Rattle.histories.proofs.SmootherRun.{Block, ran, last-left, accepted-grows, reply-stays}
+use Rattle.histories.proofs.SmootherRun.{Block, ran, last-left, reply-stays}
+use Rattle.histories.proofs.Parts.{Parts, parts}
 use Rattle.histories.proofs.Fresh.{Known, emitted-fresh}
 use Rattle.histories.proofs.Formed.{well}
 use Rattle.histories.proofs.Bodies.{fine}
-
--- a list whose image is in two parts is in two parts
-pub record Parts {A B : Type 0} (g : A → B) (l : List A) (front rest : List B) : Type 0 where
-  pub before : List A
-  pub after : List A
-  pub whole : l ≡ before ++ after
-  pub left : map g before ≡ front
-  pub right : map g after ≡ rest
-
-pub parts : {A B : Type 0} (g : A → B) (l : List A) (front rest : List B) → map g l ≡ front ++ rest → Parts g l front rest
-parts g l [] rest e = record { before = []; after = l; whole = refl; left = refl; right = e }
-parts g [] (b ∷ front) rest e = absurd (nil≢cons e)
-parts g (a ∷ l) (b ∷ front) rest e =
-    let p = parts g l front rest (tail-eq-of-cons-eq e) in
-    let h = head-eq-of-cons-eq e in
-    let q = p .left in
-    record { before = a ∷ p .before; after = p .after; whole = ap (λ k. a ∷ k) (p .whole); left = λ i. h i ∷ q i; right = p .right }
 
 -- ---- some of a list
 
@@ -134,7 +118,7 @@ module _ (c : FgoConfig) (ops : List (Op Body)) (sent : All Sent ops) where
         let n = length (smoothing d earlier .emitted) in
         let e : smoothing d os′ ≡ step (λ f. f) reply (smoothing d earlier) k = run-snoc (λ f. f) reply (new d) earlier k in
         let b = last-left d earlier k o (ap (λ r. r .emitted) (sym e) ∙ g) in
-        let m = accepted-grows d os′ later in
+        let m = accepted-grows (λ f. f) reply (new d) os′ later in
         let q = parts handed first (smoothing d os′ .accepted) (m .0)
         (sym a ∙ ap (λ l. smoothing d l .accepted) (p ∙ sym (append-assoc earlier (k ∷ []) later)) ∙ m .1) in
         smoothed-of (q .before) (q .after) (q .whole) (smoothing d os′ .accepted) (q .left) n o (subst (λ l. Block d l n o) (ap (λ r. r .accepted) (sym e)) b)

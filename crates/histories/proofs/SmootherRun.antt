@@ -3,7 +3,7 @@ use Prim.Native.Nat.{ℕ, _+_, _≤_}
 use native.Mathlib.Omega.{arith}
 use mathlib.Core.Path.{_≡_, refl, sym, ap, _∙_, subst}
 use mathlib.Core.Bool.{Bool, true, false, true≢false}
-use mathlib.Core.List.{List, [], _∷_, _++_, foldl, foldl-append, append-nil, append-assoc, append-cancel-left, head-eq-of-cons-eq, nil≢cons}
+use mathlib.Core.List.{List, [], _∷_, _++_, append-nil, append-assoc, append-cancel-left, head-eq-of-cons-eq, nil≢cons}
 use lib.ListN.{length, length-append}
 use lib.Dec.{ltb}
 use borrow.Author.Tests.{ltb-true, ltb-false}
@@ -196,22 +196,6 @@ module _ (d : SmootherConfig) where
       let r = smoothing d os in
       let i = ran os in
       gave (r .state .frames) (r .accepted) (r .emitted) (more k) (Steps r k) (short k) (i .kept) (calls-does r i k) o h
-
-  -- ---- what has been accepted stays
-
-  grows : (r : Run Written Written State) (more : List (Op Written)) → (rest : List Written) × (foldl Steps r more .accepted ≡ r .accepted ++ rest)
-  unfolding step
-  grows r [] = ([], sym (append-nil (r .accepted)))
-  grows r (o ∷ more) =
-      let g = grows (Steps r o) more in
-      let fs = acceptedBy (λ f. f) o (refusalIn (reply (r .state) o .0)) in
-      (fs ++ g .0, g .1 ∙ append-assoc (r .accepted) fs (g .0))
-
-  pub accepted-grows : (os more : List (Op Written)) → (rest : List Written) × (smoothing d (os ++ more) .accepted ≡ smoothing d os .accepted ++ rest)
-  unfolding runFrom
-  accepted-grows os more =
-      let g = grows (foldl Steps (begin (new d)) os) more in
-      (g .0, ap (λ r. r .accepted) (foldl-append Steps (begin (new d)) os more) ∙ g .1)
 
 -- ---- a push or a take that is refused changes nothing
 

@@ -1,4 +1,5 @@
 pub mod Calls
 pub mod Refined
+pub mod Audit
 pub mod Smoothed
 pub mod Joined

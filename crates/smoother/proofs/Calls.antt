@@ -1,5 +1,5 @@
 -- The ways through opening, push and take, each with its promise. Assumes nothing.
-use Prim.Native.Nat.{ℕ, zero, suc, _+_, _-_, _≤_, _<_}
+use Prim.Native.Nat.{ℕ, _+_, _-_, _≤_, _<_}
 use mathlib.Core.Path.{_≡_, refl, sym, ap, _∙_, subst}
 use mathlib.Core.Bool.{true, false}
 use mathlib.Core.List.{List, [], _∷_, _++_}
@@ -9,7 +9,7 @@ use lib.ListN.{length}
 use lib.Ieee.{Float}
 use borrow.Author.Tests.{lt-ltb, le-ltb}
 use Rattle.buffers.specs.declared.Answer.the-variants.{Held}
-use Rattle.buffers.specs.Answer.{Op, pushed, Reply, refused, waits, gives, Written, Ends, checked}
+use Rattle.buffers.specs.Answer.{Op, pushed, refused, waits, gives, Written, Ends, checked}
 use Rattle.buffers.proofs.Checking.{check-refused}
 use Rattle.smoother_frame.specs.Frame.{wellFormed}
 use Rattle.smoother_window.specs.declared.FixedLagSmoother.{FixedLagSmoother}

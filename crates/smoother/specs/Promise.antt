@@ -1,5 +1,5 @@
 -- What opening, push and take promise, for any values that a caller hands over. Definitions only.
-use Prim.Native.Nat.{ℕ, zero, suc}
+use Prim.Native.Nat.{ℕ}
 use mathlib.Core.Path.{_≡_}
 use mathlib.Core.Bool.{cond, _&&_}
 use mathlib.Core.List.{List}

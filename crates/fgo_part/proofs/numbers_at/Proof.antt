@@ -2,7 +2,7 @@
 use Prim.Native.Nat.{_+_, _*_}
 use mathlib.Core.Path.{_≡_, sym, _∙_}
 use lib.ListN.{length}
-use Rattle.bounds.specs.Bounds.{PART, KF, HEIGHTS, FILTER}
+use Rattle.bounds.specs.Bounds.{FILTER}
 use Rattle.fgo_spec.specs.Lists.{segment}
 use Rattle.fgo_part.proofs.Parts.{segment-long, over-all}
 use borrow.Author.Needs.{needs}
