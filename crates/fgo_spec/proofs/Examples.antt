@@ -51,10 +51,10 @@ pub predicted-from : (l : Listed) → (l .age ≡ negsuc 0 → predictionOnly l 
 predicted-from l = (λ e. rw e, λ e. rw e, λ e. rw e)
 
 -- "at a squared distance below radius²": 1.5 metres are not below 1.5, and 1.25 are
-abbrev spot : ℕ → Detection
-spot x = let o = ofBits binary64 0 in record { scan = 0; time = pos 0; x = ofBits binary64 x; y = o; z = o; class = Unknown }
+abbrev pub spot : ℕ → ℕ → Detection
+spot n x = let o = ofBits binary64 0 in record { scan = n; time = pos 0; x = ofBits binary64 x; y = o; z = o; class = Unknown }
 
-pub close-below : (close defaults 0 [] (spot 0) (spot 0x3ff8_0000_0000_0000) ≡ false) × (close defaults 0 [] (spot 0) (spot 0x3ff4_0000_0000_0000) ≡ true)
+pub close-below : (close defaults 0 [] (spot 0 0) (spot 0 0x3ff8_0000_0000_0000) ≡ false) × (close defaults 0 [] (spot 0 0) (spot 0 0x3ff4_0000_0000_0000) ≡ true)
 unfolding close add sub mul lt round ofBits neg sum units odd size span climb ofFields trailingZeros
 close-below = (refl, refl)
 
@@ -86,9 +86,9 @@ body t l =
       bytes = (0 ∷ 0 ∷ length l ∷ length l ∷ bytesOf 4 0) ++ (bytesOf 8 t ++ (flatMap spotBytes l ++ sightBytes 0 l));
     }
 
--- default settings, with another lag
-abbrev pub lagging : ℕ → FgoConfig
-lagging n =
+-- default settings, with another lag and another max_passes
+abbrev pub tuned : ℕ → ℕ → FgoConfig
+tuned n k =
     record {
       «lag_frames» = n;
       «radius_m» = defaults .«radius_m»;
@@ -100,8 +100,12 @@ lagging n =
       «initial_velocity_variance» = defaults .«initial_velocity_variance»;
       «coast_ns» = defaults .«coast_ns»;
       «forget_after_ns» = defaults .«forget_after_ns»;
-      «max_passes» = defaults .«max_passes»;
+      «max_passes» = k;
     }
+
+-- with another lag
+abbrev pub lagging : ℕ → FgoConfig
+lagging n = tuned n (defaults .«max_passes»)
 
 -- "swaps, merges, splits, drops"
 unfoldable pub counts : Run Frame Emitted State → List ℕ

@@ -28,5 +28,6 @@ pub mod Following
 pub mod Finishing
 pub mod Lettered
 pub mod Examples
+pub mod Pinned
 pub mod Spreads
 pub mod Rows
