@@ -207,11 +207,11 @@ passes-are = refl
 
 -- ---- heights
 
--- "their mean adds them oldest first, beginning with the oldest itself": -0.0 twice; and of 2^53, 1, 1 and 0 each 1 is lost
+-- "their mean adds them oldest first, beginning with the oldest itself": of -0.0 twice it is -0.0; of 1, 2^53 and -2^53 it is 0, since the 1 is lost
 pub means-are :
     map (λ hs. bitsOf (mean (map (ofBits binary64) hs)))
-    ((0x8000_0000_0000_0000 ∷ 0x8000_0000_0000_0000 ∷ []) ∷ (0x4340_0000_0000_0000 ∷ 0x3ff0_0000_0000_0000 ∷ 0x3ff0_0000_0000_0000 ∷ 0 ∷ []) ∷ [])
-    ≡ 0x8000_0000_0000_0000 ∷ 0x4320_0000_0000_0000 ∷ []
+    ((0x8000_0000_0000_0000 ∷ 0x8000_0000_0000_0000 ∷ []) ∷ (0x3ff0_0000_0000_0000 ∷ 0x4340_0000_0000_0000 ∷ 0xc340_0000_0000_0000 ∷ []) ∷ [])
+    ≡ 0x8000_0000_0000_0000 ∷ 0 ∷ []
 unfolding shown
 means-are = refl
 
