@@ -15,37 +15,37 @@ module _ (N : Num) (X : Exact N) where
   infixl 70 _⊗_ _⊘_
   twice : (x y : F) → two ⊗ x ⊗ y ≡ x ⊗ y ⊕ x ⊗ y
   twice x y =
-      ap (λ (w : F). w ⊗ x ⊗ y) (X .two-is)
-      ∙ ap (λ (w : F). w ⊗ y) (Algebra.add-mul N X one one x ∙ ap₂ _⊕_ (X .one-mul x) (X .one-mul x))
+      ap (λ (w : F). w ⊗ x ⊗ y) (X .field .two-is)
+      ∙ ap (λ (w : F). w ⊗ y) (Algebra.add-mul N X one one x ∙ ap₂ _⊕_ (X .field .one-mul x) (X .field .one-mul x))
       ∙ Algebra.add-mul N X x x y
 
   inside : (x y : F) → x ⊗ y ⊗ x ≡ x ⊗ x ⊗ y
-  inside x y = X .mul-assoc x y x ∙ ap (λ (w : F). x ⊗ w) (X .mul-comm y x) ∙ sym (X .mul-assoc x x y)
+  inside x y = X .field .mul-assoc x y x ∙ ap (λ (w : F). x ⊗ w) (X .field .mul-comm y x) ∙ sym (X .field .mul-assoc x x y)
 
   -- p + 2·dt·r + dt·dt·s = (p + dt·r) + (r + dt·s)·dt
   p00-is : (p r s dt : F) → p ⊕ two ⊗ dt ⊗ r ⊕ dt ⊗ dt ⊗ s ≡ p ⊕ dt ⊗ r ⊕ (r ⊕ dt ⊗ s) ⊗ dt
   p00-is p r s dt =
       ap (λ (w : F). p ⊕ w ⊕ dt ⊗ dt ⊗ s) (twice dt r)
-      ∙ ap (λ (w : F). w ⊕ dt ⊗ dt ⊗ s) (sym (X .add-assoc p (dt ⊗ r) (dt ⊗ r)))
-      ∙ X .add-assoc (p ⊕ dt ⊗ r) (dt ⊗ r) (dt ⊗ dt ⊗ s)
-      ∙ ap (λ (w : F). p ⊕ dt ⊗ r ⊕ w) (sym (Algebra.add-mul N X r (dt ⊗ s) dt ∙ ap₂ _⊕_ (X .mul-comm r dt) (inside dt s)))
+      ∙ ap (λ (w : F). w ⊕ dt ⊗ dt ⊗ s) (sym (X .field .add-assoc p (dt ⊗ r) (dt ⊗ r)))
+      ∙ X .field .add-assoc (p ⊕ dt ⊗ r) (dt ⊗ r) (dt ⊗ dt ⊗ s)
+      ∙ ap (λ (w : F). p ⊕ dt ⊗ r ⊕ w) (sym (Algebra.add-mul N X r (dt ⊗ s) dt ∙ ap₂ _⊕_ (X .field .mul-comm r dt) (inside dt s)))
 
   -- x⁻ = F x
   pub predicts-state : (dt : F) (a : Axis F) → vecOf (Plain.predictAxis N dt a) ≡ Textbook.predictState N dt (vecOf a)
-  predicts-state dt a = simp (X .one-mul, Algebra.zero-mul N X, Algebra.zero-add N X)
+  predicts-state dt a = simp (X .field .one-mul, Algebra.zero-mul N X, Algebra.zero-add N X)
 
   -- P⁻ = F P Fᵀ + Q
   pub predicts-covariance : (q dt : F) (p : Cov F) → matOf (Plain.predictCov N q dt p) ≡ Textbook.predictCovariance N q dt (matOf p)
   predicts-covariance q dt p =
-      simp (X .one-mul, Algebra.mul-one N X, Algebra.zero-mul N X, Algebra.mul-zero N X, Algebra.zero-add N X)
-      (rw (p00-is (p .p00) (p .p01) (p .p11) dt, X .mul-comm (p .p11) dt, X .mul-assoc q dt dt))
+      simp (X .field .one-mul, Algebra.mul-one N X, Algebra.zero-mul N X, Algebra.mul-zero N X, Algebra.zero-add N X)
+      (rw (p00-is (p .p00) (p .p01) (p .p11) dt, X .field .mul-comm (p .p11) dt, X .field .mul-assoc q dt dt))
 
   module _ (r : F) (p : Cov F) (above : lt zero (p .p00 ⊕ r) ≡ true) where
     first : (x y : F) → one ⊗ x ⊕ zero ⊗ y ≡ x
-    first x y = simp (X .one-mul, Algebra.zero-mul N X, X .add-zero)
+    first x y = simp (X .field .one-mul, Algebra.zero-mul N X, X .field .add-zero)
 
     column-is : Textbook.apply N (matOf p) (Textbook.H N) ≡ record { a = p .p00; b = p .p01 }
-    column-is = simp (Algebra.mul-one N X, Algebra.mul-zero N X, X .add-zero)
+    column-is = simp (Algebra.mul-one N X, Algebra.mul-zero N X, X .field .add-zero)
 
     -- H P Hᵀ + R is s
     S-is : Textbook.S N r (matOf p) ≡ p .p00 ⊕ r
@@ -69,15 +69,15 @@ module _ (N : Num) (X : Exact N) where
         (ap (λ (w : F). w ⊗ p .p00) (Algebra.div-is N X (p .p01) (p .p00 ⊕ r) above)
         ∙ turn (p .p01) (one ⊘ (p .p00 ⊕ r)) (p .p00)
         ∙ ap (λ (w : F). w ⊗ p .p01) (sym (Algebra.div-is N X (p .p00) (p .p00 ⊕ r) above)))
-        ∙ sym (Algebra.sub-mul N X one (p .p00 ⊘ (p .p00 ⊕ r)) (p .p01) ∙ ap (λ (w : F). w ⊖ p .p00 ⊘ (p .p00 ⊕ r) ⊗ p .p01) (X .one-mul (p .p01)))
+        ∙ sym (Algebra.sub-mul N X one (p .p00 ⊘ (p .p00 ⊕ r)) (p .p01) ∙ ap (λ (w : F). w ⊖ p .p00 ⊘ (p .p00 ⊕ r) ⊗ p .p01) (X .field .one-mul (p .p01)))
       where
         turn : (x y w : F) → x ⊗ y ⊗ w ≡ w ⊗ y ⊗ x
-        turn x y w = X .mul-comm (x ⊗ y) w ∙ ap (λ (v : F). w ⊗ v) (X .mul-comm x y) ∙ sym (X .mul-assoc w y x)
+        turn x y w = X .field .mul-comm (x ⊗ y) w ∙ ap (λ (v : F). w ⊗ v) (X .field .mul-comm x y) ∙ sym (X .field .mul-assoc w y x)
 
     lower : (k d e : F) → (zero ⊖ k) ⊗ d ⊕ e ≡ e ⊖ k ⊗ d
     lower k d e =
         ap (λ (w : F). w ⊕ e) (Algebra.sub-mul N X zero k d ∙ ap (λ (w : F). w ⊖ k ⊗ d) (Algebra.zero-mul N X d))
-        ∙ X .add-comm (zero ⊖ k ⊗ d) e
+        ∙ X .field .add-comm (zero ⊖ k ⊗ d) e
         ∙ sym (Algebra.sub-is N X e (k ⊗ d))
 
     -- P = (I − K H) P⁻
@@ -85,7 +85,7 @@ module _ (N : Num) (X : Exact N) where
     updates-covariance =
         sym
         (ap (λ (k : Vec F). Textbook.times N (Textbook.minus N (Textbook.identity N) (Textbook.outer N k (Textbook.H N))) (matOf p)) K-is
-        ∙ simp (X .one-mul, Algebra.mul-one N X, Algebra.mul-zero N X, Algebra.sub-zero N X, Algebra.zero-mul N X, X .add-zero, lower)
+        ∙ simp (X .field .one-mul, Algebra.mul-one N X, Algebra.mul-zero N X, Algebra.sub-zero N X, Algebra.zero-mul N X, X .field .add-zero, lower)
         (λ i. record {
           aa = (one ⊖ p .p00 ⊘ (p .p00 ⊕ r)) ⊗ p .p00;
           ab = (one ⊖ p .p00 ⊘ (p .p00 ⊕ r)) ⊗ p .p01;

@@ -10,7 +10,7 @@ use lib.ListN.{getD}
 use lib.Dec.{eqb, ltb, leb}
 use borrow.Author.Tests.{eq-eqb, ne-eqb, lt-ltb, le-ltb, leb-true, leb-false}
 use Rattle.scalar.specs.Num.{Num, Exact}
-use Rattle.scalar.proofs.Algebra.{mul-zero, zero-mul}
+use Rattle.scalar.proofs.Algebra.{mul-zero, zero-mul, div-mul}
 use Rattle.linalg.specs.Grown.{grown, backed}
 use Rattle.linalg.specs.Matrix.{at, entry, unit, identity, mul, transpose}
 use Rattle.linalg.specs.Cholesky.{less, low, reduced, factorColumn, columns, cholesky, positive, forward, backward, inverse}
@@ -102,7 +102,7 @@ module _ (N : Num) (X : Exact N) (a : List (N .F)) (good : positive N a ≡ true
       (and-eq-true-iff (p 4) (p 5) .0 after4 .1)
 
   divisor : (j : ℕ) → j < 6 → lt nought (L N a j j) ≡ true
-  divisor j h = ap (lt nought) (diagonal N a j h) ∙ X .root-above (left N a j j) (pivots j h)
+  divisor j h = ap (lt nought) (diagonal N a j h) ∙ X .roots .root-above (left N a j j) (pivots j h)
 
   -- L(i,j) · L(j,j) is what is left of column j
   scaled : (i j : ℕ) → j ≤ i → i < 6 → L N a i j ⊗ L N a j j ≡ left N a j i
@@ -112,11 +112,11 @@ module _ (N : Num) (X : Exact N) (a : List (N .F)) (good : positive N a ≡ true
       go (inl e) =
           ap (λ m. L N a m j ⊗ L N a j j) (sym e)
           ∙ ap₂ _⊗_ (diagonal N a j (omega arith)) (diagonal N a j (omega arith))
-          ∙ X .root-mul (left N a j j) (pivots j (omega arith))
+          ∙ X .roots .root-mul (left N a j j) (pivots j (omega arith))
           ∙ ap (left N a j) e
       go (inr o) =
           ap (λ (x : F). x ⊗ L N a j j) (below N a i j (omega arith) g)
-          ∙ X .div-mul (left N a j i) (L N a j j) (divisor j (omega arith))
+          ∙ div-mul N X (left N a j i) (L N a j j) (divisor j (omega arith))
 
   -- L Lᵀ on and below the diagonal
   lower : (i j : ℕ) → j ≤ i → i < 6 → prod N X 6 (L N a) (λ k m. L N a m k) i j ≡ entry N a i j
@@ -126,8 +126,8 @@ module _ (N : Num) (X : Exact N) (a : List (N .F)) (good : positive N a ≡ true
       let e : 6 ≡ suc j + (5 - j) = omega arith in
       ap (sum N X t) e
       ∙ sum-head N X t (suc j) (5 - j) (λ k p q. ap (λ (x : F). L N a i k ⊗ x) (above N a j k (omega arith) (omega arith)) ∙ mul-zero N X (L N a i k))
-      ∙ ap₂ _⊕_ (sum-ext N X t (λ k. L N a j k ⊗ L N a i k) j (λ k p. X .mul-comm (L N a i k) (L N a j k))) (scaled i j h g)
-      ∙ X .add-comm (sum N X (λ k. L N a j k ⊗ L N a i k) j) (left N a j i)
+      ∙ ap₂ _⊕_ (sum-ext N X t (λ k. L N a j k ⊗ L N a i k) j (λ k p. X .field .mul-comm (L N a i k) (L N a j k))) (scaled i j h g)
+      ∙ X .field .add-comm (sum N X (λ k. L N a j k ⊗ L N a i k) j) (left N a j i)
       ∙ less-sum N X (λ k. L N a j k) (λ k. L N a i k) (entry N a i j) j
 
   -- the factor as a matrix
@@ -165,11 +165,11 @@ module _ (N : Num) (X : Exact N) (a : List (N .F)) (good : positive N a ≡ true
       let s : less N (λ k. E i k) (λ k. at N (grown (ahead c) i) k) b i ≡ r =
       less-ext N (λ k. E i k) (λ k. E i k) (λ k. at N (grown (ahead c) i) k) y b i (λ k p. refl) (λ k p. grown-stays past (ahead c) i 6 k p (omega arith)) in
       let w : y i ≡ r ⊘ E i i = grown-at past (ahead c) 6 i h ∙ ap (λ (x : F). x ⊘ E i i) s in
-      let m : E i i ⊗ y i ≡ r = X .mul-comm (E i i) (y i) ∙ ap (λ (x : F). x ⊗ E i i) w ∙ X .div-mul r (E i i) (divides i h) in
+      let m : E i i ⊗ y i ≡ r = X .field .mul-comm (E i i) (y i) ∙ ap (λ (x : F). x ⊗ E i i) w ∙ div-mul N X r (E i i) (divides i h) in
       ap (sum N X t) e
       ∙ sum-head N X t (suc i) (5 - i) (λ k p q. ap (λ (x : F). x ⊗ y k) (zero-above i k (omega arith) (omega arith)) ∙ zero-mul N X (y k))
       ∙ ap (λ (x : F). sum N X t i ⊕ x) m
-      ∙ X .add-comm (sum N X t i) r
+      ∙ X .field .add-comm (sum N X t i) r
       ∙ less-sum N X (λ k. E i k) y b i
 
   -- backward: Lᵀ z is y
@@ -204,7 +204,7 @@ module _ (N : Num) (X : Exact N) (a : List (N .F)) (good : positive N a ≡ true
       (λ k g. let p : i + 1 + k ≡ i + suc k = omega arith in ap (λ m. E m i) p)
       (λ k g. rest y i k h g)) in
       let b : x i ≡ r ⊘ E i i = backed-at past (behind y) 6 i h ∙ ap (λ m. behind y m (backed (behind y) m)) q ∙ d in
-      let m : E i i ⊗ x i ≡ r = X .mul-comm (E i i) (x i) ∙ ap (λ (w : F). w ⊗ E i i) b ∙ X .div-mul r (E i i) (divides i h) in
+      let m : E i i ⊗ x i ≡ r = X .field .mul-comm (E i i) (x i) ∙ ap (λ (w : F). w ⊗ E i i) b ∙ div-mul N X r (E i i) (divides i h) in
       ap (sum N X t) e
       ∙ sum-tail N X t i (suc n) (λ k p. ap (λ (w : F). w ⊗ x k) (zero-above k i p h) ∙ zero-mul N X (x k))
       ∙ sum-cons N X (λ k. t (i + k)) n

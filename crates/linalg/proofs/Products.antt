@@ -21,10 +21,10 @@ module _ (N : Num) (X : Exact N) (n : ℕ) where
   prod-assoc a b c i j =
       sum-ext N X (λ k. prod a b i k ⊗ c k j) (λ k. sum N X (λ m. a i m ⊗ (b m k ⊗ c k j)) n) n
       (λ k h.
-      X .mul-comm (prod a b i k) (c k j)
+      X .field .mul-comm (prod a b i k) (c k j)
       ∙ sum-mul N X (c k j) (λ m. a i m ⊗ b m k) n
       ∙ sum-ext N X (λ m. c k j ⊗ (a i m ⊗ b m k)) (λ m. a i m ⊗ (b m k ⊗ c k j)) n
-      (λ m g. X .mul-comm (c k j) (a i m ⊗ b m k) ∙ X .mul-assoc (a i m) (b m k) (c k j)))
+      (λ m g. X .field .mul-comm (c k j) (a i m ⊗ b m k) ∙ X .field .mul-assoc (a i m) (b m k) (c k j)))
       ∙ sum-swap N X (λ k m. a i m ⊗ (b m k ⊗ c k j)) n n
       ∙ sum-ext N X (λ m. sum N X (λ k. a i m ⊗ (b m k ⊗ c k j)) n) (λ m. a i m ⊗ prod b c m j) n
       (λ m g. sym (sum-mul N X (a i m) (λ k. b m k ⊗ c k j) n))
@@ -34,7 +34,7 @@ module _ (N : Num) (X : Exact N) (n : ℕ) where
 
   -- the transpose of a product
   pub prod-flip : (a b : ℕ → ℕ → F) (i j : ℕ) → prod a b j i ≡ prod (λ k m. b m k) (λ k m. a m k) i j
-  prod-flip a b i j = sum-ext N X (λ k. a j k ⊗ b k i) (λ k. b k i ⊗ a j k) n (λ k h. X .mul-comm (a j k) (b k i))
+  prod-flip a b i j = sum-ext N X (λ k. a j k ⊗ b k i) (λ k. b k i ⊗ a j k) n (λ k h. X .field .mul-comm (a j k) (b k i))
 
   unit-same : (i : ℕ) → unit N i i ≡ one
   unit-same i = rw (eq-eqb i i refl)
@@ -54,7 +54,7 @@ module _ (N : Num) (X : Exact N) (n : ℕ) where
       sum-pick N X (λ k. unit N i k ⊗ b k j) i n h
       (λ k g q. ap (λ (x : F). x ⊗ b k j) (unit-other i k (λ e. q (sym e))) ∙ zero-mul N X (b k j))
       ∙ ap (λ (x : F). x ⊗ b i j) (unit-same i)
-      ∙ X .one-mul (b i j)
+      ∙ X .field .one-mul (b i j)
 
   unit-right : (b : ℕ → ℕ → F) (i j : ℕ) → j < n → prod b (unit N) i j ≡ b i j
   unit-right b i j h =

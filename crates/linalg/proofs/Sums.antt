@@ -21,9 +21,9 @@ module _ (N : Num) (X : Exact N) where
   -- (a + b) + (c + d) = (a + c) + (b + d)
   middle : (a b c d : F) → a ⊕ b ⊕ (c ⊕ d) ≡ a ⊕ c ⊕ (b ⊕ d)
   middle a b c d =
-      X .add-assoc a b (c ⊕ d)
-      ∙ ap (λ (x : F). a ⊕ x) (sym (X .add-assoc b c d) ∙ ap (λ (x : F). x ⊕ d) (X .add-comm b c) ∙ X .add-assoc c b d)
-      ∙ sym (X .add-assoc a c (b ⊕ d))
+      X .field .add-assoc a b (c ⊕ d)
+      ∙ ap (λ (x : F). a ⊕ x) (sym (X .field .add-assoc b c d) ∙ ap (λ (x : F). x ⊕ d) (X .field .add-comm b c) ∙ X .field .add-assoc c b d)
+      ∙ sym (X .field .add-assoc a c (b ⊕ d))
 
   pub sum-ext : (f g : ℕ → F) (n : ℕ) → ((k : ℕ) → k < n → f k ≡ g k) → sum f n ≡ sum g n
   unfolding sum
@@ -32,18 +32,18 @@ module _ (N : Num) (X : Exact N) where
 
   sum-add : (f g : ℕ → F) (n : ℕ) → sum (λ k. f k ⊕ g k) n ≡ sum f n ⊕ sum g n
   unfolding sum
-  sum-add f g zero = sym (X .add-zero nought)
+  sum-add f g zero = sym (X .field .add-zero nought)
   sum-add f g (suc n) = ap (λ (x : F). x ⊕ (f n ⊕ g n)) (sum-add f g n) ∙ middle (sum f n) (sum g n) (f n) (g n)
 
   sum-nought : (f : ℕ → F) (n : ℕ) → ((k : ℕ) → k < n → f k ≡ nought) → sum f n ≡ nought
   unfolding sum
   sum-nought f zero h = refl
-  sum-nought f (suc n) h = ap₂ _⊕_ (sum-nought f n (λ k l. h k (omega arith))) (h n (omega arith)) ∙ X .add-zero nought
+  sum-nought f (suc n) h = ap₂ _⊕_ (sum-nought f n (λ k l. h k (omega arith))) (h n (omega arith)) ∙ X .field .add-zero nought
 
   pub sum-mul : (c : F) (f : ℕ → F) (n : ℕ) → c ⊗ sum f n ≡ sum (λ k. c ⊗ f k) n
   unfolding sum
   sum-mul c f zero = mul-zero N X c
-  sum-mul c f (suc n) = X .mul-add c (sum f n) (f n) ∙ ap (λ (x : F). x ⊕ c ⊗ f n) (sum-mul c f n)
+  sum-mul c f (suc n) = X .field .mul-add c (sum f n) (f n) ∙ ap (λ (x : F). x ⊕ c ⊗ f n) (sum-mul c f n)
 
   pub sum-swap : (f : ℕ → ℕ → F) (n m : ℕ) → sum (λ i. sum (λ j. f i j) m) n ≡ sum (λ j. sum (λ i. f i j) n) m
   unfolding sum
@@ -63,7 +63,7 @@ module _ (N : Num) (X : Exact N) where
           ∙ ap f (sym e)
       go (inr g) r =
           ap₂ _⊕_ (r (omega arith) (λ k o q. h k (omega arith) q)) (h m (omega arith) (λ q. g (sym q)))
-          ∙ X .add-zero (f i)
+          ∙ X .field .add-zero (f i)
 
   -- only the first m count
   pub sum-head : (f : ℕ → F) (m n : ℕ) → ((k : ℕ) → m ≤ k → k < m + n → f k ≡ nought) → sum f (m + n) ≡ sum f m
@@ -73,7 +73,7 @@ module _ (N : Num) (X : Exact N) where
       let e : m + suc n ≡ suc (m + n) = omega arith in
       ap (sum f) e
       ∙ ap₂ _⊕_ (sum-head f m n (λ k a b. h k a (omega arith))) (h (m + n) (omega arith) (omega arith))
-      ∙ X .add-zero (sum f m)
+      ∙ X .field .add-zero (sum f m)
 
   -- the first m do not count
   pub sum-tail : (f : ℕ → F) (m n : ℕ) → ((k : ℕ) → k < m → f k ≡ nought) → sum f (m + n) ≡ sum (λ k. f (m + k)) n
@@ -86,20 +86,20 @@ module _ (N : Num) (X : Exact N) where
   -- the first by itself
   pub sum-cons : (g : ℕ → F) (n : ℕ) → sum g (suc n) ≡ g 0 ⊕ sum (λ k. g (suc k)) n
   unfolding sum
-  sum-cons g zero = X .add-comm nought (g 0)
-  sum-cons g (suc n) = ap (λ (w : F). w ⊕ g (suc n)) (sum-cons g n) ∙ X .add-assoc (g 0) (sum (λ k. g (suc k)) n) (g (suc n))
+  sum-cons g zero = X .field .add-comm nought (g 0)
+  sum-cons g (suc n) = ap (λ (w : F). w ⊕ g (suc n)) (sum-cons g n) ∙ X .field .add-assoc (g 0) (sum (λ k. g (suc k)) n) (g (suc n))
 
   -- what is taken away, added again
   pub less-sum : (u v : ℕ → F) (b : F) (n : ℕ) → less N u v b n ⊕ sum (λ k. u k ⊗ v k) n ≡ b
   unfolding sum less
-  less-sum u v b zero = X .add-zero b
+  less-sum u v b zero = X .field .add-zero b
   less-sum u v b (suc n) =
       let l = less N u v b n in
       let s = sum (λ k. u k ⊗ v k) n in
       let p = u n ⊗ v n in
-      ap (λ (x : F). l ⊖ p ⊕ x) (X .add-comm s p)
-      ∙ sym (X .add-assoc (l ⊖ p) p s)
-      ∙ ap (λ (x : F). x ⊕ s) (X .sub-add l p)
+      ap (λ (x : F). l ⊖ p ⊕ x) (X .field .add-comm s p)
+      ∙ sym (X .field .add-assoc (l ⊖ p) p s)
+      ∙ ap (λ (x : F). x ⊕ s) (X .field .sub-add l p)
       ∙ less-sum u v b n
 
   pub dot-sum : (u v : ℕ → F) → dot N u v ≡ sum (λ k. u k ⊗ v k) 6

@@ -9,53 +9,57 @@ module _ (N : Num) (X : Exact N) where
   infixl 60 _⊕_ _⊖_
   infixl 70 _⊗_ _⊘_
   pub zero-add : (a : F) → zero ⊕ a ≡ a
-  zero-add a = X .add-comm zero a ∙ X .add-zero a
+  zero-add a = X .field .add-comm zero a ∙ X .field .add-zero a
 
   pub mul-one : (a : F) → a ⊗ one ≡ a
-  mul-one a = X .mul-comm a one ∙ X .one-mul a
+  mul-one a = X .field .mul-comm a one ∙ X .field .one-mul a
 
   -- a + b = a + c only where b = c: 0 - a is added on the left
   pub add-cancel : (a b c : F) → a ⊕ b ≡ a ⊕ c → b ≡ c
   add-cancel a b c e = sym (undo b) ∙ ap (λ (w : F). zero ⊖ a ⊕ w) e ∙ undo c
     where
       undo : (d : F) → zero ⊖ a ⊕ (a ⊕ d) ≡ d
-      undo d = sym (X .add-assoc (zero ⊖ a) a d) ∙ ap (λ (w : F). w ⊕ d) (X .sub-add zero a) ∙ zero-add d
+      undo d = sym (X .field .add-assoc (zero ⊖ a) a d) ∙ ap (λ (w : F). w ⊕ d) (X .field .sub-add zero a) ∙ zero-add d
 
   pub mul-zero : (a : F) → a ⊗ zero ≡ zero
-  mul-zero a = add-cancel (a ⊗ zero) (a ⊗ zero) zero (sym (X .mul-add a zero zero) ∙ ap (λ (w : F). a ⊗ w) (X .add-zero zero) ∙ sym (X .add-zero (a ⊗ zero)))
+  mul-zero a = add-cancel (a ⊗ zero) (a ⊗ zero) zero (sym (X .field .mul-add a zero zero) ∙ ap (λ (w : F). a ⊗ w) (X .field .add-zero zero) ∙ sym (X .field .add-zero (a ⊗ zero)))
 
   pub zero-mul : (a : F) → zero ⊗ a ≡ zero
-  zero-mul a = X .mul-comm zero a ∙ mul-zero a
+  zero-mul a = X .field .mul-comm zero a ∙ mul-zero a
 
   pub add-mul : (a b c : F) → (a ⊕ b) ⊗ c ≡ a ⊗ c ⊕ b ⊗ c
-  add-mul a b c = X .mul-comm (a ⊕ b) c ∙ X .mul-add c a b ∙ ap₂ _⊕_ (X .mul-comm c a) (X .mul-comm c b)
+  add-mul a b c = X .field .mul-comm (a ⊕ b) c ∙ X .field .mul-add c a b ∙ ap₂ _⊕_ (X .field .mul-comm c a) (X .field .mul-comm c b)
 
   -- a difference is what makes up the sum
   pub sub-of : (a b d : F) → d ⊕ b ≡ a → a ⊖ b ≡ d
-  sub-of a b d e = add-cancel b (a ⊖ b) d (X .add-comm b (a ⊖ b) ∙ X .sub-add a b ∙ sym e ∙ X .add-comm d b)
+  sub-of a b d e = add-cancel b (a ⊖ b) d (X .field .add-comm b (a ⊖ b) ∙ X .field .sub-add a b ∙ sym e ∙ X .field .add-comm d b)
 
   pub sub-zero : (a : F) → a ⊖ zero ≡ a
-  sub-zero a = sub-of a zero a (X .add-zero a)
+  sub-zero a = sub-of a zero a (X .field .add-zero a)
 
   -- a - b = a + (0 - b)
   pub sub-is : (a b : F) → a ⊖ b ≡ a ⊕ (zero ⊖ b)
-  sub-is a b = sub-of a b (a ⊕ (zero ⊖ b)) (X .add-assoc a (zero ⊖ b) b ∙ ap (λ (w : F). a ⊕ w) (X .sub-add zero b) ∙ X .add-zero a)
+  sub-is a b = sub-of a b (a ⊕ (zero ⊖ b)) (X .field .add-assoc a (zero ⊖ b) b ∙ ap (λ (w : F). a ⊕ w) (X .field .sub-add zero b) ∙ X .field .add-zero a)
 
   pub sub-mul : (a b c : F) → (a ⊖ b) ⊗ c ≡ a ⊗ c ⊖ b ⊗ c
-  sub-mul a b c = sym (sub-of (a ⊗ c) (b ⊗ c) ((a ⊖ b) ⊗ c) (sym (add-mul (a ⊖ b) b c) ∙ ap (λ (w : F). w ⊗ c) (X .sub-add a b)))
+  sub-mul a b c = sym (sub-of (a ⊗ c) (b ⊗ c) ((a ⊖ b) ⊗ c) (sym (add-mul (a ⊖ b) b c) ∙ ap (λ (w : F). w ⊗ c) (X .field .sub-add a b)))
 
   -- half of twice a number is the number
   pub half-sum : (a : F) → half ⊗ (a ⊕ a) ≡ a
   half-sum a =
-      ap (λ (w : F). half ⊗ w) (sym (ap₂ _⊕_ (X .one-mul a) (X .one-mul a)) ∙ sym (add-mul one one a) ∙ ap (λ (w : F). w ⊗ a) (sym (X .two-is)))
-      ∙ sym (X .mul-assoc half two a)
-      ∙ ap (λ (w : F). w ⊗ a) (X .half-is)
-      ∙ X .one-mul a
+      ap (λ (w : F). half ⊗ w) (sym (ap₂ _⊕_ (X .field .one-mul a) (X .field .one-mul a)) ∙ sym (add-mul one one a) ∙ ap (λ (w : F). w ⊗ a) (sym (X .field .two-is)))
+      ∙ sym (X .field .mul-assoc half two a)
+      ∙ ap (λ (w : F). w ⊗ a) (X .field .half-is)
+      ∙ X .field .one-mul a
+
+  -- what is above 0 divides
+  pub div-mul : (a b : F) → lt zero b ≡ true → a ⊘ b ⊗ b ≡ a
+  div-mul a b h = X .field .div-mul a b (X .above .not-zero b h)
 
   -- dividing by what is above 0 is multiplying by its inverse
   pub div-is : (a b : F) → lt zero b ≡ true → a ⊘ b ≡ a ⊗ (one ⊘ b)
   div-is a b h =
       sym (mul-one (a ⊘ b))
-      ∙ ap (λ (w : F). a ⊘ b ⊗ w) (sym (X .div-mul one b h) ∙ X .mul-comm (one ⊘ b) b)
-      ∙ sym (X .mul-assoc (a ⊘ b) b (one ⊘ b))
-      ∙ ap (λ (w : F). w ⊗ (one ⊘ b)) (X .div-mul a b h)
+      ∙ ap (λ (w : F). a ⊘ b ⊗ w) (sym (div-mul one b h) ∙ X .field .mul-comm (one ⊘ b) b)
+      ∙ sym (X .field .mul-assoc (a ⊘ b) b (one ⊘ b))
+      ∙ ap (λ (w : F). w ⊗ (one ⊘ b)) (div-mul a b h)
