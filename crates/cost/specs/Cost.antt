@@ -21,7 +21,7 @@ use Rattle.cost.specs.declared.LentFold.{LentFold}
 use Rattle.cost.specs.declared.LentFold.the-variants as lent
 use Rattle.scalar.specs.F64.{f64}
 use Rattle.kf.specs.Plain.{logTerm}
-use Rattle.kf.specs.Filter.{started, predicted, updated, kfIn}
+use Rattle.kf.specs.Filter.{started, worked, kfIn}
 
 -- a detection of a window: the number of its scan, that scan's time in seconds, where it lies, and the variance of its position
 pub record Measurement : Type 0 where
@@ -38,7 +38,7 @@ gap scan last = scan - last - 1
 -- "Each further one predicts and adds its NLL; scans skipped since the last (or frozen last) are misses"; q is the acceleration spectral density
 unfoldable pub added : Float → Sums → Measurement → Sums
 added q s d =
-    let u = updated (predicted (s .kf) (d .t) q) (d .x) (d .y) (d .r) in
+    let u = worked (s .kf) (d .t) q (d .x) (d .y) (d .r) in
     record { kf = u .kf; total = add binary64 (s .total) (u .nll); last = record { 0 = d .scan }; misses = s .misses + gap (d .scan) (s .last .0) }
 
 -- "From a frozen part: its filter, total 0.0"

@@ -13,7 +13,7 @@ use buffers::put_numbers;
 use engine::config::FgoConfig;
 use engine::types::ScanIndex;
 use kf::filter::Kf;
-use scalar::log;
+use kf::filter::log_term;
 ghost use mathlib.Core.Path.{_≡_};
 ghost use Prim.Native.Nat.{_+_, _^_, _<_};
 ghost use Rattle.cost.specs.Cost.{dotAt, gap, added, born, resumed, closed, measurementOf, sumsIn, foldIn, LogsKept, Recalled};
@@ -90,12 +90,12 @@ fn log_of(s: f64, logs: &mut [f64; LOGS]) -> f64
         if f64::to_bits(logs[o]) == b {
             return logs[o + 1];
         }
-        let l = log::ln(2.0 * 3.141592653589793 * s);
+        let l = log_term(s);
         logs[o] = s;
         logs[o + 1] = l;
         return l;
     }
-    log::ln(2.0 * 3.141592653589793 * s)
+    log_term(s)
 }
 
 // A window that starts with a detection.

@@ -12,18 +12,23 @@ use lib.Seq.{drop-append-le, drop-drop}
 use lib.Dec.{eqb, ltb}
 use lib.IntN.{ℤ}
 use lib.Ieee.{Float}
+use Rattle.scalar.specs.F64.{f64}
 use borrow.Author.Tests.{eq-eqb, ne-eqb, lt-ltb}
 use Rattle.engine.specs.declared.config.FgoConfig.{FgoConfig}
 use Rattle.engine.specs.declared.types.ClassLabel.{ClassLabel}
 use Rattle.engine.specs.declared.types.ClassLabel.the-variants.{Unknown, Known}
 use Rattle.engine.specs.declared.types.Association.{Association}
+use Rattle.engine.specs.Config.{density}
 use Rattle.engine.specs.Frame.{Frame}
 use Rattle.engine.specs.Body.{timeOk}
+use Rattle.kf.specs.declared.filter.Kf.{Kf}
+use Rattle.kf.specs.Plain as Plain
+use Rattle.kf.specs.Filter.{filterOf, kfOf}
 use Rattle.fgo_spec.specs.Lists.{times, find}
 use Rattle.fgo_spec.specs.Windows.{Scan, Detection, Prefix, detectionOf, under, window, inWindows}
 use Rattle.fgo_spec.specs.Freezing.{moveOn, startAt, recent, newer, freeze, freezeOne, freezeAll}
 use Rattle.fgo_spec.specs.Emitting.{Listed, report}
-use Rattle.fgo_spec.specs.History.{filterOver, lastOf, classOver, afresh}
+use Rattle.fgo_spec.specs.History.{observedOf, filterOver, lastOf, classOver, afresh}
 use Rattle.fgo_spec.specs.Rule.{All, PrefixRule}
 use Rattle.fgo_spec.proofs.Counting.{count-cons, bump}
 use Rattle.fgo_spec.proofs.Windows.{under-cons, window-All, window-length}
@@ -151,6 +156,16 @@ class-newest k n [] d es h u = ap (λ l. classOver l es) (ap (λ l. newer l k) h
     stays k [] u = refl
     stays k (e ∷ es) u = ap (λ l. classOver l es) (ap (λ l. newer l k) (u .0) ∙ newer-unknown k) ∙ stays k es (u .1)
 
+-- the plain filter over observations starts at the first and moves on by each further one
+filter-over : (c : FgoConfig) (d : Detection) (ds : List Detection) → filterOver c d ds ≡ foldl (moveOn c) (startAt c d) ds
+unfolding filterOver
+filter-over c d ds = ap kfOf (go (startAt c d) (f64 .zero) ds)
+  where
+    go : (k : Kf) (n : Float) (ds : List Detection) →
+        foldl (Plain.further f64 (density c)) (record { filter = filterOf k; nll = n }) (map (observedOf c) ds) .filter ≡ filterOf (foldl (moveOn c) k ds)
+    go k n [] = refl
+    go k n (d ∷ ds) = go (moveOn c k d) (Plain.further f64 (density c) (record { filter = filterOf k; nll = n }) (observedOf c d) .nll) ds
+
 over-first : (c : FgoConfig) (d : Detection) → freeze c none d ≡ over c d []
 unfolding freeze over filterOver classOver
 over-first c d = λ i. record { kf = startAt c d; lastFrame = d .scan; lastNs = d .time; count = 1; heights = d .z ∷ []; class = known (d .class) i }
@@ -160,9 +175,10 @@ over-first c d = λ i. record { kf = startAt c d; lastFrame = d .scan; lastNs = 
     known (Known n) = refl
 
 over-snoc : (c : FgoConfig) (d : Detection) (ds : List Detection) (e : Detection) → freeze c (some (over c d ds)) e ≡ over c d (ds ++ (e ∷ []))
-unfolding freeze over filterOver
+unfolding freeze over
 over-snoc c d ds e =
-    let k : moveOn c (foldl (moveOn c) (startAt c d) ds) e ≡ foldl (moveOn c) (startAt c d) (ds ++ (e ∷ [])) = sym (foldl-append (moveOn c) (startAt c d) ds (e ∷ [])) in
+    let k : moveOn c (filterOver c d ds) e ≡ filterOver c d (ds ++ (e ∷ [])) =
+    ap (λ k. moveOn c k e) (filter-over c d ds) ∙ sym (filter-over c d (ds ++ (e ∷ [])) ∙ foldl-append (moveOn c) (startAt c d) ds (e ∷ [])) in
     let l : e ≡ lastOf d (ds ++ (e ∷ [])) = sym (last-snoc d ds e) in
     let n : suc (suc (length ds)) ≡ suc (length (ds ++ (e ∷ []))) = rw (length-append ds (e ∷ [])) (omega arith) in
     let z : recent (recent (map (λ e. e .z) (d ∷ ds)) ++ (e .z ∷ [])) ≡ recent (map (λ e. e .z) (d ∷ (ds ++ (e ∷ [])))) =

@@ -16,7 +16,7 @@ use Rattle.engine.specs.declared.types.Association.{Association}
 use Rattle.engine.specs.Config.{density, variance, coast, forgetAfter}
 use Rattle.engine.specs.Frame.{Frame}
 use Rattle.kf.specs.declared.filter.Kf.{Kf}
-use Rattle.kf.specs.Filter.{started, moved}
+use Rattle.kf.specs.Filter.{started, worked}
 use Rattle.fgo_spec.specs.Lists.{keep, has, find, put}
 use Rattle.fgo_spec.specs.Windows.{Scan, Detection, Prefix, detectionOf, noise, present}
 
@@ -26,7 +26,7 @@ startAt c d = started (d .x) (d .y) (secondsOf (d .time)) (noise c d) (variance 
 
 -- "Track work is: predict to a time, then update with a position"
 abbrev pub moveOn : FgoConfig → Kf → Detection → Kf
-moveOn c k d = moved k (secondsOf (d .time)) (density c) (d .x) (d .y) (noise c d)
+moveOn c k d = worked k (secondsOf (d .time)) (density c) (d .x) (d .y) (noise c d) .kf
 
 -- "A track keeps its last five heights"
 abbrev pub recent : List Float → List Float

@@ -3,27 +3,31 @@ use Prim.Native.Nat.{ℕ, _≤_, _<_}
 use mathlib.Core.Path.{_≡_}
 use mathlib.Core.Bool.{true}
 use mathlib.Core.Logic.{_⊎_}
-use mathlib.Core.List.{List, [], _∷_, _++_, map, foldl, List·Memᴰ}
+use mathlib.Core.List.{List, [], _∷_, _++_, map, List·Memᴰ}
 use mathlib.Core.Option.{Option, none, some}
 use lib.ListN.{length, getD, drop}
 use lib.Dec.{T}
 use lib.IntN.{ℤ, _-ℤ_}
 use lib.Signed.{leZ, _≤ℤ_}
+use lib.Ieee.{Float}
 use Rattle.bounds.specs.Bounds.{TRACKS}
 use Rattle.buffers.specs.Answer.{Op, pushed, taken, refused}
 use Rattle.buffers.specs.Run.{Run, runFrom}
+use Rattle.scalar.specs.F64.{f64}
 use Rattle.scalar.specs.Scalar.{secondsOf}
 use Rattle.engine.specs.declared.config.FgoConfig.{FgoConfig}
 use Rattle.engine.specs.declared.types.ClassLabel.{ClassLabel}
 use Rattle.engine.specs.declared.types.ClassLabel.the-variants.{Unknown}
-use Rattle.engine.specs.Config.{density, coast, forgetAfter, legal}
+use Rattle.engine.specs.Config.{density, variance, coast, forgetAfter, legal}
 use Rattle.engine.specs.Frame.{Frame}
 use Rattle.engine.specs.Body.{Body, frameIn, indexOf, NamedOnce}
 use Rattle.kf.specs.declared.filter.Kf.{Kf}
-use Rattle.kf.specs.Filter.{predicted}
+use Rattle.kf.specs.Plain as Plain
+use Rattle.kf.specs.Plain.{Observed}
+use Rattle.kf.specs.Filter.{kfOf, predicted, observed}
 use Rattle.fgo_spec.specs.Lists.{times}
 use Rattle.fgo_spec.specs.Windows.{Scan, Detection, window, noise}
-use Rattle.fgo_spec.specs.Freezing.{startAt, moveOn, recent, mean, newer}
+use Rattle.fgo_spec.specs.Freezing.{recent, mean, newer}
 use Rattle.fgo_spec.specs.Emitting.{Listed, Emitted}
 use Rattle.fgo_spec.specs.Refiner.{State, new, arrive, reply}
 use Rattle.fgo_spec.specs.Rule.{All, Bytes, Rule}
@@ -36,9 +40,13 @@ run c ops = runFrom frameIn (reply c) new ops
 
 -- ---- "01's plain filter run afresh"
 
--- it starts at the first observation and moves on by each further one
+-- a detection, as the filter observes it
+abbrev pub observedOf : FgoConfig → Detection → Observed Float
+observedOf c d = observed (secondsOf (d .time)) (d .x) (d .y) (noise c d)
+
+-- the plain filter over observations, from the first on
 unfoldable pub filterOver : FgoConfig → Detection → List Detection → Kf
-filterOver c d ds = foldl (moveOn c) (startAt c d) ds
+filterOver c d ds = kfOf (Plain.run f64 (density c) (variance c) (observedOf c d) (map (observedOf c) ds) .filter)
 
 -- the last of d and ds
 abbrev pub lastOf : Detection → List Detection → Detection

@@ -14,7 +14,7 @@ use denote.Laws.{Is}
 use denote.Floats.{float-makes}
 use denote.Builtin.{f64}
 use denote.Steps.{owned, nothing}
-use Rattle.kf.specs.Filter.{moved}
+use Rattle.kf.specs.Filter.{worked}
 use Rattle.kf.specs.declared.filter.Kf.{Kf}
 
 abbrev pub Five : Type 0
@@ -38,7 +38,7 @@ all a = flat rows (each a)
 
 -- the filter that moves on by them
 abbrev pub on : Five → Kf → Kf
-on a h = moved h (a .0) (a .1 .0) (a .1 .1 .0) (a .1 .1 .1 .0) (a .1 .1 .1 .1 .0)
+on a h = worked h (a .0) (a .1 .0) (a .1 .1 .0) (a .1 .1 .1 .0) (a .1 .1 .1 .1 .0) .kf
 
 module _ {M : Type 1} (𝓤 : URA M) (H : Heap 𝓤) (A : Atoms 𝓤) (W : Given 𝓤 H A) (a : Five) (ok : Fit a) where
   pub handed : ent 𝓤 (emp 𝓤) (sem 𝓤 H A (owns rows a (each a)))

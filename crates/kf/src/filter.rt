@@ -5,6 +5,8 @@ ghost use mathlib.Core.Path.{_≡_};
 ghost use Prim.Native.Nat.{_+_, _≤_};
 ghost use lib.ListN.{length};
 ghost use Rattle.bounds.specs.Bounds.{KF};
+ghost use Rattle.scalar.specs.F64.{f64};
+ghost use Rattle.kf.specs.Plain.{logTerm};
 ghost use Rattle.kf.specs.Filter.{started, predicted, updated, logOf, kfIn, kfNumbers};
 
 pub struct Kf {
@@ -23,6 +25,13 @@ pub struct Kf {
 pub struct Updated {
     pub kf: Kf,
     pub nll: f64,
+}
+
+// The logarithm that each axis adds to the NLL: ln((2·pi)·s).
+pub fn log_term(s: f64) -> f64
+    ensures { λ l. ⌜ l ≡ logTerm f64 s ⌝ }
+{
+    log::ln(2.0 * 3.141592653589793 * s)
 }
 
 impl Kf {
@@ -63,7 +72,7 @@ impl Kf {
     pub fn update(self, x: f64, y: f64, r: f64) -> Updated
         ensures { λ u. ⌜ u ≡ updated self x y r ⌝ }
     {
-        let l = log::ln(2.0 * 3.141592653589793 * (self.p00 + r));
+        let l = log_term(self.p00 + r);
         self.update_by(x, y, r, l)
     }
 

@@ -42,8 +42,8 @@ element-copy-out-result c = search needs
 returns : tie.Need-returns
 returns c = found (c .before .before .before .before .args .s) (held (c .before .before .before .before)) (c .before .before .before .if1 .taken) (now (c .before .before .before .before .args .logs)) (c .before .before .before .before .pre) _ (omega arith) (c .before .if2 .taken)
 
-ln-requires : tie.Need-ln-requires
-ln-requires c κs = search needs
+log-term-requires : tie.Need-log-term-requires
+log-term-requires c κs = search needs
 
 mul-logs : tie.Need-mul-logs
 mul-logs c = search needs
@@ -61,10 +61,10 @@ element-write-logs-2 : tie.Need-element-write-logs-2
 element-write-logs-2 c = search needs
 
 returns-2 : tie.Need-returns-2
-returns-2 c = stored (c .before .before .before .before .args .s) (held (c .before .before .before .before)) (c .before .before .before .if1 .taken) (now (c .before .before .before .before .args .logs)) (c .before .before .before .before .pre) _ (omega arith) (c .ln .result) (c .ln .ensures)
+returns-2 c = stored (c .before .before .before .before .args .s) (held (c .before .before .before .before)) (c .before .before .before .if1 .taken) (now (c .before .before .before .before .args .logs)) (c .before .before .before .before .pre) _ (omega arith) (c .log-term .result) (c .log-term .ensures)
 
-ln-requires-2 : tie.Need-ln-requires-2
-ln-requires-2 c κs = search needs
+log-term-requires-2 : tie.Need-log-term-requires-2
+log-term-requires-2 c κs = search needs
 
 returns-3 : tie.Need-returns-3
 returns-3 c = search needs
@@ -82,12 +82,12 @@ log-of-spec =
     mul-result
     element-copy-out-result
     returns
-    ln-requires
+    log-term-requires
     mul-logs
     element-write-logs
     add-logs
     mul-logs-2
     element-write-logs-2
     returns-2
-    ln-requires-2
+    log-term-requires-2
     returns-3)
