@@ -14,10 +14,11 @@ use Rattle.scalar.proofs.Algebra.{mul-zero, zero-mul, div-mul}
 use Rattle.linalg.specs.Grown.{grown, backed}
 use Rattle.linalg.specs.Matrix.{at, entry, unit, identity, mul, transpose}
 use Rattle.linalg.specs.Cholesky.{less, low, reduced, factorColumn, columns, cholesky, positive, forward, backward, inverse}
+use Rattle.linalg.specs.Sizes.{sum, prod}
 use Rattle.linalg.proofs.Fill.{six}
 use Rattle.linalg.proofs.Grown.{equal-or-not, grown-at, grown-stays, backed-at}
-use Rattle.linalg.proofs.Sums.{sum, sum-ext, sum-head, sum-tail, sum-cons, less-sum}
-use Rattle.linalg.proofs.Products.{prod, prod-ext, prod-flip, right-inverse, left-inverse}
+use Rattle.linalg.proofs.Sums.{sum-ext, sum-head, sum-tail, sum-cons, less-sum}
+use Rattle.linalg.proofs.Products.{prod-ext, prod-flip, right-inverse, left-inverse}
 use Rattle.linalg.proofs.Entries.{vector-at, matrix-at, transpose-at}
 use Rattle.linalg.proofs.Laws.{product}
 
@@ -119,15 +120,15 @@ module _ (N : Num) (X : Exact N) (a : List (N .F)) (good : positive N a ≡ true
           ∙ div-mul N X (left N a j i) (L N a j j) (divisor j (omega arith))
 
   -- L Lᵀ on and below the diagonal
-  lower : (i j : ℕ) → j ≤ i → i < 6 → prod N X 6 (L N a) (λ k m. L N a m k) i j ≡ entry N a i j
+  lower : (i j : ℕ) → j ≤ i → i < 6 → prod N 6 (L N a) (λ k m. L N a m k) i j ≡ entry N a i j
   unfolding sum
   lower i j h g =
       let t : ℕ → F = λ k. L N a i k ⊗ L N a j k in
       let e : 6 ≡ suc j + (5 - j) = omega arith in
-      ap (sum N X t) e
+      ap (sum N t) e
       ∙ sum-head N X t (suc j) (5 - j) (λ k p q. ap (λ (x : F). L N a i k ⊗ x) (above N a j k (omega arith) (omega arith)) ∙ mul-zero N X (L N a i k))
       ∙ ap₂ _⊕_ (sum-ext N X t (λ k. L N a j k ⊗ L N a i k) j (λ k p. X .field .mul-comm (L N a i k) (L N a j k))) (scaled i j h g)
-      ∙ X .field .add-comm (sum N X (λ k. L N a j k ⊗ L N a i k) j) (left N a j i)
+      ∙ X .field .add-comm (sum N (λ k. L N a j k ⊗ L N a i k) j) (left N a j i)
       ∙ less-sum N X (λ k. L N a j k) (λ k. L N a i k) (entry N a i j) j
 
   -- the factor as a matrix
@@ -154,7 +155,7 @@ module _ (N : Num) (X : Exact N) (a : List (N .F)) (good : positive N a ≡ true
   Y : ℕ → ℕ → F
   Y i c = at N (forward N l c) i
 
-  forth : (i c : ℕ) → i < 6 → c < 6 → prod N X 6 E Y i c ≡ unit N i c
+  forth : (i c : ℕ) → i < 6 → c < 6 → prod N 6 E Y i c ≡ unit N i c
   unfolding sum E Y ahead forward
   forth i c h g =
       let y : ℕ → F = λ k. Y k c in
@@ -166,10 +167,10 @@ module _ (N : Num) (X : Exact N) (a : List (N .F)) (good : positive N a ≡ true
       less-ext N (λ k. E i k) (λ k. E i k) (λ k. at N (grown (ahead c) i) k) y b i (λ k p. refl) (λ k p. grown-stays past (ahead c) i 6 k p (omega arith)) in
       let w : y i ≡ r ⊘ E i i = grown-at past (ahead c) 6 i h ∙ ap (λ (x : F). x ⊘ E i i) s in
       let m : E i i ⊗ y i ≡ r = X .field .mul-comm (E i i) (y i) ∙ ap (λ (x : F). x ⊗ E i i) w ∙ div-mul N X r (E i i) (divides i h) in
-      ap (sum N X t) e
+      ap (sum N t) e
       ∙ sum-head N X t (suc i) (5 - i) (λ k p q. ap (λ (x : F). x ⊗ y k) (zero-above i k (omega arith) (omega arith)) ∙ zero-mul N X (y k))
-      ∙ ap (λ (x : F). sum N X t i ⊕ x) m
-      ∙ X .field .add-comm (sum N X t i) r
+      ∙ ap (λ (x : F). sum N t i ⊕ x) m
+      ∙ X .field .add-comm (sum N t i) r
       ∙ less-sum N X (λ k. E i k) y b i
 
   -- backward: Lᵀ z is y
@@ -184,7 +185,7 @@ module _ (N : Num) (X : Exact N) (a : List (N .F)) (good : positive N a ≡ true
       ∙ ap (λ m. behind y m (backed (behind y) m)) e
       ∙ sym (backed-at past (behind y) 6 (i + suc k) (omega arith))
 
-  solved : (y : List F) (i : ℕ) → i < 6 → sum N X (λ k. E k i ⊗ at N (backward N l y) k) 6 ≡ at N y i
+  solved : (y : List F) (i : ℕ) → i < 6 → sum N (λ k. E k i ⊗ at N (backward N l y) k) 6 ≡ at N y i
   unfolding E behind backward
   solved y i h =
       let x : ℕ → F = λ k. at N (backed (behind y) 6) k in
@@ -205,16 +206,16 @@ module _ (N : Num) (X : Exact N) (a : List (N .F)) (good : positive N a ≡ true
       (λ k g. rest y i k h g)) in
       let b : x i ≡ r ⊘ E i i = backed-at past (behind y) 6 i h ∙ ap (λ m. behind y m (backed (behind y) m)) q ∙ d in
       let m : E i i ⊗ x i ≡ r = X .field .mul-comm (E i i) (x i) ∙ ap (λ (w : F). w ⊗ E i i) b ∙ div-mul N X r (E i i) (divides i h) in
-      ap (sum N X t) e
+      ap (sum N t) e
       ∙ sum-tail N X t i (suc n) (λ k p. ap (λ (w : F). w ⊗ x k) (zero-above k i p h) ∙ zero-mul N X (x k))
       ∙ sum-cons N X (λ k. t (i + k)) n
-      ∙ ap (λ (w : F). w ⊕ sum N X (λ k. u k ⊗ v k) n) (ap t o ∙ m)
+      ∙ ap (λ (w : F). w ⊕ sum N (λ k. u k ⊗ v k) n) (ap t o ∙ m)
       ∙ less-sum N X u v (at N y i) n
 
   Z : ℕ → ℕ → F
   Z i c = at N (backward N l (forward N l c)) i
 
-  back : (i c : ℕ) → i < 6 → c < 6 → prod N X 6 (λ k m. E m k) Z i c ≡ Y i c
+  back : (i c : ℕ) → i < 6 → c < 6 → prod N 6 (λ k m. E m k) Z i c ≡ Y i c
   unfolding Y Z
   back i c h g = solved (forward N l c) i h
 
@@ -222,18 +223,18 @@ module _ (N : Num) (X : Exact N) (a : List (N .F)) (good : positive N a ≡ true
     mirrored : (i j : ℕ) → i < 6 → j < 6 → entry N a i j ≡ entry N a j i
     mirrored i j h g = ap (λ m. entry N m i j) (sym same) ∙ transpose-at N a i j h g
 
-    factored : (i j : ℕ) → i < 6 → j < 6 → prod N X 6 E (λ k m. E m k) i j ≡ entry N a i j
+    factored : (i j : ℕ) → i < 6 → j < 6 → prod N 6 E (λ k m. E m k) i j ≡ entry N a i j
     factored i j h g =
         prod-ext N X 6 E (L N a) (λ k m. E m k) (λ k m. L N a m k) i j (λ k o. E-is i k h o) (λ k o. E-is j k g o)
         ∙ go (leb j i) refl
       where
-        go : (b : Bool) → leb j i ≡ b → prod N X 6 (L N a) (λ k m. L N a m k) i j ≡ entry N a i j
+        go : (b : Bool) → leb j i ≡ b → prod N 6 (L N a) (λ k m. L N a m k) i j ≡ entry N a i j
         go true e = lower i j (leb-true j i e) h
         go false e =
             let o : i ≤ j = omega (arith, leb-false j i e) in
             prod-flip N X 6 (L N a) (λ k m. L N a m k) j i ∙ lower j i o g ∙ mirrored j i g h
 
-    inverts : (i j : ℕ) → i < 6 → j < 6 → prod N X 6 (λ i j. entry N a i j) Z i j ≡ unit N i j
+    inverts : (i j : ℕ) → i < 6 → j < 6 → prod N 6 (λ i j. entry N a i j) Z i j ≡ unit N i j
     inverts = right-inverse N X 6 (λ i j. entry N a i j) E Y Z factored forth back
 
     Z-is : (i c : ℕ) → i < 6 → c < 6 → entry N (inverse N l) i c ≡ Z i c

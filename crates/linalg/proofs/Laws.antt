@@ -7,9 +7,10 @@ use Rattle.scalar.specs.Num.{Num, Exact}
 use Rattle.scalar.proofs.Algebra.{half-sum}
 use Rattle.linalg.specs.Grown.{tabulate}
 use Rattle.linalg.specs.Matrix.{at, entry, matrix, dot, mul, transpose, add, sub, scale, halfSum}
+use Rattle.linalg.specs.Sizes.{prod}
 use Rattle.linalg.proofs.Fill.{tabulated}
 use Rattle.linalg.proofs.Sums.{dot-sum}
-use Rattle.linalg.proofs.Products.{prod, prod-assoc, prod-ext, prod-flip}
+use Rattle.linalg.proofs.Products.{prod-assoc, prod-ext, prod-flip}
 use Rattle.linalg.proofs.Entries.{tabulate-ext, matrix-at, matrix-ext, transpose-at}
 
 -- at any arithmetic
@@ -33,14 +34,14 @@ module _ (N : Num) (X : Exact N) where
   infixl 70 _⊗_
   -- a product by its entries
   pub product : (a b : List F) (c : ℕ → ℕ → F)
-      → ((i j : ℕ) → i < 6 → j < 6 → prod N X 6 (λ i j. entry N a i j) (λ i j. entry N b i j) i j ≡ c i j)
+      → ((i j : ℕ) → i < 6 → j < 6 → prod N 6 (λ i j. entry N a i j) (λ i j. entry N b i j) i j ≡ c i j)
       → mul N a b ≡ matrix N c
   unfolding mul
   product a b c e =
       matrix-ext N (λ i j. dot N (λ k. entry N a i k) (λ k. entry N b k j)) c
       (λ i j h g. dot-sum N X (λ k. entry N a i k) (λ k. entry N b k j) ∙ e i j h g)
 
-  mul-at : (a b : List F) (i j : ℕ) → i < 6 → j < 6 → entry N (mul N a b) i j ≡ prod N X 6 (λ i j. entry N a i j) (λ i j. entry N b i j) i j
+  mul-at : (a b : List F) (i j : ℕ) → i < 6 → j < 6 → entry N (mul N a b) i j ≡ prod N 6 (λ i j. entry N a i j) (λ i j. entry N b i j) i j
   unfolding mul
   mul-at a b i j h g =
       matrix-at N (λ i j. dot N (λ k. entry N a i k) (λ k. entry N b k j)) i j h g
@@ -50,11 +51,11 @@ module _ (N : Num) (X : Exact N) where
   mul-assoc a b c =
       product (mul N a b) c w
       (λ i j h g.
-      prod-ext N X 6 (λ i j. entry N (mul N a b) i j) (prod N X 6 A B) C C i j (λ k o. mul-at a b i k h o) (λ k o. refl)
+      prod-ext N X 6 (λ i j. entry N (mul N a b) i j) (prod N 6 A B) C C i j (λ k o. mul-at a b i k h o) (λ k o. refl)
       ∙ prod-assoc N X 6 A B C i j)
       ∙ sym
       (product a (mul N b c) w
-      (λ i j h g. prod-ext N X 6 A A (λ i j. entry N (mul N b c) i j) (prod N X 6 B C) i j (λ k o. refl) (λ k o. mul-at b c k j o g)))
+      (λ i j h g. prod-ext N X 6 A A (λ i j. entry N (mul N b c) i j) (prod N 6 B C) i j (λ k o. refl) (λ k o. mul-at b c k j o g)))
     where
       A : ℕ → ℕ → F
       A i j = entry N a i j
@@ -66,7 +67,7 @@ module _ (N : Num) (X : Exact N) where
       C i j = entry N c i j
 
       w : ℕ → ℕ → F
-      w = prod N X 6 A (prod N X 6 B C)
+      w = prod N 6 A (prod N 6 B C)
 
   -- (a b)ᵀ = bᵀ aᵀ
   pub transpose-mul : (a b : List F) → transpose N (mul N a b) ≡ mul N (transpose N b) (transpose N a)
@@ -81,7 +82,7 @@ module _ (N : Num) (X : Exact N) where
       (λ k o. transpose-at N a k j o g)))
     where
       w : ℕ → ℕ → F
-      w = prod N X 6 (λ i j. entry N b j i) (λ i j. entry N a j i)
+      w = prod N 6 (λ i j. entry N b j i) (λ i j. entry N a j i)
 
   -- g d gᵀ is symmetric where d is
   pub sandwich : (g d : List F) → transpose N (transpose N g) ≡ g → transpose N d ≡ d → transpose N (mul N (mul N g d) (transpose N g)) ≡ mul N (mul N g d) (transpose N g)

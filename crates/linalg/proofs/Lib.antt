@@ -1,7 +1,9 @@
 pub mod Fill
 pub mod Grown
-mod Sums
-mod Products
+pub mod Sums
+pub mod Diagonal
+pub mod Products
+pub mod Blocks
 mod Entries
 pub mod Laws
 pub mod Inverse

@@ -1,15 +1,14 @@
 -- Vectors of six numbers, and matrices of six rows and columns as lists of 36 numbers by rows, over any arithmetic.
 -- Each operation stands once, in the order of document 01. Definitions only.
 use Prim.Native.Nat.{ℕ, _+_, _*_, _/_, _%_}
-use mathlib.Core.Bool.{cond}
 use mathlib.Core.List.{List, [], _∷_}
 use lib.ListN.{getD}
-use lib.Dec.{eqb}
 use Rattle.scalar.specs.Num.{Num}
 use Rattle.linalg.specs.Grown.{tabulate}
+use Rattle.linalg.specs.Sizes.{diagonal}
 
 module _ (N : Num) where
-  open Num N using (F, add as _⊕_, sub as _⊖_, mul as _⊗_, zero as nought, half, one, past)
+  open Num N using (F, add as _⊕_, sub as _⊖_, mul as _⊗_, half, one, past)
 
   infixl 60 _⊕_ _⊖_
   infixl 70 _⊗_
@@ -31,7 +30,7 @@ module _ (N : Num) where
 
   -- the unit matrix, entry by entry
   abbrev pub unit : ℕ → ℕ → F
-  unit i j = cond (eqb i j) one nought
+  unit = diagonal N one
 
   -- the unit matrix
   unfoldable pub identity : List F

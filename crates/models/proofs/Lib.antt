@@ -1,1 +1,2 @@
 mod Commute
+pub mod Law

@@ -11,11 +11,12 @@ use Rattle.linalg.specs.Matrix.{dot, entry, mul, transpose, add, sub}
 use Rattle.linalg.specs.Cholesky.{cholesky, positive, inverse}
 use Rattle.linalg.proofs.Laws.{transpose-twice, transpose-add, transpose-sub, sandwich, half-sum-law}
 use Rattle.linalg.proofs.Inverse.{left-law, right-law}
-use Rattle.models.specs.Motion.{blocks, cvF, cvQ}
+use Rattle.models.specs.Motion.{motion, cvF, cvQ}
+use Rattle.models.proofs.Law.{noise-is}
 use Rattle.rts.specs.declared.Step.{Step}
 use Rattle.rts.specs.declared.Step.the-variants.{Smoothed, Skipped, Failed}
 use Rattle.rts.specs.Smoothing.{Estimate, BackStep, backStep, xPred, pPred, gain, smoothedX, smoothedP, smoothed, back}
-use Rattle.rts.specs.Published.{RauchTungStriebel}
+use Rattle.rts.specs.Published.{P⁻, RauchTungStriebel}
 
 module _ (N : Num) where
   noise-symmetric : (dt q : N .F) → transpose N (cvQ N dt q) ≡ cvQ N dt q
@@ -24,7 +25,7 @@ module _ (N : Num) where
 
   motion-twice : (dt : N .F) → transpose N (transpose N (cvF N dt)) ≡ cvF N dt
   unfolding cvF
-  motion-twice dt = transpose-twice N (blocks N (N .one) dt (N .zero) (N .one))
+  motion-twice dt = transpose-twice N (motion N 3 dt)
 
 module _ (N : Num) (X : Exact N) (q dt : N .F) (a s : Estimate (N .F)) (ours : transpose N (a .p) ≡ a .p) (later : transpose N (s .p) ≡ s .p) where
   predicted-symmetric : transpose N (pPred N q dt (a .p)) ≡ pPred N q dt (a .p)
@@ -59,16 +60,17 @@ module _ (N : Num) (X : Exact N) (q dt : N .F) (a s : Estimate (N .F)) (ours : t
     covariance-is = half-sum-law N X whole whole-symmetric
 
     published : RauchTungStriebel N q dt a s (smoothed N q dt a s)
-    unfolding smoothed smoothedX xPred pPred gain
+    unfolding smoothed smoothedX xPred pPred gain cvF
     published =
+        let e : pp ≡ P⁻ N q dt a s (smoothed N q dt a s) = ap (add N 36 (mul N (mul N (cvF N dt) (a .p)) (transpose N (cvF N dt)))) (noise-is N X dt q) in
         record {
           inverse = inverse N (cholesky N pp);
-          left = left-law N X pp good predicted-symmetric;
-          right = right-law N X pp good predicted-symmetric;
+          left = ap (mul N (inverse N (cholesky N pp))) (sym e) ∙ left-law N X pp good predicted-symmetric;
+          right = ap (λ p. mul N p (inverse N (cholesky N pp))) (sym e) ∙ right-law N X pp good predicted-symmetric;
           G = g;
           gain = refl;
           state = refl;
-          covariance = covariance-is;
+          covariance = covariance-is ∙ ap (λ p. add N 36 (a .p) (mul N (mul N g (sub N 36 (s .p) p)) (transpose N g))) e;
         }
 
   -- a step is taken only where the pivots are above 0

@@ -5,19 +5,19 @@ use mathlib.Core.Path.{_≡_}
 use mathlib.Core.Bool.{true, false}
 use mathlib.Core.List.{List, [], _∷_}
 use Rattle.scalar.specs.Num.{Num}
-use Rattle.linalg.specs.Matrix.{identity, mul, mulVec, transpose, add, sub}
-use Rattle.models.specs.Motion.{cvF, cvQ}
+use Rattle.linalg.specs.Matrix.{matrix, identity, mul, mulVec, transpose, add, sub}
+use Rattle.models.specs.Motion.{motion, noise}
 use Rattle.rts.specs.Smoothing.{Estimate, Later}
 
 -- from the filtered state (x, P) and the smoothed one after it, (x⁺, P⁺), over dt with the noise's density q, to the smoothed state r
 module _ (N : Num) (q dt : N .F) (filtered later r : Estimate (N .F)) where
   -- F, the motion over dt at constant velocity
   abbrev F : List (N .F)
-  F = cvF N dt
+  F = matrix N (motion N 3 dt)
 
   -- Q, the covariance of the noise over dt
   abbrev Q : List (N .F)
-  Q = cvQ N dt q
+  Q = matrix N (noise N 3 q dt)
 
   -- x, the filtered state
   abbrev x : List (N .F)
@@ -36,7 +36,7 @@ module _ (N : Num) (q dt : N .F) (filtered later r : Estimate (N .F)) where
   P⁺ = later .p
 
   -- P⁻ = F P Fᵀ + Q
-  abbrev P⁻ : List (N .F)
+  abbrev pub P⁻ : List (N .F)
   P⁻ = add N 36 (mul N (mul N F P) (transpose N F)) Q
 
   -- r is the step's answer

@@ -14,6 +14,13 @@ module _ (N : Num) (X : Exact N) where
   pub mul-one : (a : F) → a ⊗ one ≡ a
   mul-one a = X .field .mul-comm a one ∙ X .field .one-mul a
 
+  -- what sorts the terms of a sum, and the factors of a product
+  pub add-left : (a b c : F) → a ⊕ (b ⊕ c) ≡ b ⊕ (a ⊕ c)
+  add-left a b c = sym (X .field .add-assoc a b c) ∙ ap (λ (w : F). w ⊕ c) (X .field .add-comm a b) ∙ X .field .add-assoc b a c
+
+  pub mul-left : (a b c : F) → a ⊗ (b ⊗ c) ≡ b ⊗ (a ⊗ c)
+  mul-left a b c = sym (X .field .mul-assoc a b c) ∙ ap (λ (w : F). w ⊗ c) (X .field .mul-comm a b) ∙ X .field .mul-assoc b a c
+
   -- a + b = a + c only where b = c: 0 - a is added on the left
   pub add-cancel : (a b c : F) → a ⊕ b ≡ a ⊕ c → b ≡ c
   add-cancel a b c e = sym (undo b) ∙ ap (λ (w : F). zero ⊖ a ⊕ w) e ∙ undo c
@@ -63,3 +70,11 @@ module _ (N : Num) (X : Exact N) where
       ∙ ap (λ (w : F). a ⊘ b ⊗ w) (sym (div-mul one b h) ∙ X .field .mul-comm (one ⊘ b) b)
       ∙ sym (X .field .mul-assoc (a ⊘ b) b (one ⊘ b))
       ∙ ap (λ (w : F). w ⊗ (one ⊘ b)) (div-mul a b h)
+
+  -- a product divided by what is above 0 gives the other factor
+  pub mul-div : (a b : F) → lt zero b ≡ true → a ⊗ b ⊘ b ≡ a
+  mul-div a b h =
+      div-is (a ⊗ b) b h
+      ∙ X .field .mul-assoc a b (one ⊘ b)
+      ∙ ap (λ (w : F). a ⊗ w) (X .field .mul-comm b (one ⊘ b) ∙ div-mul one b h)
+      ∙ mul-one a
