@@ -1,2 +1,1 @@
-pub mod Textbook
 pub mod Handed

@@ -7,7 +7,7 @@ use lib.Dec.{ltb}
 use borrow.Author.Tests.{ltb-true, ltb-false, lt-ltb, le-ltb}
 use Rattle.scalar.specs.Num.{Num, Exact}
 use Rattle.scalar.proofs.Algebra.{mul-zero}
-use Rattle.linalg.specs.Sizes.{sum, image, prod, diagonal, blocks}
+use Rattle.linalg.specs.Sizes.{sum, image, prod, stacked, diagonal, blocks}
 use Rattle.linalg.proofs.Sums.{sum-ext, sum-split}
 use Rattle.linalg.proofs.Diagonal.{diagonal-flip, diagonal-each, picked}
 
@@ -25,6 +25,14 @@ by-halves n P f g i h = go (ltb i n) refl
 -- at any arithmetic
 module _ (N : Num) where
   open Num N using (F, zero as nought)
+
+  -- n numbers, and those after them
+  module _ (n : ℕ) (u v : ℕ → F) (i : ℕ) where
+    pub stacked-first : i < n → stacked N n u v i ≡ u i
+    stacked-first h = rw (lt-ltb i n h)
+
+    pub stacked-then : stacked N n u v (n + i) ≡ v i
+    stacked-then = let e : n + i - n ≡ i = omega arith in rw (le-ltb (n + i) n (omega arith), e)
 
   -- entries, block by block
   module _ (n : ℕ) (a b c d : F) (i j : ℕ) where
@@ -62,6 +70,9 @@ module _ (N : Num) where
       (λ j g. r i j h g ∙ sym (below-left n a b c d i j g))
       (λ j g. s i j h g ∙ sym (below-right n a b c d i j)) j g)
       i h
+
+  pub blocks-same : (n : ℕ) {a b c d a′ b′ c′ d′ : F} (i j : ℕ) → a ≡ a′ → b ≡ b′ → c ≡ c′ → d ≡ d′ → blocks N n a b c d i j ≡ blocks N n a′ b′ c′ d′ i j
+  blocks-same n i j p q r s = λ k. blocks N n (p k) (q k) (r k) (s k) i j
 
   -- the transpose
   pub blocks-turned : (n : ℕ) (a b c d : F) (i j : ℕ) → blocks N n a b c d j i ≡ blocks N n a c b d i j

@@ -2,7 +2,8 @@
 use mathlib.Core.Path.{_≡_, refl, sym, ap, _∙_}
 use mathlib.Core.Logic.{_⊎_, inl, inr}
 use mathlib.Core.Bool.{Bool, true, false, cond}
-use Prim.Native.Nat.{ℕ, _<_}
+use Prim.Native.Nat.{ℕ, _+_, _<_}
+use native.Mathlib.Omega.{arith}
 use lib.Dec.{eqb}
 use borrow.Author.Tests.{eq-eqb, ne-eqb}
 use Rattle.scalar.specs.Num.{Num, Exact}
@@ -37,6 +38,13 @@ module _ (N : Num) where
       go : (b : Bool) → cond b nought nought ≡ nought
       go true = refl
       go false = refl
+
+  pub diagonal-shift : (x : F) (n i j : ℕ) → diagonal N x (n + i) (n + j) ≡ diagonal N x i j
+  diagonal-shift x n i j = go (equal-or-not i j)
+    where
+      go : (i ≡ j) ⊎ (i ≡ j → ⊥) → diagonal N x (n + i) (n + j) ≡ diagonal N x i j
+      go (inl e) = rw e (diagonal-same x (n + j) ∙ sym (diagonal-same x j))
+      go (inr h) = diagonal-other x (n + i) (n + j) (λ e. h (omega arith)) ∙ sym (diagonal-other x i j h)
 
   -- entry by entry, by an operation that gives 0 for 0 and 0
   module _ (f : F → F → F) (e : f nought nought ≡ nought) where

@@ -32,7 +32,7 @@ module _ (N : Num) (X : Exact N) where
   sum-add f g zero = sym (X .field .add-zero nought)
   sum-add f g (suc n) = ap (λ (x : F). x ⊕ (f n ⊕ g n)) (sum-add f g n) ∙ middle (sum N f n) (sum N g n) (f n) (g n)
 
-  sum-nought : (f : ℕ → F) (n : ℕ) → ((k : ℕ) → k < n → f k ≡ nought) → sum N f n ≡ nought
+  pub sum-nought : (f : ℕ → F) (n : ℕ) → ((k : ℕ) → k < n → f k ≡ nought) → sum N f n ≡ nought
   unfolding sum
   sum-nought f zero h = refl
   sum-nought f (suc n) h = ap₂ _⊕_ (sum-nought f n (λ k l. h k (omega arith))) (h n (omega arith)) ∙ X .field .add-zero nought

@@ -22,6 +22,10 @@ module _ (N : Num) where
   abbrev pub prod : ℕ → (ℕ → ℕ → F) → (ℕ → ℕ → F) → ℕ → ℕ → F
   prod n a b i j = image n a (λ k. b k j) i
 
+  -- n numbers of u, and those of v after them
+  abbrev pub stacked : ℕ → (ℕ → F) → (ℕ → F) → ℕ → F
+  stacked n u v i = cond (ltb i n) (u i) (v (i - n))
+
   -- aᵀ
   abbrev pub turned : (ℕ → ℕ → F) → ℕ → ℕ → F
   turned a i j = a j i

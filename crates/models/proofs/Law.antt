@@ -7,7 +7,7 @@ use Rattle.scalar.proofs.Algebra as Algebra
 use Rattle.linalg.specs.Matrix.{matrix}
 use Rattle.linalg.specs.Sizes.{prod, turned, plus, blocks}
 use Rattle.linalg.proofs.Products.{prod-ext}
-use Rattle.linalg.proofs.Blocks.{blocks-turned, blocks-each, blocks-product}
+use Rattle.linalg.proofs.Blocks.{blocks-same, blocks-turned, blocks-each, blocks-product}
 use Rattle.models.specs.Motion.{motion, noise, cvF, cvQ}
 
 module _ (N : Num) where
@@ -32,9 +32,6 @@ module _ (N : Num) (X : Exact N) where
       let d : nought ⊕ q ⊗ dt ≡ q ⊗ dt = zero-add (q ⊗ dt) in
       λ i. matrix N (blocks N 3 (a i) (b i) (b i) (d i))
 
-  same : (n : ℕ) {a b c d a′ b′ c′ d′ : F} (i j : ℕ) → a ≡ a′ → b ≡ b′ → c ≡ c′ → d ≡ d′ → blocks N n a b c d i j ≡ blocks N n a′ b′ c′ d′ i j
-  same n i j p q r s = λ k. blocks N n (p k) (q k) (r k) (s k) i j
-
   -- F P Fᵀ + Q, of blocks
   pub carried : (n : ℕ) (dt p r s a b d : F) (i j : ℕ) → i < n + n → j < n + n
       → plus N (prod N (n + n) (prod N (n + n) (motion N n dt) (blocks N n p r r s)) (turned N (motion N n dt))) (blocks N n a b b d) i j
@@ -42,11 +39,11 @@ module _ (N : Num) (X : Exact N) where
   carried n dt p r s a b d i j h g =
       ap (λ (w : F). w ⊕ blocks N n a b b d i j)
       (prod-ext N X (n + n) (prod N (n + n) (motion N n dt) (blocks N n p r r s)) (blocks N n (p ⊕ dt ⊗ r) (r ⊕ dt ⊗ s) r s) (turned N (motion N n dt)) (blocks N n one nought dt one) i j
-      (λ k l. blocks-product N X n one dt nought one p r r s i k h l ∙ same n i k (first p r) (first r s) (second p r) (second r s))
+      (λ k l. blocks-product N X n one dt nought one p r r s i k h l ∙ blocks-same N n i k (first p r) (first r s) (second p r) (second r s))
       (λ k l. blocks-turned N n one dt nought one k j)
       ∙ blocks-product N X n (p ⊕ dt ⊗ r) (r ⊕ dt ⊗ s) r s one nought dt one i j h g)
       ∙ blocks-each N _⊕_ (X .field .add-zero nought) n _ _ _ _ a b b d i j
-      ∙ same n i j
+      ∙ blocks-same N n i j
       (ap (λ (w : F). w ⊕ (r ⊕ dt ⊗ s) ⊗ dt ⊕ a) (mul-one (p ⊕ dt ⊗ r)))
       (ap (λ (w : F). w ⊕ b) (last (p ⊕ dt ⊗ r) (r ⊕ dt ⊗ s)))
       (ap₂ (λ (v w : F). v ⊕ w ⊕ b) (mul-one r) (X .field .mul-comm s dt))
@@ -68,7 +65,7 @@ module _ (N : Num) (X : Exact N) where
   pub motion-composes : (n : ℕ) (s t : F) (i j : ℕ) → i < n + n → j < n + n
       → motion N n (s ⊕ t) i j ≡ prod N (n + n) (motion N n t) (motion N n s) i j
   motion-composes n s t i j h g =
-      same n i j
+      blocks-same N n i j
       (sym (ap₂ _⊕_ (X .field .one-mul one) (Algebra.mul-zero N X t) ∙ X .field .add-zero one))
       (sym (ap₂ _⊕_ (X .field .one-mul s) (Algebra.mul-one N X t)))
       (sym (ap₂ _⊕_ (Algebra.zero-mul N X one) (X .field .one-mul nought) ∙ X .field .add-zero nought))
@@ -102,7 +99,7 @@ module _ (N : Num) (X : Exact N) where
       ≡ plus N (prod N (n + n) (prod N (n + n) (motion N n t) (noise N n q s)) (turned N (motion N n t))) (noise N n q t) i j
   noise-composes n q s t i j h g =
       let b = quotient (q ⊗ ((s ⊕ t) ⊗ (s ⊕ t))) two (X .above .two-above) (square q s t (q ⊗ (s ⊗ s) ⊘ two) (q ⊗ (t ⊗ t) ⊘ two) (half s) (half t)) in
-      same n i j
+      blocks-same N n i j
       (quotient (q ⊗ ((s ⊕ t) ⊗ ((s ⊕ t) ⊗ (s ⊕ t)))) three (X .above .three-above)
       (cube q s t (q ⊗ (s ⊗ (s ⊗ s)) ⊘ three) (q ⊗ (s ⊗ s) ⊘ two) (q ⊗ (t ⊗ (t ⊗ t)) ⊘ three) (third s) (half s) (third t)))
       b

@@ -1,0 +1,4 @@
+mod Axes
+pub mod Predicting
+pub mod Updating
+pub mod Law
