@@ -1,4 +1,5 @@
 pub mod Algebra
+pub mod TwentyThree
 pub mod Positive
 pub mod NotPositive
 pub mod Logarithm

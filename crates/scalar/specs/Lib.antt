@@ -4,3 +4,4 @@ pub mod Root
 pub mod Scalar
 pub mod Num
 pub mod F64
+pub mod TwentyThree
