@@ -2,83 +2,24 @@
 -- Assumes nothing.
 use mathlib.Core.Path.{_≡_, refl, sym, ap, ap₂, _∙_}
 use mathlib.Core.Logic.{_⊎_, inl, inr}
-use mathlib.Core.Bool.{Bool, true, false, cond, _&&_, and-eq-true-iff}
-use mathlib.Core.List.{List, []}
+use mathlib.Core.Bool.{Bool, true, false}
+use mathlib.Core.List.{List}
 use Prim.Native.Nat.{ℕ, zero, suc, _+_, _-_, _≤_, _<_}
 use native.Mathlib.Omega.{arith}
-use lib.ListN.{getD}
-use lib.Dec.{eqb, ltb, leb}
-use borrow.Author.Tests.{eq-eqb, ne-eqb, lt-ltb, le-ltb, leb-true, leb-false}
+use lib.Dec.{leb}
+use borrow.Author.Tests.{leb-true, leb-false}
 use Rattle.scalar.specs.Num.{Num, Exact}
 use Rattle.scalar.proofs.Algebra.{mul-zero, zero-mul, div-mul}
 use Rattle.linalg.specs.Grown.{grown, backed}
 use Rattle.linalg.specs.Matrix.{at, entry, unit, identity, mul, transpose}
-use Rattle.linalg.specs.Cholesky.{less, low, reduced, factorColumn, columns, cholesky, positive, forward, backward, inverse}
+use Rattle.linalg.specs.Cholesky.{less, cholesky, positive, forward, backward, inverse}
 use Rattle.linalg.specs.Sizes.{sum, prod}
-use Rattle.linalg.proofs.Fill.{six}
 use Rattle.linalg.proofs.Grown.{equal-or-not, grown-at, grown-stays, backed-at}
 use Rattle.linalg.proofs.Sums.{sum-ext, sum-head, sum-tail, sum-cons, less-sum}
 use Rattle.linalg.proofs.Products.{prod-ext, prod-flip, right-inverse, left-inverse}
-use Rattle.linalg.proofs.Entries.{vector-at, matrix-at, transpose-at}
+use Rattle.linalg.proofs.Entries.{matrix-at, transpose-at}
 use Rattle.linalg.proofs.Laws.{product}
-
-module _ (N : Num) where
-  open Num N using (F, sub as _⊖_, mul as _⊗_, div as _⊘_, root, zero as nought)
-
-  infixl 60 _⊖_
-  infixl 70 _⊗_ _⊘_
-  less-ext : (u u′ v v′ : ℕ → F) (b : F) (n : ℕ) → ((k : ℕ) → k < n → u k ≡ u′ k) → ((k : ℕ) → k < n → v k ≡ v′ k) → less N u v b n ≡ less N u′ v′ b n
-  unfolding less
-  less-ext u u′ v v′ b zero g h = refl
-  less-ext u u′ v v′ b (suc n) g h =
-      let r = less-ext u u′ v v′ b n (λ k l. g k (omega arith)) (λ k l. h k (omega arith)) in
-      let p = g n (omega arith) in
-      let q = h n (omega arith) in
-      λ i. r i ⊖ p i ⊗ q i
-
-  module _ (a : List F) where
-    -- the entries of the factor
-    abbrev L : ℕ → ℕ → F
-    L i j = low N (columns N a) i j
-
-    abbrev left : ℕ → ℕ → F
-    left j i = reduced N a (columns N a) j i
-
-    abbrev grow : ℕ → List (List F) → List F
-    grow j cs = factorColumn N a cs j
-
-    -- a column, from those before it
-    column-is : (j : ℕ) → j < 6 → getD (columns N a) j [] ≡ factorColumn N a (grown grow j) j
-    unfolding columns
-    column-is j h = grown-at [] grow 6 j h
-
-    before : (j i : ℕ) → j < 6 → reduced N a (grown grow j) j i ≡ left j i
-    unfolding columns
-    before j i h =
-        less-ext (λ k. low N (grown grow j) j k) (λ k. L j k) (λ k. low N (grown grow j) i k) (λ k. L i k) (entry N a i j) j
-        (λ k g. ap (λ c. at N c j) (grown-stays [] grow j 6 k g (omega arith)))
-        (λ k g. ap (λ c. at N c i) (grown-stays [] grow j 6 k g (omega arith)))
-
-    entry-is : (i j : ℕ) → i < 6 → j < 6 → L i j ≡ cond (ltb i j) nought (cond (eqb i j) (root (left j j)) (left j i ⊘ root (left j j)))
-    unfolding factorColumn
-    entry-is i j h g =
-        ap (λ c. at N c i) (column-is j g)
-        ∙ vector-at N (λ i. cond (ltb i j) nought (cond (eqb i j) (root (reduced N a (grown grow j) j j)) (reduced N a (grown grow j) j i ⊘ root (reduced N a (grown grow j) j j)))) i h
-        ∙ ap₂ (λ d r. cond (ltb i j) nought (cond (eqb i j) (root d) (r ⊘ root d))) (before j j g) (before j i g)
-
-    above : (i j : ℕ) → i < j → j < 6 → L i j ≡ nought
-    above i j h g = entry-is i j (omega arith) g ∙ rw (lt-ltb i j h)
-
-    diagonal : (j : ℕ) → j < 6 → L j j ≡ root (left j j)
-    diagonal j g =
-        let n : ltb j j ≡ false = le-ltb j j (omega arith) in
-        entry-is j j g g ∙ rw (n, eq-eqb j j refl)
-
-    below : (i j : ℕ) → j < i → i < 6 → L i j ≡ left j i ⊘ L j j
-    below i j h g =
-        let n : ltb i j ≡ false = le-ltb i j (omega arith) in
-        let y : eqb i j ≡ false = ne-eqb i j (λ q. absurd (omega arith)) in
-        entry-is i j g (omega arith) ∙ rw (n, y) (ap (λ (d : F). left j i ⊘ d) (sym (diagonal j (omega arith))))
+use Rattle.linalg.proofs.Factor.{less-ext, L, left, above, diagonal, below, six-above}
 
 module _ (N : Num) (X : Exact N) (a : List (N .F)) (good : positive N a ≡ true) where
   open Num N using (F, add as _⊕_, mul as _⊗_, div as _⊘_, lt, zero as nought, past)
@@ -88,19 +29,7 @@ module _ (N : Num) (X : Exact N) (a : List (N .F)) (good : positive N a ≡ true
   -- each pivot is above 0
   pivots : (j : ℕ) → j < 6 → lt nought (left N a j j) ≡ true
   unfolding positive
-  pivots =
-      let p : ℕ → Bool = λ j. lt nought (left N a j j) in
-      let after1 = and-eq-true-iff (p 0) (p 1 && (p 2 && (p 3 && (p 4 && p 5)))) .0 good .1 in
-      let after2 = and-eq-true-iff (p 1) (p 2 && (p 3 && (p 4 && p 5))) .0 after1 .1 in
-      let after3 = and-eq-true-iff (p 2) (p 3 && (p 4 && p 5)) .0 after2 .1 in
-      let after4 = and-eq-true-iff (p 3) (p 4 && p 5) .0 after3 .1 in
-      six (λ j. p j ≡ true)
-      (and-eq-true-iff (p 0) (p 1 && (p 2 && (p 3 && (p 4 && p 5)))) .0 good .0)
-      (and-eq-true-iff (p 1) (p 2 && (p 3 && (p 4 && p 5))) .0 after1 .0)
-      (and-eq-true-iff (p 2) (p 3 && (p 4 && p 5)) .0 after2 .0)
-      (and-eq-true-iff (p 3) (p 4 && p 5) .0 after3 .0)
-      (and-eq-true-iff (p 4) (p 5) .0 after4 .0)
-      (and-eq-true-iff (p 4) (p 5) .0 after4 .1)
+  pivots = six-above N (λ j. left N a j j) good
 
   divisor : (j : ℕ) → j < 6 → lt nought (L N a j j) ≡ true
   divisor j h = ap (lt nought) (diagonal N a j h) ∙ X .roots .root-above (left N a j j) (pivots j h)

@@ -41,7 +41,7 @@ module _ (N : Num) (X : Exact N) where
       matrix-ext N (λ i j. dot N (λ k. entry N a i k) (λ k. entry N b k j)) c
       (λ i j h g. dot-sum N X (λ k. entry N a i k) (λ k. entry N b k j) ∙ e i j h g)
 
-  mul-at : (a b : List F) (i j : ℕ) → i < 6 → j < 6 → entry N (mul N a b) i j ≡ prod N 6 (λ i j. entry N a i j) (λ i j. entry N b i j) i j
+  pub mul-at : (a b : List F) (i j : ℕ) → i < 6 → j < 6 → entry N (mul N a b) i j ≡ prod N 6 (λ i j. entry N a i j) (λ i j. entry N b i j) i j
   unfolding mul
   mul-at a b i j h g =
       matrix-at N (λ i j. dot N (λ k. entry N a i k) (λ k. entry N b k j)) i j h g

@@ -6,4 +6,6 @@ pub mod Products
 pub mod Blocks
 mod Entries
 pub mod Laws
+mod Factor
 pub mod Inverse
+pub mod Triangle

@@ -1,6 +1,7 @@
 -- Cholesky's factor of a matrix, and the inverse by it, over any arithmetic. Definitions only.
 use Prim.Native.Nat.{ℕ, zero, suc, _+_, _-_}
-use mathlib.Core.Bool.{Bool, cond, _&&_}
+use mathlib.Core.Path.{_≡_}
+use mathlib.Core.Bool.{Bool, true, cond, _&&_}
 use mathlib.Core.List.{List, []}
 use lib.ListN.{getD}
 use lib.Dec.{ltb, eqb}
@@ -69,3 +70,12 @@ module _ (N : Num) where
   -- "Inverse": column c is what substitution makes of unit column c
   unfoldable pub inverse : List F → List F
   inverse l = matrix N (λ i c. at N (backward l (forward l c)) i)
+
+  -- m with zeros above the diagonal
+  unfoldable pub lowerPart : List F → List F
+  lowerPart m = matrix N (λ i j. cond (ltb i j) nought (entry N m i j))
+
+  -- m is lower triangular, with a diagonal above 0
+  pub record Triangular (m : List F) : Type 0 where
+    pub lower : lowerPart m ≡ m
+    pub diagonal : above6 (entry N m 0 0) (entry N m 1 1) (entry N m 2 2) (entry N m 3 3) (entry N m 4 4) (entry N m 5 5) ≡ true
