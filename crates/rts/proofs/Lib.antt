@@ -1,2 +1,4 @@
 pub mod Law
 pub mod ChainLaw
+pub mod Taken
+pub mod Example

@@ -6,8 +6,9 @@ use mathlib.Core.Bool.{true, false}
 use mathlib.Core.List.{List, [], _∷_}
 use Rattle.scalar.specs.Num.{Num}
 use Rattle.linalg.specs.Matrix.{matrix, identity, mul, mulVec, transpose, add, sub}
+use Rattle.linalg.specs.Cholesky.{Triangular}
 use Rattle.models.specs.Motion.{motion, noise}
-use Rattle.rts.specs.Smoothing.{Estimate, Later}
+use Rattle.rts.specs.Smoothing.{Estimate, Later, pPred}
 
 -- from the filtered state (x, P) and the smoothed one after it, (x⁺, P⁺), over dt with the noise's density q, to the smoothed state r
 module _ (N : Num) (q dt : N .F) (filtered later r : Estimate (N .F)) where
@@ -73,3 +74,16 @@ Symmetric N a = transpose N (a .p) ≡ a .p
 abbrev pub AllSymmetric : (N : Num) → Estimate (N .F) → List (Later (N .F)) → Type 0
 AllSymmetric N a [] = Symmetric N a
 AllSymmetric N a (b ∷ l) = Symmetric N a × AllSymmetric N (b .state) l
+
+-- where a step over dt is to be taken, P⁻, as the step computes it, is M Mᵀ with some M that is lower triangular and whose diagonal is above 0
+abbrev pub Factored : (N : Num) → N .F → N .F → Estimate (N .F) → Type 0
+Factored N q dt a = N .le dt (N .zero) ≡ false → (m : List (N .F)) × Triangular N m × (pPred N q dt (a .p) ≡ mul N m (transpose N m))
+
+-- it is at each step back to a from the states l after it
+abbrev pub AllFactored : (N : Num) → N .F → Estimate (N .F) → List (Later (N .F)) → Type 0
+AllFactored N q a [] = Unit {0}
+AllFactored N q a (b ∷ l) = Factored N q (b .dt) a × AllFactored N q (b .state) l
+
+-- The laws, in proofs/, at exact arithmetic and with symmetric covariances:
+-- Law: whatever a step that answers Smoothed leaves is the step of Rauch, Tung and Striebel. ChainLaw: whatever a pass over a chain leaves is Published.
+-- Taken: where P⁻ is M Mᵀ with such an M, a step over dt above 0 answers Smoothed, its Cholesky factor being M; where each is, the pass leaves a state.
