@@ -2,6 +2,7 @@
 use Prim.Native.Nat.{ℕ, _+_, _-_, _*_, _%_, _^_}
 use native.Mathlib.Nat.{mod-lt, zero-lt-suc}
 use mathlib.Core.Bool.{Bool, _||_}
+use mathlib.Core.List.{List, map}
 use lib.Dec.{T, eqb, ltb, lt→ltb}
 use Rattle.scalar.specs.Num.{Num}
 
@@ -13,6 +14,10 @@ pub record Residue : Type 0 where
 -- what n leaves over when it is divided by 23
 abbrev pub residue : ℕ → Residue
 residue n = record { value = n % 23; below = lt→ltb (n % 23) 23 (mod-lt n (zero-lt-suc 22)) }
+
+-- the same of each number of a list
+abbrev pub residues : List ℕ → List Residue
+residues l = map residue l
 
 -- b is above a: b − a is the square of a number other than 0. Those are 1, 2, 3, 4, 6, 8, 9, 12, 13, 16 and 18, whose 11th power is 1
 abbrev pub under : Residue → Residue → Bool
