@@ -9,12 +9,13 @@ use lib.Dec.{T, lit≤, leb, eqb}
 use lib.Count.{trailingZeros, leadingZeros, leading-top}
 use lib.Bits.{shifted-half, shifted-even}
 use lib.Pow.{pow-add, pow-pos, pow-mono}
-use lib.Ieee.{Float, nan, inf, fin, binary64, fits, minus, size, odd, ofFields, ofBits, toBits, lt, up, isNan}
+use lib.Ieee.{Float, nan, inf, fin, binary64, fits, minus, size, odd, ofFields, ofBits, toBits, lt, eq, up, isNan}
 use lib.Ieee.Bits.{ofBits-toBits}
 use lib.Ieee.Fits.{up-pos}
 use lib.Ieee.Digits.{size-lt, size-le}
 use borrow.Author.Tests.{ne-eqb, eqb-true, eqb-false}
-use Rattle.scalar.specs.Digits.{nil, IsFinite}
+use Rattle.scalar.specs.declared.digits.Digits.the-variants.{Finite, Infinite, Zero, Other}
+use Rattle.scalar.specs.Digits.{nil, exponentField, digitsField, digitsIn, digitsOf, Falls}
 
 -- ---- an odd number with i zeros after it
 none : (i : ℕ) → i < 0 → ⊥
@@ -136,12 +137,6 @@ positive-no-nan (fin s m x) e = tt
 sign : ℕ → Bool
 sign b = leb 0x8000_0000_0000_0000 b
 
-abbrev pub exponentField : ℕ → ℕ
-exponentField b = b % 0x8000_0000_0000_0000 / 0x10_0000_0000_0000
-
-abbrev pub digitsField : ℕ → ℕ
-digitsField b = b % 0x10_0000_0000_0000
-
 by-fields : (a : Float) → T (fits binary64 a) → ofFields binary64 (sign (toBits binary64 a)) (exponentField (toBits binary64 a)) (digitsField (toBits binary64 a)) ≡ a
 unfolding ofBits sign
 by-fields a h = ofBits-toBits binary64 a h
@@ -161,18 +156,29 @@ module _ (a : Float) (held : T (fits binary64 a)) (p : lt nil a ≡ true) where
       → a ≡ odd 53 false (0x10_0000_0000_0000 + digitsField (toBits binary64 a)) (exponentField (toBits binary64 a) - 1) 1074
   field-mid n z = at-mid (sign (toBits binary64 a)) (exponentField (toBits binary64 a)) (digitsField (toBits binary64 a)) a (by-fields a held) p n z
 
-  -- one that is finite has digits
-  pub finite-digits : (a ≡ inf false → ⊥) → (q : ℕ) × (y : ℕ) × IsFinite a q y
-  finite-digits n = go (eqb (exponentField (toBits binary64 a)) 0) refl
+  -- what a pattern says of a number above 0 is so
+  falls-in : Falls a (digitsIn (toBits binary64 a))
+  unfolding digitsIn
+  falls-in = go (eqb (exponentField b) 2047) (eqb (exponentField b) 0) refl refl
     where
       b : ℕ
       b = toBits binary64 a
 
-      not-top : exponentField b ≡ 2047 → ⊥
-      not-top e = n (field-top e)
+      go : (t z : Bool) → eqb (exponentField b) 2047 ≡ t → eqb (exponentField b) 0 ≡ z
+          → Falls a (cond t Infinite (cond z (Finite (digitsField b) 0) (Finite (0x10_0000_0000_0000 + digitsField b) (exponentField b - 1))))
+      go true z e f = field-top (eqb-true _ _ e)
+      go false true e f = let d = field-zero (eqb-true _ _ f) in record { is = d .1; some = d .0; few = omega arith; low = omega arith }
+      go false false e f =
+          let n = eqb-false (exponentField b) 2047 e in
+          let u = eqb-false (exponentField b) 0 f in
+          record { is = field-mid n u; some = omega arith; few = omega arith; low = omega (arith, n, u) }
 
-      go : (t : Bool) → eqb (exponentField b) 0 ≡ t → (q : ℕ) × (y : ℕ) × IsFinite a q y
-      go true e = let z = field-zero (eqb-true _ _ e) in (digitsField b, 0, record { is = z .1; some = z .0; few = omega arith; low = omega arith })
-      go false e =
-          let u = eqb-false (exponentField b) 0 e in
-          (0x10_0000_0000_0000 + digitsField b, exponentField b - 1, record { is = field-mid not-top u; some = omega arith; few = omega arith; low = omega (arith, not-top, u) })
+-- ---- the kind of a float is what it says
+pub falls : (a : Float) → T (fits binary64 a) → Falls a (digitsOf a)
+unfolding digitsOf
+falls a h = go (lt nil a) (eq a nil) refl refl
+  where
+    go : (p z : Bool) → lt nil a ≡ p → eq a nil ≡ z → Falls a (cond p (digitsIn (toBits binary64 a)) (cond z Zero Other))
+    go true z e f = falls-in a h e
+    go false true e f = f
+    go false false e f = (e, f)

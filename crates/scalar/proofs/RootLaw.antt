@@ -14,9 +14,12 @@ use lib.Ieee.Order.{drop, kept, le-of-values}
 use lib.Ieee.Positive.{num, den, den-pos, positive, value→cross}
 use lib.Ieee.Scale.{grid, overflow, round-val}
 use borrow.Author.Tests.{lt-ltb}
-use Rattle.scalar.specs.Digits.{IsFinite, nil}
+use Rattle.scalar.specs.declared.digits.Digits.{Digits}
+use Rattle.scalar.specs.declared.digits.Digits.the-variants.{Finite, Infinite, Zero, Other}
+use Rattle.scalar.specs.Digits.{IsFinite, nil, digitsOf, Falls}
 use Rattle.scalar.specs.Root.{rootOf, nearRoot, NearestRoot}
-use Rattle.scalar.proofs.Positive.{Shift, shift, finite-digits}
+use Rattle.scalar.proofs.Positive.{Shift, shift, falls, not-no}
+use Rattle.scalar.proofs.NotPositive.{zero-of}
 use Rattle.scalar.proofs.RootDigits.{sq-even, sq-odd}
 use Rattle.scalar.proofs.Floor.{IsNear, near-law, sq-next, sq-le, sq-lt}
 use Rattle.scalar.proofs.RootScale.{brought, gather, parity, once-or-twice}
@@ -153,4 +156,10 @@ above-nil (fin true m e) p = absurd p
 above-nil (fin false m e) p = lt-ltb (0 * down e) (m * up e * 1) (omega (arith, mul-pos (ltb→lt 0 m p) (up-pos e), zero-mul (down e)))
 
 pub root-nearest : (a : Float) → T (fits binary64 a) → T (positive a) → NearestRoot a
-root-nearest a h p = let (q, y, f) = finite-digits a h (above-nil a p) (λ (e : a ≡ inf false). subst (λ (x : Float). T (positive x)) e p) in law a q y f
+root-nearest a h p = go (digitsOf a) (falls a h)
+  where
+    go : (d : Digits) → Falls a d → NearestRoot a
+    go (Finite q y) f = law a q y f
+    go Infinite e = absurd (subst (λ (x : Float). T (positive x)) e p)
+    go Zero e = absurd (zero-of (λ (x : Float). T (positive x) → ⊥) (elim [ true ↦ λ x p. p | false ↦ λ x p. p ]) a e p)
+    go Other f = not-no (sym (above-nil a p) ∙ f .0)

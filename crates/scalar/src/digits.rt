@@ -1,5 +1,6 @@
 // What a float is, for a function of positive numbers.
-ghost use Rattle.scalar.specs.Digits.{Falls};
+ghost use mathlib.Core.Path.{_≡_};
+ghost use Rattle.scalar.specs.Digits.{digitsOf};
 
 pub enum Digits {
     // Above 0 and finite: q · 2^(y - 1074).
@@ -14,7 +15,7 @@ pub enum Digits {
 
 // The kind of a float, with the digits of a positive one.
 pub fn digits_of(a: f64) -> Digits
-    ensures { λ r. ⌜ Falls a r ⌝ }
+    ensures { λ r. ⌜ r ≡ digitsOf a ⌝ }
 {
     if 0.0 < a {
         let b = f64::to_bits(a);

@@ -1,27 +1,21 @@
 -- `scalar::digits::digits_of` meets its contract. Assumes nothing.
 use borrow.Author.Needs.{needs}
-use mathlib.Core.Path.{sym, subst}
-use native.Mathlib.Omega.{arith}
-use lib.Dec.{T}
-use lib.Ieee.{binary64, fits}
-use Rattle.scalar.proofs.Positive.{positive-no-nan, field-top, field-zero, field-mid}
+use borrow.Author.Tests.{ne-eqb}
+use Rattle.scalar.specs.Digits.{digitsOf, digitsIn}
+use Rattle.scalar.proofs.Positive.{positive-no-nan}
 use Rattle.scalar.proofs.digits.digits_of.Statement.{statement}
 use Rattle.scalar.proofs.digits.digits_of.Tie as tie
-
-held : (c : tie.Start) → T (fits binary64 (c .args .a))
-held c = subst T (sym (c .good .0 .1)) tt
 
 float-to-bits-b : tie.Need-float-to-bits-b
 float-to-bits-b c = positive-no-nan (c .before .args .a) (c .if1 .taken)
 
 returns : tie.Need-returns
-returns c = let s = c .before .before in field-top (s .args .a) (held s) (c .before .if1 .taken) (c .if2 .taken)
+unfolding digitsOf digitsIn
+returns c = rw (c .before .if1 .taken, c .if2 .taken)
 
 returns-2 : tie.Need-returns-2
-returns-2 c =
-    let s = c .before .before .before in
-    let z = field-zero (s .args .a) (held s) (c .before .before .if1 .taken) (c .if3 .taken) in
-    record { is = z .1; some = z .0; few = omega arith; low = omega arith }
+unfolding digitsOf digitsIn
+returns-2 c = rw (c .before .before .if1 .taken, ne-eqb _ _ (c .before .if2 .left), c .if3 .taken)
 
 add-t6 : tie.Need-add-t6
 add-t6 c = search needs
@@ -30,15 +24,16 @@ sub-t8 : tie.Need-sub-t8
 sub-t8 c = search needs
 
 returns-3 : tie.Need-returns-3
-returns-3 c =
-    let s = c .before .before .before in
-    record { is = field-mid (s .args .a) (held s) (c .before .before .if1 .taken) (c .before .if2 .left) (c .if3 .left); some = omega arith; few = omega arith; low = omega arith }
+unfolding digitsOf digitsIn
+returns-3 c = rw (c .before .before .if1 .taken, ne-eqb _ _ (c .before .if2 .left), ne-eqb _ _ (c .if3 .left))
 
 returns-4 : tie.Need-returns-4
-returns-4 c = search needs
+unfolding digitsOf
+returns-4 c = rw (c .before .if1 .left, c .if4 .taken)
 
 returns-5 : tie.Need-returns-5
-returns-5 c = search needs
+unfolding digitsOf
+returns-5 c = rw (c .before .if1 .left, c .if4 .left)
 
 pub digits-of-spec : {M : Type 1} → statement M
 digits-of-spec =
