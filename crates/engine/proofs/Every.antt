@@ -1,7 +1,7 @@
--- Facts of tests: of a conjunction, of a refusal that is 0 or 5, and of a test over all numbers below a bound. Assumes nothing.
+-- Facts of tests: of a conjunction, of a disjunction, of a refusal that is 0 or 5, and of a test over all numbers below a bound. Assumes nothing.
 use Prim.Native.Nat.{ℕ, zero, suc, _+_, _<_}
 use mathlib.Core.Path.{_≡_, refl, sym, ap, _∙_}
-use mathlib.Core.Bool.{Bool, true, false, cond, _&&_, and-false, and-true, and-assoc}
+use mathlib.Core.Bool.{Bool, true, false, cond, _&&_, _||_, and-false, and-true, and-assoc}
 use native.Mathlib.Numerals.{add-one}
 use native.Mathlib.Omega.{arith}
 use lib.Dec.{eqb}
@@ -11,6 +11,10 @@ use Rattle.engine.specs.Body.{all, codeOk, presentOk}
 pub both : (a b : Bool) → a && b ≡ true → (a ≡ true) × (b ≡ true)
 both true b h = (refl, h)
 both false b h = absurd (let z : _≡_ {A = ℕ} 0 1 = cc in omega arith)
+
+pub neither : (a b : Bool) → (a || b) ≡ false → (a ≡ false) × (b ≡ false)
+neither true b h = absurd (let z : _≡_ {A = ℕ} 0 1 = cc in omega arith)
+neither false b h = (refl, h)
 
 pub never : (b : Bool) → (b ≡ true → ⊥) → false ≡ b
 never true h = absurd (h refl)

@@ -3,7 +3,7 @@
 use Prim.Native.Nat.{ℕ, suc, _+_, _≤_, _<_}
 use native.Mathlib.Omega.{arith}
 use mathlib.Core.Path.{_≡_, refl, _∙_}
-use mathlib.Core.Bool.{Bool, true, false, _||_}
+use mathlib.Core.Bool.{Bool, true, false}
 use mathlib.Core.List.{List, [], _∷_}
 use mathlib.Core.Option.{none, Option·some-ne-none}
 use lib.ListN.{getD}
@@ -12,6 +12,7 @@ use mir.Val.{Fits}
 use borrow.Author.Tests.{ltb-false, leb-false}
 use Rattle.bounds.specs.Bounds.{ACCEPTED, COUNTED}
 use Rattle.engine.specs.Body.{Body, frameIn, bodyRefusal}
+use Rattle.engine.proofs.Every.{neither}
 use Rattle.fgo_spec.specs.Refiner.{firstOf}
 use Rattle.fgo_spec.specs.Rule.{Bytes, Rule}
 use Rattle.fgo_spec.proofs.Accepting.{Room, has-room}
@@ -57,10 +58,6 @@ spaced-of r h =
       splits = ltb-false _ _ (h5 .0);
       drops = ltb-false _ _ (h5 .1);
     }
-  where
-    neither : (a b : Bool) → (a || b) ≡ false → (a ≡ false) × (b ≡ false)
-    neither true b e = absurd (let z : _≡_ {A = ℕ} 0 1 = cc in omega arith)
-    neither false b e = (refl, e)
 
 -- ---- a frame that is accepted
 

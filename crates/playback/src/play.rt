@@ -29,9 +29,11 @@ use recording::Contents;
 use smoother_window::SmootherConfig;
 use smoother_window::window::window_numbers;
 use smoother_window::window::window_words;
+ghost use mathlib.Core.Path.{_≡_};
+ghost use mathlib.Core.Bool.{true};
 ghost use Prim.Native.Nat.{_≤_};
 ghost use Rattle.bounds.specs.Bounds.{FRAMES, LAG};
-ghost use Rattle.engine.specs.Config.{lag};
+ghost use Rattle.engine.specs.Config.{lag, legal};
 ghost use Rattle.playback.specs.Shown.{Shown};
 
 // How the frames are printed: as the refiner emits them, in short or in full; or smoothed, in full.
@@ -273,22 +275,18 @@ fn run_as(s: &[u8], n: usize, refiner: FixedLagRefiner, form: Form)
     }
 }
 
-// Played with these settings; or their refusal.
+// Played with these settings, which opening does not refuse.
 fn open(s: &[u8], n: usize, config: FgoConfig, form: Form)
-    requires { ⌜ n ≤ FRAMES ⌝ }
+    requires { ⌜ (legal config ≡ true) × (n ≤ FRAMES) ⌝ }
 {
     let o = fgo::open(config);
-    match o {
-        Opened::Refused(code) => {
-            put_refusal(code);
-        }
-        Opened::Ready(r) => {
-            run_as(s, n, r, form);
-        }
-    }
+    let Opened::Ready(r) = o else {
+        return;
+    };
+    run_as(s, n, r, form);
 }
 
-// A recording, played; its frames are printed in that form.
+// A recording, played, its frames printed in that form; or its refusal, 11, 12 or 1.
 pub fn play(s: &[u8], form: Form) {
     let c = recording::contents_of(s);
     match c {

@@ -1,7 +1,7 @@
--- Document 01, "Recording and print", and refusals 11 and 12. Definitions only.
+-- Document 01, "Recording and print", and what a recording is refused for: 11, 12, then 1. Definitions only.
 use Prim.Native.Nat.{ℕ, zero, suc, _+_, _*_}
 use mathlib.Core.List.{List, []}
-use mathlib.Core.Bool.{Bool, cond, _&&_}
+use mathlib.Core.Bool.{Bool, cond, not, _&&_, _||_}
 use lib.ListN.{length, take, drop}
 use lib.Dec.{leb, ltb, eqb}
 use lib.Ieee.{Float, binary64, ofBits}
@@ -10,6 +10,7 @@ use Rattle.bounds.specs.Bounds.{SETTING, SETTINGS, CONTENTS, ENTRY, FRAMES, REC
 use Rattle.scalar.specs.Scalar.{signed}
 use Rattle.engine.specs.Little.{little}
 use Rattle.engine.specs.Body.{all}
+use Rattle.engine.specs.Config.{legal}
 use Rattle.engine.specs.declared.config.FgoConfig.{FgoConfig}
 use Rattle.recording.specs.declared.Contents.{Contents}
 use Rattle.recording.specs.declared.Contents.the-variants.{Refused, Frames}
@@ -61,16 +62,17 @@ module _ (s : List ℕ) where
   start zero = CONTENTS + ENTRY * count
   start (suc i) = start i + size i
 
-  -- the bodies "exactly fill the rest, in order without gaps"
+  -- 11: "over 65,536 bytes, over 256 frames, or shorter than its contents table"
+  unfoldable pub illSized : Bool
+  illSized = ltb RECORDING (length s) || (ltb FRAMES count || ltb (length s) (CONTENTS + ENTRY * count))
+
+  -- not 12: the bodies "exactly fill the rest, in order without gaps"
   unfoldable pub fills : Bool
   fills = all (λ i. eqb (offset i) (start i)) count && eqb (start count) (length s)
 
-  -- 11: "over 65,536 bytes, over 256 frames, or shorter than its contents table"; 12: the bodies do not fill the rest so; 0 for none
+  -- in the order of the table 11, 12, then 1: "a setting out of bounds or not finite"; 0 for none
   unfoldable pub refusal : ℕ
-  refusal =
-      cond (ltb RECORDING (length s)) 11
-      (cond (ltb (length s) CONTENTS) 11
-      (cond (ltb FRAMES count) 11 (cond (ltb (length s) (CONTENTS + ENTRY * count)) 11 (cond fills 0 12))))
+  refusal = cond illSized 11 (cond (not fills) 12 (cond (not (legal settings)) 1 0))
 
   -- the contents table is there as far as entry i, has that entry, and the recording has the bytes that it names
   unfoldable pub holds : ℕ → Bool
@@ -85,6 +87,6 @@ abbrev pub contentsBy : ℕ → FgoConfig → ℕ → Contents
 contentsBy zero c n = Frames c n
 contentsBy (suc r) c n = Refused (suc r)
 
--- what a recording says at its start: its settings and the number of its frames, or 11 or 12
+-- what a recording says at its start: its settings and the number of its frames, or 11, 12 or 1
 unfoldable pub contentsOf : List ℕ → Contents
 contentsOf s = contentsBy (refusal s) (settings s) (count s)

@@ -11,9 +11,9 @@ ghost use mathlib.Core.Path.{_≡_};
 ghost use Prim.Native.Nat.{_+_, _*_, _≤_};
 ghost use lib.ListN.{length};
 ghost use Rattle.bounds.specs.Bounds.{SETTINGS, CONTENTS, ENTRY, RECORDING};
-ghost use Rattle.recording.specs.Recording.{count, offset, size, holds, fills, refusal, settings, contentsOf, recordedBody};
+ghost use Rattle.recording.specs.Recording.{count, offset, size, holds, illSized, fills, settings, contentsOf, recordedBody};
 
-// What a recording says at its start: refusal 11 or 12, or its settings and the number of its frames.
+// What a recording says at its start: refusal 11, 12 or 1, or its settings and the number of its frames.
 pub enum Contents {
     Refused(u8),
     Frames { config: FgoConfig, count: usize },
@@ -60,24 +60,21 @@ fn fills_rest(s: &[u8]) -> bool
     at == s.len()
 }
 
-// The refusal that a recording gets: 0 for none, 11 or 12.
-fn refusal_of(s: &[u8]) -> u8
-    ensures { λ r. ⌜ r ≡ refusal (now (s .entry)) ⌝ }
+// 11: over RECORDING bytes, over FRAMES frames, or shorter than its contents table.
+fn is_ill_sized(s: &[u8]) -> bool
+    ensures { λ r. ⌜ r ≡ illSized (now (s .entry)) ⌝ }
 {
     if RECORDING < s.len() {
-        return 11;
+        return true;
     }
     if s.len() < CONTENTS {
-        return 11;
+        return true;
     }
     let n = count_of(s);
     if FRAMES < n {
-        return 11;
+        return true;
     }
-    if s.len() < CONTENTS + ENTRY * n {
-        return 11;
-    }
-    if fills_rest(s) { 0 } else { 12 }
+    s.len() < CONTENTS + ENTRY * n
 }
 
 // The eleven settings, in the order of `FgoConfig`.
@@ -111,16 +108,24 @@ fn settings_of(s: &[u8]) -> FgoConfig
     }
 }
 
-// What a recording says at its start.
+// What a recording says at its start, or the first of 11, 12 and 1 that it is refused for.
 pub fn contents_of(s: &[u8]) -> Contents
     ensures { λ r. ⌜ r ≡ contentsOf (now (s .entry)) ⌝ }
 {
-    let n = refusal_of(s);
-    if n != 0 {
-        return Contents::Refused(n);
+    if is_ill_sized(s) {
+        return Contents::Refused(11);
+    }
+    let filled = fills_rest(s);
+    let config = settings_of(s);
+    let legal = config.is_legal();
+    if !filled {
+        return Contents::Refused(12);
+    }
+    if !legal {
+        return Contents::Refused(1);
     }
     Contents::Frames {
-        config: settings_of(s),
+        config,
         count: count_of(s),
     }
 }
