@@ -24,13 +24,7 @@ module _ (N : Num) (X : Exact N) where
   -- cv_q6 is Q of three axes
   pub noise-is : (dt q : F) → cvQ N dt q ≡ matrix N (noise N 3 q dt)
   unfolding cvQ
-  noise-is dt q =
-      let zero-add = Algebra.zero-add N X in
-      let a : nought ⊕ q ⊗ (dt ⊗ dt ⊗ dt) ⊘ three ≡ q ⊗ (dt ⊗ (dt ⊗ dt)) ⊘ three =
-      zero-add (q ⊗ (dt ⊗ dt ⊗ dt) ⊘ three) ∙ ap (λ (w : F). q ⊗ w ⊘ three) (X .field .mul-assoc dt dt dt) in
-      let b : nought ⊕ q ⊗ (dt ⊗ dt) ⊘ two ≡ q ⊗ (dt ⊗ dt) ⊘ two = zero-add (q ⊗ (dt ⊗ dt) ⊘ two) in
-      let d : nought ⊕ q ⊗ dt ≡ q ⊗ dt = zero-add (q ⊗ dt) in
-      λ i. matrix N (blocks N 3 (a i) (b i) (b i) (d i))
+  noise-is dt q = simp (Algebra.zero-add N X, X .field .mul-assoc)
 
   -- F P Fᵀ + Q, of blocks
   pub carried : (n : ℕ) (dt p r s a b d : F) (i j : ℕ) → i < n + n → j < n + n

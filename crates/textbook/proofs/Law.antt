@@ -21,7 +21,7 @@ module _ (N : Num) where
         time = refl;
       }
     where
-      begun : (i : ℕ) → axisAt N (start N (o .at) (o .t) (o .r) v) i ≡ startAxis N (z N n o i)
+      begun : (i : ℕ) → axisAt N (start N (o .at) (o .t) (o .r) v) i ≡ startAxis N (z N o i)
       begun i = List·getD-map (startAxis N) (o .at) i past
 
 module _ (N : Num) (X : Exact N) (n : ℕ) (q : N .F) where

@@ -88,10 +88,10 @@ module _ (N : Num) (X : Exact N) where
     P⁻ = Kalman.P⁻ N n q (estimateOf N n was) (o .t)
 
     abbrev S : ℕ → ℕ → F
-    S = Kalman.S N n q (estimateOf N n was) o
+    S = Kalman.S N n q (estimateOf N n was) (o .t) (o .r) (at N (o .at))
 
     abbrev ν : ℕ → F
-    ν = Kalman.ν N n q (estimateOf N n was) o
+    ν = Kalman.ν N n q (estimateOf N n was) (o .t) (o .r) (at N (o .at))
 
     x-is : (i : ℕ) → i < n + n → x⁻ i ≡ estimateOf N n k .x i
     x-is i h = sym (predicts N X n q was (o .t) held .state i h)
@@ -226,7 +226,7 @@ module _ (N : Num) (X : Exact N) where
         (along-at (innovation N) past (startAxis N past) past (o .at) (k .axes) i (rw wide h) (rw long h) ∙ sym (ν-is i h)))
 
     -- track work is one step
-    pub work-law : Kalman N n q (estimateOf N n was) o (estimateOf N n after) (work N q was o .nll)
+    pub work-law : Kalman N n q (estimateOf N n was) (o .t) (o .r) (at N (o .at)) (estimateOf N n after) (work N q was o .nll)
     work-law =
         record {
           inverse = inverse;
@@ -237,6 +237,7 @@ module _ (N : Num) (X : Exact N) where
           state = state;
           covariance = covariance;
           time = refl;
+          apart = λ i j h l e. S-is i j h l ∙ diagonal-other N s i j e;
           likelihood = likelihood;
         }
 

@@ -11,7 +11,7 @@ use Rattle.scalar.specs.Num.{Num}
 use Rattle.linalg.specs.Matrix.{at, unit}
 use Rattle.linalg.specs.Sizes.{sum, image, prod, stacked, turned, plus, minus, diagonal, blocks}
 use Rattle.models.specs.Motion.{motion, noise}
-use Rattle.kf.specs.Plain.{Axis, Filter, Observed, startAxis, start, predict, work}
+use Rattle.kf.specs.Plain.{Axis, Filter, Observed, startAxis, predict, work}
 
 -- a state x, its covariance P, and its time
 pub record Estimate (F : Type 0) : Type 0 where
@@ -23,30 +23,19 @@ pub record Estimate (F : Type 0) : Type 0 where
 abbrev pub Same : {F : Type 0} → ℕ → ℕ → (ℕ → ℕ → F) → (ℕ → ℕ → F) → Type 0
 Same n m a b = (i j : ℕ) → i < n → j < m → a i j ≡ b i j
 
-module _ (N : Num) (n : ℕ) where
-  -- z, the position that is observed
-  abbrev pub z : Observed (N .F) → ℕ → N .F
-  z o = at N (o .at)
-
-  -- a is where the filter starts, v the variance of the speed: x = (z, 0), P = diag(r, .., v, ..)
-  pub record Prior (v : N .F) (o : Observed (N .F)) (a : Estimate (N .F)) : Type 0 where
-    pub state : (i : ℕ) → i < n + n → a .x i ≡ stacked N n (z o) (λ k. N .zero) i
-    pub covariance : Same (n + n) (n + n) (a .P) (blocks N n (o .r) (N .zero) (N .zero) v)
-    pub time : a .t ≡ o .t
-
-  -- H takes the positions: n rows, 2n columns
-  abbrev pub H : ℕ → ℕ → N .F
-  H = unit N
-
--- from the state a to the time t, q the acceleration spectral density
+-- from the state a over the time to t, q the acceleration spectral density
 module _ (N : Num) (n : ℕ) (q : N .F) (a : Estimate (N .F)) (t : N .F) where
+  open Num N using (add as _⊕_, sub as _⊖_, mul as _⊗_, div as _⊘_, ln, zero, half, two, pi)
+
+  infixl 60 _⊕_ _⊖_
+  infixl 70 _⊗_ _⊘_
   -- F, the motion over dt
   abbrev pub F : ℕ → ℕ → N .F
-  F = motion N n (N .sub t (a .t))
+  F = motion N n (t ⊖ a .t)
 
   -- Q, the covariance of its noise
   abbrev pub Q : ℕ → ℕ → N .F
-  Q = noise N n q (N .sub t (a .t))
+  Q = noise N n q (t ⊖ a .t)
 
   -- x⁻ = F x
   abbrev pub x⁻ : ℕ → N .F
@@ -62,45 +51,61 @@ module _ (N : Num) (n : ℕ) (q : N .F) (a : Estimate (N .F)) (t : N .F) where
     pub covariance : Same (n + n) (n + n) (b .P) P⁻
     pub time : b .t ≡ t
 
--- from the state a by the observation o to the state b, whose negative log-likelihood is l
-module _ (N : Num) (n : ℕ) (q : N .F) (a : Estimate (N .F)) (o : Observed (N .F)) where
-  open Num N using (add as _⊕_, sub as _⊖_, mul as _⊗_, div as _⊘_, ln, half, two, pi)
+  -- by the position z that is observed then, r its variance
+  module _ (r : N .F) (z : ℕ → N .F) where
+    -- H takes the positions: n rows, 2n columns
+    abbrev pub H : ℕ → ℕ → N .F
+    H = unit N
 
-  infixl 60 _⊕_ _⊖_
-  infixl 70 _⊗_ _⊘_
-  -- S = H P⁻ Hᵀ + R, where R = r I
-  abbrev pub S : ℕ → ℕ → N .F
-  S = plus N (prod N (n + n) (prod N (n + n) (H N n) (P⁻ N n q a (o .t))) (turned N (H N n))) (diagonal N (o .r))
+    -- R = r I
+    abbrev pub R : ℕ → ℕ → N .F
+    R = diagonal N r
 
-  -- ν = z − H x⁻
-  abbrev pub ν : ℕ → N .F
-  ν i = z N n o i ⊖ image N (n + n) (H N n) (x⁻ N n q a (o .t)) i
+    -- S = H P⁻ Hᵀ + R
+    abbrev pub S : ℕ → ℕ → N .F
+    S = plus N (prod N (n + n) (prod N (n + n) H P⁻) (turned N H)) R
 
-  -- one step
-  pub record Kalman (b : Estimate (N .F)) (l : N .F) : Type 0 where
-    -- S⁻¹
-    pub inverse : ℕ → ℕ → N .F
-    pub left : Same n n (prod N n inverse S) (unit N)
-    pub right : Same n n (prod N n S inverse) (unit N)
-    -- K = P⁻ Hᵀ S⁻¹
-    pub K : ℕ → ℕ → N .F
-    pub gain : Same (n + n) n K (prod N n (prod N (n + n) (P⁻ N n q a (o .t)) (turned N (H N n))) inverse)
-    -- x = x⁻ + K ν
-    pub state : (i : ℕ) → i < n + n → b .x i ≡ x⁻ N n q a (o .t) i ⊕ image N n K ν i
-    -- P = (I − K H) P⁻
-    pub covariance : Same (n + n) (n + n) (b .P) (prod N (n + n) (minus N (unit N) (prod N n K (H N n))) (P⁻ N n q a (o .t)))
-    pub time : b .t ≡ o .t
-    -- the negative log-likelihood of ν under S: over the axes, the sum of ½ (ν²/S + ln(2π S))
-    pub likelihood : l ≡ sum N (λ i. half ⊗ (ν i ⊗ ν i ⊘ S i i ⊕ ln (two ⊗ pi ⊗ S i i))) n
+    -- ν = z − H x⁻
+    abbrev pub ν : ℕ → N .F
+    ν i = z i ⊖ image N (n + n) H x⁻ i
 
--- over a list of observations
+    -- b is the state after it, and l the negative log-likelihood of ν under S
+    pub record Kalman (b : Estimate (N .F)) (l : N .F) : Type 0 where
+      -- S⁻¹
+      pub inverse : ℕ → ℕ → N .F
+      pub left : Same n n (prod N n inverse S) (unit N)
+      pub right : Same n n (prod N n S inverse) (unit N)
+      -- K = P⁻ Hᵀ S⁻¹
+      pub K : ℕ → ℕ → N .F
+      pub gain : Same (n + n) n K (prod N n (prod N (n + n) P⁻ (turned N H)) inverse)
+      -- x = x⁻ + K ν
+      pub state : (i : ℕ) → i < n + n → b .x i ≡ x⁻ i ⊕ image N n K ν i
+      -- P = (I − K H) P⁻
+      pub covariance : Same (n + n) (n + n) (b .P) (prod N (n + n) (minus N (unit N) (prod N n K H)) P⁻)
+      pub time : b .t ≡ t
+      -- S has nothing beside its diagonal: the axes are independent, and l is the sum over them of ½ (ν²/S + ln(2π S))
+      pub apart : (i j : ℕ) → i < n → j < n → (i ≡ j → ⊥) → S i j ≡ zero
+      pub likelihood : l ≡ sum N (λ i. half ⊗ (ν i ⊗ ν i ⊘ S i i ⊕ ln (two ⊗ pi ⊗ S i i))) n
+
+-- ---- over a list of observations
+
+-- z, the position that is observed
+abbrev pub z : (N : Num) → Observed (N .F) → ℕ → N .F
+z N o = at N (o .at)
+
+-- a is where the filter along n axes starts, v the variance of the speed: x = (z, 0), P = diag(r, .., v, ..)
+pub record Prior (N : Num) (n : ℕ) (v : N .F) (o : Observed (N .F)) (a : Estimate (N .F)) : Type 0 where
+  pub state : (i : ℕ) → i < n + n → a .x i ≡ stacked N n (z N o) (λ k. N .zero) i
+  pub covariance : Same (n + n) (n + n) (a .P) (blocks N n (o .r) (N .zero) (N .zero) v)
+  pub time : a .t ≡ o .t
+
 module _ (N : Num) (n : ℕ) (q : N .F) where
-  -- from the state a and the sum l of likelihoods to b and l′: each observation is one step from the state before it, and its likelihood is added
+  -- from the state a to b, and the sum of the negative log-likelihoods from l to l′: each observation is one step from the state before it
   abbrev pub Over : Estimate (N .F) → N .F → List (Observed (N .F)) → Estimate (N .F) → N .F → Type 0
   Over a l [] b l′ = (b ≡ a) × (l′ ≡ l)
-  Over a l (o ∷ os) b l′ = (c : Estimate (N .F)) × (k : N .F) × Kalman N n q a o c k × Over c (N .add l k) os b l′
+  Over a l (o ∷ os) b l′ = (c : Estimate (N .F)) × (k : N .F) × Kalman N n q a (o .t) (o .r) (z N o) c k × Over c (N .add l k) os b l′
 
-  -- b and l are what the filter leaves that starts at o and goes on by os
+  -- the filter that starts at o and goes on by os leaves b, and l is the sum of the negative log-likelihoods of os
   abbrev pub Published : N .F → Observed (N .F) → List (Observed (N .F)) → Estimate (N .F) → N .F → Type 0
   Published v o os b l = (a : Estimate (N .F)) × Prior N n v o a × Over a (N .zero) os b l
 
@@ -126,3 +131,6 @@ module _ (N : Num) where
 abbrev pub AllAlong : {F : Type 0} → ℕ → List (Observed F) → Type 0
 AllAlong n [] = Unit {0}
 AllAlong n (o ∷ os) = (length (o .at) ≡ n) × AllAlong n os
+
+-- The laws, in proofs/, at exact arithmetic: Predicting: predict is Predicted. Updating: track work is Kalman. Law: run is Published, for any n and any
+-- observations along n axes, where p00 + r is above 0 at each update.
