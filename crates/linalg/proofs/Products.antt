@@ -1,5 +1,5 @@
 -- Matrices over an exact arithmetic, as functions of row and column below n: products, the unit matrix, inverses. Assumes nothing.
-use mathlib.Core.Path.{_≡_, refl, sym, ap, ap₂, _∙_}
+use mathlib.Core.Path.{_≡_, refl, sym, ap₂, _∙_}
 use Prim.Native.Nat.{ℕ, _<_}
 use Rattle.scalar.specs.Num.{Num, Exact}
 use Rattle.scalar.proofs.Algebra.{mul-one}

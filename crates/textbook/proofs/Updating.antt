@@ -7,7 +7,7 @@ use lib.ListN.{length, length-map, getD}
 use Rattle.scalar.specs.Num.{Num, Exact}
 use Rattle.scalar.proofs.Algebra as Algebra
 use Rattle.linalg.specs.Matrix.{at, unit}
-use Rattle.linalg.specs.Sizes.{sum, image, prod, turned, plus, minus, diagonal, blocks}
+use Rattle.linalg.specs.Sizes.{sum, image, prod, turned, minus, diagonal, blocks}
 use Rattle.linalg.proofs.Sums.{sum-ext, sum-nought}
 use Rattle.linalg.proofs.Diagonal.{diagonal-same, diagonal-other, diagonal-flip, diagonal-nought, diagonal-shift, diagonal-each, picked, picked-right}
 use Rattle.linalg.proofs.Products.{prod-ext, unit-left, unit-right}
