@@ -7,6 +7,7 @@ use mathlib.Core.Option.{Option, none, some, Option·none-ne-some, Option·some-
 use lib.ListN.{length, getD, take, drop, length-append, length-map}
 use lib.Seq.{drop-at}
 use lib.Dec.{T}
+use lib.Ieee.{nan}
 use lib.Signed.{leZ, _≤ℤ_}
 use Rattle.bounds.specs.Bounds.{TRACK, LINK, STATE}
 use Rattle.buffers.specs.Answer.{Op, pushed, taken, Written, numberOf}
@@ -19,7 +20,7 @@ use Rattle.engine.specs.Body.{Body, frameIn, rows, NamedOnce}
 use Rattle.engine.proofs.Laid.{rows-back}
 use Rattle.fgo_spec.specs.Lists.{times}
 use Rattle.fgo_spec.specs.Windows.{Detection, under, window}
-use Rattle.fgo_spec.specs.Emitting.{Listed, Emitted, associationWords, wordsOf, written}
+use Rattle.fgo_spec.specs.Emitting.{Listed, Emitted, associationWords, costNumber, wordsOf, written}
 use Rattle.fgo_spec.specs.Rule.{All}
 use Rattle.fgo_spec.specs.History.{run, timeOf, scansOf, standing, NeverBack, Rising, afresh, seen, Told}
 use Rattle.fgo_spec.specs.Following.{sightedAll, sightings}
@@ -34,7 +35,7 @@ use Rattle.histories.specs.Calls.{operations, accepted, wrote}
 use Rattle.histories.specs.Refined.{Call, Session}
 use Rattle.histories.specs.Audit.{idAt, idsIn, linkIn, tracksIn, trackIn, lineOf, observed, named, timesIn, Heard, Audited}
 use Rattle.histories.proofs.Parts.{Around, around}
-use Rattle.histories.proofs.Reading.{At, element, Associated, association, track-words, track-numbers, association-words, association-word}
+use Rattle.histories.proofs.Reading.{At, element, Associated, association, track-words, track-numbers, association-words, association-word, cost-number, sensor-word, words-length, numbers-length}
 use Rattle.histories.proofs.Fresh.{id-is}
 use Rattle.histories.proofs.RefinedLaw.{delivered}
 
@@ -170,6 +171,9 @@ module _ (c : FgoConfig) (past : List Emitted) (e : Emitted) (t : Told c past e)
         rising = subst Rising (sym (tracks-are e)) (t .rising);
         links = λ j h. subst (λ f. (j : ℕ) → j < length (f .associations) → linkIn (written e) j ≡ associationWords (getD (f .associations) j noAssociation) (idAt (written e) j)) (sym own) (link-is e whole) j h;
         apart = λ x h. subst (λ l. times x l ≤ 1) (sym (ids-are e whole)) (t .apart x h);
+        costs = unfold wordsOf in (λ j h. cost-number e j ∙ ap (λ (f : Frame). getD (map (λ a. costNumber (a .cost)) (f .associations)) j nan) (sym own));
+        sensors = unfold wordsOf in (λ k. sensor-word e whole k ∙ ap (λ (f : Frame). getD (f .sensors) k 0) (sym own));
+        long = (words-length e whole, numbers-length e);
         dots = subst NamedOnce (sym own) (t .named);
         tracks = unfold wordsOf in track;
         exact = exact;

@@ -12,12 +12,14 @@
 --   some a, none       an answer a, or none;  cond t a b: a where the test t holds, else b
 --   Names in capitals are bounds and strides, in crates/bounds. `abbrev`, `unfoldable` and `pub` say how a definition is used, not what it is.
 --
--- A worked reading, of `Heard.tracks` below. A refiner was opened and called any number of times; bs are the bodies of the pushes that were accepted, and o is a
--- frame that was written, after the frames before. Take its i-th listed track; its words begin with an id, x. Go over the frames written so far, with the
--- bodies that they are of, and pick each dot whose association was written with the id x: that is `observed x 0 bs (before ++ (o ∷ []))`. Run the plain filter
--- over these dots alone, from nothing, and predict to this frame's time: that is `afresh`. Then the six words and the 42 numbers that o has of the track are just
--- those that come out. With one frame, one dot at (1, 2, 0.5) and engine id 7 (document 01's printed frame) x is 1, `observed` has that dot, and the words are
--- 1, 0, 0, 0, 4294967296, 1.
+-- A worked reading, of `Heard.tracks` below. A refiner was opened and called any number of times; bs are the bodies of the pushes that were accepted, and
+-- o is a frame that was written, after the frames before. Take its i-th listed track; its words begin with an id, x. Go over the frames written so far, with
+-- the bodies that they are of, and pick each dot whose association was written with the id x: that is `observed x 0 bs (before ++ (o ∷ []))`. Run the plain
+-- filter over these dots alone, from nothing, and predict to this frame's time: that is `afresh`. Then the words and numbers that o has of the track are
+-- just those that come out. With one frame, one dot at (1, 2, 0.5) and engine id 7 (document 01's printed frame) x is 1, `observed` has that dot, and the
+-- words are 1, 0, 0, 0, 4294967296, 1.
+--
+-- Not here: that the ids are those that placing and search give (`asSearched` of fgo_spec/specs/History.antt), and the smoothed form (Joined.antt).
 use Prim.Native.Nat.{ℕ, suc, _+_, _*_, _≤_, _<_}
 use mathlib.Core.Path.{_≡_}
 use mathlib.Core.List.{List, [], _∷_, _++_, map, List·Memᴰ}
@@ -25,6 +27,7 @@ use mathlib.Core.Option.{some}
 use lib.ListN.{length, getD, take, drop}
 use lib.Dec.{T}
 use lib.IntN.{ℤ}
+use lib.Ieee.{nan}
 use lib.Signed.{leZ, _≤ℤ_}
 use Rattle.bounds.specs.Bounds.{HEAD, TRACK, LINK, STATE}
 use Rattle.buffers.specs.Answer.{Written}
@@ -35,10 +38,10 @@ use Rattle.engine.specs.Frame.{noAssociation, modeNumber}
 use Rattle.engine.specs.Body.{Body, frameIn, rows, NamedOnce}
 use Rattle.fgo_spec.specs.Lists.{times}
 use Rattle.fgo_spec.specs.Windows.{Detection, under}
-use Rattle.fgo_spec.specs.Emitting.{Listed, trackWords, trackNumbers, associationWords}
+use Rattle.fgo_spec.specs.Emitting.{Listed, trackWords, trackNumbers, associationWords, costNumber}
 use Rattle.fgo_spec.specs.History.{NeverBack, Rising, afresh}
 use Rattle.fgo_spec.specs.Following.{sightedAll}
-use Rattle.smoother_frame.specs.Frame.{trackCount, associationCount, idWord, associationsFrom}
+use Rattle.smoother_frame.specs.Frame.{trackCount, associationCount, idWord, associationsFrom, sensorWord, wordsLong, costsFrom, numbersLong}
 
 -- ---- what a written frame says
 
@@ -94,12 +97,20 @@ pub record Heard (c : FgoConfig) (bs : List Body) (before : List Written) (o : W
   pub own : drop (length before) bs ≡ body ∷ later
   -- "time, mode, tracks, associations, sensors, smoothed": of that body; no track is there twice
   pub head :
-      (let f = frameIn body in take HEAD (o .words) ≡ word (f .time) ∷ modeNumber (f .mode) ∷ trackCount (o .words) ∷ length (f .associations) ∷ length (f .sensors) ∷ 0 ∷ [])
+      (let f = frameIn body in
+      take HEAD (o .words)
+      ≡ word (f .time) ∷ modeNumber (f .mode) ∷ trackCount (o .words) ∷ length (f .associations) ∷ length (f .sensors) ∷ 0 ∷ [])
   pub rising : Rising (tracksIn o)
   -- "each with its own associations in order", each with one id, or 0 for none; no two with one id
   pub links :
       (j : ℕ) → j < length (frameIn body .associations) → linkIn o j ≡ associationWords (getD (frameIn body .associations) j noAssociation) (idAt o j)
   pub apart : (x : ℕ) → 0 < x → times x (idsIn o) ≤ 1
+  -- its cost, 0.0 where it has none; "then the frame's sensors"; and nothing else: "these two lists at their exact length"
+  pub costs :
+      (j : ℕ) → j < length (frameIn body .associations) →
+      getD (o .numbers) (costsFrom (o .words) + j) nan ≡ getD (map (λ a. costNumber (a .cost)) (frameIn body .associations)) j nan
+  pub sensors : (k : ℕ) → sensorWord (o .words) k ≡ getD (frameIn body .sensors) k 0
+  pub long : (length (o .words) ≡ wordsLong (o .words)) × (length (o .numbers) ≡ numbersLong (o .words))
   -- each association names an observation of the body, and no two name one: so each dot is under one id only
   pub dots : NamedOnce (frameIn body)
   -- each listed track is "bit for bit, 01's plain filter run afresh over exactly the observations emitted so far under that id, this frame's included, then
@@ -107,7 +118,11 @@ pub record Heard (c : FgoConfig) (bs : List Body) (before : List Written) (o : W
   pub tracks :
       (i : ℕ) → i < trackCount (o .words) →
       (let x = idWord (o .words) i in
-      (l : Listed) × (0 < x) × (afresh c (frameIn body .time) x (observed x 0 bs (before ++ (o ∷ []))) ≡ some l) × T (leZ (l .age) (coast c)) × (trackIn o i ≡ lineOf l))
+      (l : Listed)
+      × (0 < x)
+      × (afresh c (frameIn body .time) x (observed x 0 bs (before ++ (o ∷ []))) ≡ some l)
+      × T (leZ (l .age) (coast c))
+      × (trackIn o i ≡ lineOf l))
   -- "if emitted times never go back and coast_ns <= forget_after_ns, the listed ids are exactly those emitted with age <= coast_ns"
   pub exact :
       NeverBack (timesIn (take (suc (length before)) bs)) → coast c ≤ℤ forgetAfter c → (x : ℕ) (l : Listed) → 0 < x →

@@ -100,7 +100,8 @@ module _ {A R M : Type 0} where
       pub short : (enough k ≡ false → k .answer ≡ Refused 4) × (k .answer ≡ Refused 4 → enough k ≡ false)
       -- "After it the state and the lent buffers hold what they held before the call"
       pub refusals :
-          (n : ℕ) → k .answer ≡ Refused n → (k .value ≡ r) × (k .memory ≡ k .lent) × (k .wordsBack ≡ k .words) × (k .numbersBack ≡ k .numbers)
+          (n : ℕ) → k .answer ≡ Refused n →
+          (k .value ≡ r) × (k .memory ≡ k .lent) × (k .wordsBack ≡ k .words) × (k .numbersBack ≡ k .numbers)
 
     -- what holds of the calls ks that begin with the value r and the memory m
     pub record Delivered (r : R) (m : M) (ks : List (Call A R M)) : Type 0 where

@@ -98,7 +98,8 @@ pub record Joined (c : FgoConfig) (ks : List refiner.Call) (d : SmootherConfig) 
       Smoothed c d first (accepted (λ f. f) (past ++ (k ∷ []))) (length (wrote past)) o
   -- with C 128 and output buffers that are long enough, no push of a frame that the refiner wrote is refused
   pub pushes :
-      most d ≡ TRACKS → (past : List Call) (k : Call) (later : List Call) → js ≡ past ++ (k ∷ later) → enough k ≡ true → (f : Written) → k .sent ≡ pushed f →
+      most d ≡ TRACKS → (past : List Call) (k : Call) (later : List Call) → js ≡ past ++ (k ∷ later) → enough k ≡ true →
+      (f : Written) → k .sent ≡ pushed f →
       (before after : List Written) → wrote ks ≡ before ++ (f ∷ after) → (n : ℕ) → k .answer ≡ Refused n → ⊥
 
 -- the theorem, in proofs/: joined : .. → refiner.Session c r m ks → Session d s w js → InOrder ks js → Joined c ks d js
