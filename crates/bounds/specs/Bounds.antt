@@ -255,3 +255,42 @@ WINDOW = SCANS * WORDS
 -- Its numbers.
 abbrev pub VALUES : ℕ
 VALUES = SCANS * NUMBERS
+
+-- ---- a frame in print
+
+-- The bytes of a word in decimal at most: a space, and 20 digits.
+abbrev pub DECIMAL : ℕ
+DECIMAL = 21
+
+-- The bytes of a number in hexadecimal: a space, and 16 digits.
+abbrev pub HEXADECIMAL : ℕ
+HEXADECIMAL = 17
+
+-- The bytes of the longest text of a frame: in full, where its two lines have names of 5 and 7 bytes and an end. In short it is shorter.
+abbrev pub TEXT : ℕ
+TEXT = 6 + DECIMAL * WORDS + (8 + HEXADECIMAL * NUMBERS)
+
+-- ---- a list of calls
+
+-- Bytes of a list of calls at most.
+abbrev pub CALLS : ℕ
+CALLS = 262144
+
+-- The bytes of a call before what follows it: its code, and how many follow.
+abbrev pub CALL : ℕ
+CALL = 8
+
+-- The words and the numbers of the output buffers that a call may lend at most.
+abbrev pub «LENT_WORDS» : ℕ
+«LENT_WORDS» = 4096
+
+abbrev pub «LENT_NUMBERS» : ℕ
+«LENT_NUMBERS» = 8192
+
+-- The fields of a refiner as cells.
+abbrev pub REFINER : ℕ
+REFINER = 20
+
+-- Those of a smoother.
+abbrev pub SMOOTHER : ℕ
+SMOOTHER = 5

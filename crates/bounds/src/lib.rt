@@ -193,3 +193,33 @@ pub const WINDOW: usize = SCANS * WORDS;
 
 // Its numbers.
 pub const VALUES: usize = SCANS * NUMBERS;
+
+// ---- a frame in print
+
+// The bytes of a word in decimal at most: a space, and 20 digits.
+pub const DECIMAL: usize = 21;
+
+// The bytes of a number in hexadecimal: a space, and 16 digits.
+pub const HEXADECIMAL: usize = 17;
+
+// The bytes of the longest text of a frame: in full, where its two lines have names of 5 and 7 bytes and an end. In short it is shorter.
+pub const TEXT: usize = 6 + DECIMAL * WORDS + (8 + HEXADECIMAL * NUMBERS);
+
+// ---- a list of calls
+
+// Bytes of a list of calls at most.
+pub const CALLS: usize = 262144;
+
+// The bytes of a call before what follows it: its code, and how many follow.
+pub const CALL: usize = 8;
+
+// The words and the numbers of the output buffers that a call may lend at most.
+pub const LENT_WORDS: usize = 4096;
+
+pub const LENT_NUMBERS: usize = 8192;
+
+// The fields of a refiner as cells.
+pub const REFINER: usize = 20;
+
+// Those of a smoother.
+pub const SMOOTHER: usize = 5;

@@ -1,5 +1,5 @@
 -- What refiner and smoother answer alike: an opening, and a push or a take, with the buffers that are lent for a frame. Definitions only.
-use Prim.Native.Nat.{ℕ, zero, suc}
+use Prim.Native.Nat.{ℕ, zero, suc, _≤_}
 use mathlib.Core.Path.{_≡_}
 use mathlib.Core.Bool.{Bool, _&&_}
 use mathlib.Core.List.{List}
@@ -83,6 +83,12 @@ module _ {E : Type 0} (written : E → Written) where
   numbersAfter waits ns = ns
   numbersAfter (gives e) ns = over 0 (written e .numbers) ns
 
+  -- a frame that is given is no longer than the buffers must be
+  abbrev pub Small : Reply E → Type 0
+  Small (refused n) = Unit {0}
+  Small waits = Unit {0}
+  Small (gives e) = (length (written e .words) ≤ WORDS) × (length (written e .numbers) ≤ NUMBERS)
+
 -- "After it the state and the lent buffers hold what they held before the call": of a value r that is handed on, and the memory m that goes with it
 abbrev pub Unchanged : {E R M : Type 0} → Reply E → R → M → R → M → Type 0
 Unchanged (refused n) r m r′ m′ = (r′ ≡ r) × (m′ ≡ m)
@@ -96,4 +102,5 @@ module _ {E S R M : Type 0} (written : E → Written) (stateOf : R → M → S) 
     pub state : stateOf r′ m′ ≡ a .1
     pub words : ws′ ≡ wordsAfter written (a .0) ws
     pub numbers : ns′ ≡ numbersAfter written (a .0) ns
+    pub small : Small written (a .0)
     pub unchanged : Unchanged (a .0) r m r′ m′

@@ -40,6 +40,18 @@ pub fn put_words<'a, 'b>(out: &'a mut [u64], o: usize, src: &'b [u64])
     }
 }
 
+// The same with bytes.
+pub fn put_bytes<'a, 'b>(out: &'a mut [u8], o: usize, src: &'b [u8])
+    requires { ⌜ o + length (now src) ≤ length (now out) ⌝ }
+    ensures { λ _. ⌜ now (out .exit) ≡ over o (now (src .entry)) (now (out .entry)) ⌝ }
+{
+    let mut i: usize = 0;
+    while i < src.len() {
+        out[o + i] = src[i];
+        i += 1;
+    }
+}
+
 // The same with numbers.
 pub fn put_numbers<'a, 'b>(out: &'a mut [f64], o: usize, src: &'b [f64])
     requires { ⌜ o + length (now src) ≤ length (now out) ⌝ }

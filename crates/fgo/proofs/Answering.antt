@@ -3,14 +3,13 @@ use Prim.Native.Nat.{ℕ}
 use mathlib.Core.Path.{_≡_, refl, sym, ap, subst, _∙_}
 use mathlib.Core.Bool.{Bool, true, false, cond}
 use mathlib.Core.List.{List}
-use mathlib.Core.Option.{Option·none-ne-some}
 use lib.ListN.{length}
 use lib.Dec.{leb}
 use lib.Ieee.{Float}
 use borrow.Author.Tests.{leb-true}
 use native.Mathlib.Omega.{arith}
 use Rattle.bounds.specs.Bounds.{WORDS, NUMBERS}
-use Rattle.buffers.specs.Answer.{Op, taken, Reply, refused, refusalIn, roomy, checked}
+use Rattle.buffers.specs.Answer.{Op, taken, Reply, refused, roomy, checked}
 use Rattle.buffers.proofs.Checking.{check-refused}
 use Rattle.engine.specs.Body.{Body, rows}
 use Rattle.engine.proofs.Every.{both}
@@ -49,10 +48,10 @@ module _ (r : FixedLagRefiner) (m : Memory) (ws : List ℕ) (ns : List Float) wh
       subst (λ x. Promised x r m ws ns p m ws ns) (sym e)
       (subst (λ u. Promised (refused k, stateOf r m) r m ws ns u m ws ns) (sym q)
       (record {
-        ends = record { answered = refl; state = refl; words = refl; numbers = refl; unchanged = (refl, refl) };
+        ends = record { answered = refl; state = refl; words = refl; numbers = refl; small = tt; unchanged = (refl, refl) };
         settings = refl;
         bodies = λ h. h;
-        small = λ g z. absurd (Option·none-ne-some k (sym (ap refusalIn z)));
+        sized = tt;
       }))
 
   module _ (o : Op Body) where

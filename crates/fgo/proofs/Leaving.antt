@@ -5,7 +5,7 @@ use native.Mathlib.Numerals.{add-one}
 use native.Mathlib.Omega.{arith}
 use mathlib.Core.Path.{_≡_, refl, sym, ap, subst, _∙_}
 use mathlib.Core.Bool.{true}
-use mathlib.Core.List.{List, [], _∷_, head-eq-of-cons-eq}
+use mathlib.Core.List.{List, [], _∷_}
 use mathlib.Core.Option.{Option, none, some}
 use lib.ListN.{length, length-map}
 use lib.Dec.{eqb}
@@ -14,7 +14,7 @@ use lib.Ieee.{Float}
 use mir.Syntax.{w64}
 use mir.Val.{toZ, ofZ}
 use mir.Facts.{toZ-ofZ}
-use Rattle.bounds.specs.Bounds.{ACCEPTED, ASSOCIATIONS, DETECTIONS, FROZEN, OWNED, OWNERS, TRACKS}
+use Rattle.bounds.specs.Bounds.{ACCEPTED, DETECTIONS, FROZEN, OWNED, OWNERS}
 use Rattle.engine.specs.declared.config.FgoConfig.{FgoConfig}
 use Rattle.engine.specs.declared.types.Association.{Association}
 use Rattle.engine.specs.Frame.{Frame}
@@ -37,18 +37,19 @@ use Rattle.fgo_state.specs.declared.state.FixedLagRefiner.{FixedLagRefiner}
 use Rattle.fgo_emit.specs.declared.Size.{Size}
 use Rattle.buffers.specs.declared.Answer.the-variants.{Frame as Gives}
 use Rattle.buffers.specs.Answer.{Reply, gives}
-use Rattle.buffers.specs.Run.{emittedBy}
 use Rattle.fgo_part.specs.Parts.{entryIn, tableIn}
 use Rattle.fgo_state.specs.Memory.{Memory, memory, bodyAt, scanIn, scansIn, liveIn, ownersIn, stateOf}
 use Rattle.fgo_freeze.specs.Frozen.{FreezesScan, PartOk, PartsOk}
 use Rattle.fgo_emit.specs.Writing.{Roomy, emittedIn, PutsFrame, PutFrame}
 use Rattle.fgo_state.specs.Sound.{bodiesOk}
 use Rattle.fgo_arrive.specs.Arriving.{Ready}
-use Rattle.fgo.specs.Promise.{Promised}
+use Rattle.fgo.specs.Promise.{Sized, Promised}
 use Rattle.fgo_place.specs.Owning.{keptOwners}
+use Rattle.fgo.proofs.Sizes.{sized-small}
 use Rattle.fgo_spec.proofs.Rows.{rows-all, row-of, rows-first}
 use Rattle.engine.proofs.ReadBack.{time-fits}
-use Rattle.fgo_state.proofs.Counts.{associations-long, associations-few}
+use Rattle.fgo_state.proofs.Counts.{sensors-long, sensors-few, associations-long, associations-few}
+use Rattle.fgo_state.proofs.Columns.{scan-complete}
 use Rattle.fgo_freeze.proofs.Order.{frozen-fits}
 use Rattle.fgo_state.proofs.Live.{live-rule}
 
@@ -224,14 +225,17 @@ module _ (r : FixedLagRefiner) (m : Memory) (ready : Ready r m) (some : 1 ≤ r 
             (all-at (λ j. eqb (bodyRefusal (bodyAt (m .bodies) (m .columns) (n + j))) 0) (r .held) (suc i) h (omega arith)))
 
         -- a frame lists no more than the frozen parts
-        small : (length (spec.emit (r .config) n ps s .tracks) ≤ TRACKS) × (length (s .frame .associations) ≤ ASSOCIATIONS)
+        sized : Sized (spec.emit (r .config) n ps s)
         unfolding spec.emit listing scanIn
-        small =
+        sized =
             let b = bodyAt (m .bodies) (m .columns) n in
-            let passing = keep (freezing.listable (r .config) (s .frame .time)) fs in (
-              omega (arith, frozen-few, length-map passing (λ e. report (r .config) (s .frame .time) (e .0) (e .1)), count-le (freezing.listable (r .config) (s .frame .time)) fs),
-              rw (associations-long b) (associations-few b oldest-passes),
-            )
+            let passing = keep (freezing.listable (r .config) (s .frame .time)) fs in
+            record {
+              tracks = omega (arith, frozen-few, length-map passing (λ e. report (r .config) (s .frame .time) (e .0) (e .1)), count-le (freezing.listable (r .config) (s .frame .time)) fs);
+              associations = rw (associations-long b) (associations-few b oldest-passes);
+              sensors = rw (sensors-long b) (sensors-few b oldest-passes);
+              complete = scan-complete (m .bodies) (m .columns) n;
+            }
 
         pub leaving-ends :
             {z : Size} {ws ws′ : List ℕ} {ns ns′ : List Float} →
@@ -245,11 +249,8 @@ module _ (r : FixedLagRefiner) (m : Memory) (ready : Ready r m) (some : 1 ≤ r 
             let put = subst (λ e. PutFrame e z ws ns ws′ ns′) emits w in
             subst (λ x. Promised x r m ws ns (record { answer = Gives (z .words) (z .numbers); state = refiner }) after ws′ ns′) (sym is)
             (record {
-              ends = record { answered = rw (put .words-count, put .numbers-count); state = state-left; words = put .words; numbers = put .numbers; unchanged = tt };
+              ends = record { answered = rw (put .words-count, put .numbers-count); state = state-left; words = put .words; numbers = put .numbers; small = sized-small g sized; unchanged = tt };
               settings = refl;
               bodies = bodies-left;
-              small =
-                  λ e q.
-                  let h : g ≡ e = head-eq-of-cons-eq (ap emittedBy q) in
-                  subst (λ e. (length (e .tracks) ≤ TRACKS) × (length (e .scan .frame .associations) ≤ ASSOCIATIONS)) h (unfold spec.emit in small);
+              sized = sized;
             })

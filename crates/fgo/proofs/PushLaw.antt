@@ -3,14 +3,13 @@ use Prim.Native.Nat.{ℕ, zero, suc, _≤_, _<_}
 use native.Mathlib.Omega.{arith}
 use mathlib.Core.Path.{_≡_, refl, sym, ap, subst, _∙_}
 use mathlib.Core.Bool.{true}
-use mathlib.Core.List.{List, [], _∷_, nil≢cons}
+use mathlib.Core.List.{List, [], _∷_}
 use lib.ListN.{length}
 use lib.Dec.{ltb}
 use lib.Ieee.{Float}
 use borrow.Author.Tests.{lt-ltb, le-ltb, eq-eqb}
 use Rattle.buffers.specs.declared.Answer.the-variants.{Held}
 use Rattle.buffers.specs.Answer.{pushed, Reply, refused, waits, Unchanged}
-use Rattle.buffers.specs.Run.{emittedBy}
 use Rattle.engine.specs.Config.{lag}
 use Rattle.engine.specs.Body.{Body}
 use Rattle.engine.proofs.Every.{all-true}
@@ -69,10 +68,10 @@ module _ (r : FixedLagRefiner) (m : Memory) (b : Body) (ws : List ℕ) (ns : Lis
         let e : replied ≡ (waits, stateOf u m′) = push-settles ∙ ap (settle (r .config) (stateOf u m′)) (le-ltb _ _ (subst (λ c. u .held ≤ lag c) (a .settings) h)) in
         subst (λ x. Promised x r m ws ns (record { answer = Held; state = u }) m′ ws ns) (sym e)
         (record {
-          ends = record { answered = refl; state = refl; words = refl; numbers = refl; unchanged = tt };
+          ends = record { answered = refl; state = refl; words = refl; numbers = refl; small = tt; unchanged = tt };
           settings = a .settings;
           bodies = λ h. bodies-pass;
-          small = λ g z. absurd (nil≢cons (ap emittedBy z));
+          sized = tt;
         })
 
     -- the oldest leaves
@@ -97,11 +96,12 @@ module _ (r : FixedLagRefiner) (m : Memory) (b : Body) (ws : List ℕ) (ns : Lis
                 state = k .ends .state;
                 words = k .ends .words;
                 numbers = k .ends .numbers;
+                small = k .ends .small;
                 unchanged =
                     oldest-gives (stateOf u m′) (stateOf u m′ .scans) (p .state) n
                     (omega (arith, length-rows (scanIn (m′ .bodies) (m′ .columns)) (u .first .0) (u .held)));
               };
           settings = k .settings ∙ a .settings;
           bodies = λ h. k .bodies bodies-pass;
-          small = k .small;
+          sized = k .sized;
         })

@@ -5,9 +5,9 @@ use mathlib.Core.Bool.{true, cond}
 use mathlib.Core.List.{List}
 use lib.ListN.{length}
 use lib.Ieee.{Float}
-use Rattle.bounds.specs.Bounds.{ASSOCIATIONS, TRACKS}
+use Rattle.bounds.specs.Bounds.{ASSOCIATIONS, SENSORS, TRACKS}
 use Rattle.buffers.specs.declared.Answer.the-variants.{Refused}
-use Rattle.buffers.specs.Answer.{Opening, opened, unopened, Op, Reply, gives, roomy, checked, Ends}
+use Rattle.buffers.specs.Answer.{Opening, opened, unopened, Op, Reply, refused, waits, gives, roomy, checked, Ends}
 use Rattle.engine.specs.declared.config.FgoConfig.{FgoConfig}
 use Rattle.engine.specs.Config.{legal}
 use Rattle.engine.specs.Body.{Body}
@@ -57,15 +57,28 @@ laterRefusal r m words numbers = cond (soundOk r m) (cond (roomy words numbers) 
 unfoldable pub due : FixedLagRefiner → Memory → Op Body → List ℕ → List Float → Reply Emitted × State
 due r m o ws ns = checked (laterRefusal r m (length ws) (length ns)) (stateOf r m) (reply (r .config) (stateOf r m) o)
 
+-- a frame has no more tracks, associations and sensors than there is room for, and an id for each association
+pub record Sized (e : Emitted) : Type 0 where
+  pub tracks : length (e .tracks) ≤ TRACKS
+  pub associations : length (e .scan .frame .associations) ≤ ASSOCIATIONS
+  pub sensors : length (e .scan .frame .sensors) ≤ SENSORS
+  pub complete : length (e .scan .ids) ≡ length (e .scan .frame .associations)
+
+-- that of a reply, if it gives one
+abbrev pub GivenSized : Reply Emitted → Type 0
+GivenSized (refused n) = Unit {0}
+GivenSized waits = Unit {0}
+GivenSized (gives e) = Sized e
+
 -- A call that is due a, and is given the refiner r, the memory m and the output buffers ws and ns, gives p and leaves m′, ws′ and ns′: answer, state and
--- output. Settings stay, bodies that pass stay the only ones held, and a frame that is given has no more tracks and associations than there is room for.
+-- output. Settings stay, bodies that pass stay the only ones held, and a frame that is given is sized so.
 pub record Promised (a : Reply Emitted × State) (r : FixedLagRefiner) (m : Memory) (ws : List ℕ) (ns : List Float) (p : Pushed) (m′ : Memory) (ws′ : List ℕ) (ns′ : List Float) : Type 0 where
   pub ends : Ends written stateOf a r m ws ns (p .answer) (p .state) m′ ws′ ns′
   pub settings : p .state .config ≡ r .config
   pub bodies :
       bodiesOk (m .bodies) (m .columns) (r .first .0) (r .held) ≡ true →
       bodiesOk (m′ .bodies) (m′ .columns) (p .state .first .0) (p .state .held) ≡ true
-  pub small : (e : Emitted) → a .0 ≡ gives e → (length (e .tracks) ≤ TRACKS) × (length (e .scan .frame .associations) ≤ ASSOCIATIONS)
+  pub sized : GivenSized (a .0)
 
 -- a refusal, which keeps the refiner
 abbrev pub refusedAs : FixedLagRefiner → ℕ → Pushed

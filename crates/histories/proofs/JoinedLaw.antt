@@ -33,7 +33,7 @@ use Rattle.smoother.specs.Promise.{Window, stateIn, laterRefusal, due}
 use Rattle.histories.specs.Calls.{Calls, writtenBy, left, enough, operations, accepted, wrote, dueAfter}
 use Rattle.histories.specs.Refined as refiner
 use Rattle.histories.specs.Smoothed.{smoothing, handed, sourced, picked, Smoothed}
-use Rattle.histories.specs.Joined.{Call, Meets, Same, Keeps, Session, Delivered, InOrder, Joined}
+use Rattle.histories.specs.Joined.{Call, Meets, Same, Keeps, Reached, Session, Delivered, InOrder, Joined}
 use Rattle.histories.proofs.CallsLaw as calls
 use Rattle.histories.proofs.CallsLaw.{Numbered, more, refused-of, due-frame, operations-cons, operations-append, run-more, repliesTo, Known}
 use Rattle.histories.proofs.SmootherRun.{ran}
@@ -87,13 +87,8 @@ numbered s o = go o (reply s o .0) refl
 -- ---- where calls have led to
 
 module _ (d : SmootherConfig) where
-  -- after the pushes and takes ops
-  pub record At (ops : List (Op Written)) (s : FixedLagSmoother) (w : Window) : Type 0 where
-    pub state : stateIn s w ≡ smoothing d ops .state
-    pub fits : windowFits d (length (w .words)) (length (w .numbers)) ≡ true
-
   -- a window that stands for the same will do
-  pub lent-at : (ops : List (Op Written)) (s : FixedLagSmoother) (w : Window) → At ops s w → (w′ : Window) → Same s w w′ → At ops s w′
+  pub lent-at : (ops : List (Op Written)) (s : FixedLagSmoother) (w : Window) → Reached d ops s w → (w′ : Window) → Same s w w′ → Reached d ops s w′
   lent-at ops s w a w′ e = record { state = e .state ∙ a .state; fits = (λ i. windowFits d (e .words i) (e .numbers i)) ∙ a .fits }
 
   module _ (ok : legal d ≡ true) where
@@ -105,8 +100,8 @@ module _ (d : SmootherConfig) where
         ap ruleOk (ran d ops .same)
         ∙ rw (each (bounded d) (finite (density d)) ok .1, le-leb (length (smoothing d ops .state .frames)) (lag d) (i .lagged), i .formed)
 
-    module _ (ops : List (Op Written)) (s : FixedLagSmoother) (w : Window) (a : At ops s w) where
-      settings : s .config ≡ d
+    module _ (ops : List (Op Written)) (s : FixedLagSmoother) (w : Window) (a : Reached d ops s w) where
+      pub settings : s .config ≡ d
       unfolding stateIn
       settings = ap (λ t. t .config) (a .state ∙ ran d ops .same)
 
@@ -130,7 +125,7 @@ module _ (d : SmootherConfig) where
         ends =
             subst (λ x. Ends (λ f. f) stateIn x s w (k .words) (k .numbers) (k .answer) (k .value) (k .memory) (k .wordsBack) (k .numbersBack)) due-is (e .ends)
 
-        at-next : At (ops ++ more (enough k) (k .sent)) (k .value) (k .memory)
+        at-next : Reached d (ops ++ more (enough k) (k .sent)) (k .value) (k .memory)
         at-next =
             record {
               state = ends .state ∙ sym (ap (λ r. r .state) (run-more (λ f. f) reply (new d) (λ f. f) stateIn ops (enough k) (k .sent)));
@@ -144,7 +139,7 @@ module _ (d : SmootherConfig) where
             (λ i. checked (cond (sym v i) 0 4) t (reply t (sym p i)) .0)
             ∙ refused-of (λ f. f) (dueAfter (λ f. f) reply (new d) (λ f. f) stateIn ops k) n (sym (ends .answered) ∙ q)
 
-    pub known : Known (λ f. f) reply (new d) (λ f. f) stateIn Keeps (λ k. Unit {0}) At
+    pub known : Known (λ f. f) reply (new d) (λ f. f) stateIn Keeps (λ k. Unit {0}) (Reached d)
     known =
         record {
           state = λ ops s w a. a .state;
@@ -175,7 +170,7 @@ module _ (d : SmootherConfig) (s : FixedLagSmoother) (w : Window) where
     unfolding openRefusal
     fine = opening-of (legal d) (windowFits d (length (w .words)) (length (w .numbers))) (new-at .0)
 
-    at-opened : At d [] s w
+    pub at-opened : Reached d [] s w
     unfolding runFrom
     at-opened = record { state = new-at .1; fits = fine .1 }
 
@@ -183,7 +178,7 @@ module _ (d : SmootherConfig) (s : FixedLagSmoother) (w : Window) where
     all-fine ks = mem-All (λ k. Unit {0}) ks (λ k m. tt)
 
     -- after the first of some calls
-    pub at-first : (past fs : List Call) → ks ≡ past ++ fs → At d (operations past) (left s w past .0) (left s w past .1)
+    pub at-first : (past fs : List Call) → ks ≡ past ++ fs → Reached d (operations past) (left s w past .0) (left s w past .1)
     at-first past fs e =
         calls.at-first (λ f. f) reply (new d) (λ f. f) stateIn (known d (fine .0)) s w at-opened past fs (all-fine (past ++ fs)) (subst (Calls Keeps s w) e (h .calls))
 

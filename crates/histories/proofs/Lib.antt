@@ -1,7 +1,6 @@
 pub mod CallsLaw
 pub mod Numbered
 pub mod ThirdLaw
-pub mod FrameSize
 pub mod RefinedLaw
 pub mod FinishCalls
 pub mod FinishLaw

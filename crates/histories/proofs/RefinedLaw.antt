@@ -8,7 +8,7 @@ use lib.ListN.{length}
 use lib.Dec.{leb, eqb}
 use borrow.Author.Tests.{leb-true}
 use Rattle.bounds.specs.Bounds.{WORDS, NUMBERS}
-use Rattle.buffers.specs.Answer.{Op, Reply, refused, waits, gives, roomy, checked, wordsAfter, numbersAfter, Ends}
+use Rattle.buffers.specs.Answer.{Op, Reply, refused, waits, gives, roomy, checked, wordsAfter, numbersAfter, Small, Ends}
 use Rattle.buffers.specs.Run.{emittedBy, runFrom}
 use Rattle.buffers.proofs.Over.{length-over}
 use Rattle.engine.specs.declared.config.FgoConfig.{FgoConfig}
@@ -29,9 +29,8 @@ use Rattle.fgo_state.specs.Sound.{bodiesOk, soundOk}
 use Rattle.fgo.specs.Promise.{newBy, laterRefusal, due}
 use Rattle.fgo.proofs.Opening.{opened-new}
 use Rattle.histories.specs.Calls.{Calls, left, enough, operations}
-use Rattle.histories.specs.Refined.{Call, Meets, Same, Keeps, Session, dueNext, Delivered}
+use Rattle.histories.specs.Refined.{Call, Meets, Same, Keeps, Reached, Session, dueNext, Delivered}
 use Rattle.histories.proofs.Numbered.{numbered}
-use Rattle.histories.proofs.FrameSize.{fit-words, fit-numbers}
 use Rattle.histories.proofs.CallsLaw as calls
 use Rattle.histories.proofs.CallsLaw.{more, due-frame, run-more, repliesTo, Known}
 
@@ -43,26 +42,8 @@ sent-more true o h = (h, tt)
 sent-more false o h = tt
 
 module _ (c : FgoConfig) where
-  -- ---- the frames emitted are of bodies that pass
-
-  emitted-spoken : (ops : List (Op Body)) → All Sent ops → All (λ e. Spoken (e .scan .frame)) (run c ops .emitted)
-  emitted-spoken ops h =
-      let r = run c ops in
-      map-All Spoken (λ e. e .scan .frame) (r .emitted)
-      (All-left Spoken (map (λ e. e .scan .frame) (r .emitted)) (map (λ s. s .frame) (r .state .scans))
-      (subst (All Spoken) (sym (history c ops .inOrder)) (spoken c ops h)))
-
-  -- ---- where calls have led to
-
-  -- after the pushes and takes ops
-  pub record At (ops : List (Op Body)) (r : FixedLagRefiner) (m : Memory) : Type 0 where
-    pub settings : r .config ≡ c
-    pub state : stateOf r m ≡ run c ops .state
-    pub bodies : bodiesOk (m .bodies) (m .columns) (r .first .0) (r .held) ≡ true
-    pub bytes : All Sent ops
-
   -- memory that stands for the same will do
-  pub lent-at : (ops : List (Op Body)) (r : FixedLagRefiner) (m : Memory) → At ops r m → (m′ : Memory) → Same r m m′ → At ops r m′
+  pub lent-at : (ops : List (Op Body)) (r : FixedLagRefiner) (m : Memory) → Reached c ops r m → (m′ : Memory) → Same r m m′ → Reached c ops r m′
   unfolding bodiesOk
   lent-at ops r m a m′ s =
       record {
@@ -75,12 +56,12 @@ module _ (c : FgoConfig) where
       }
 
   module _ (ok : legal c ≡ true) where
-    pub sound-at : (ops : List (Op Body)) (r : FixedLagRefiner) (m : Memory) → At ops r m → soundOk r m ≡ true
+    pub sound-at : (ops : List (Op Body)) (r : FixedLagRefiner) (m : Memory) → Reached c ops r m → soundOk r m ≡ true
     unfolding soundOk
     sound-at ops r m a =
         and-eq-true-iff _ _ .1 (a .bodies, (λ i. ruleOk (a .settings i) (a .state i)) ∙ rule-ok c (run c ops .state) (history c ops .ruled ok (a .bytes)) .0)
 
-    module _ (ops : List (Op Body)) (r : FixedLagRefiner) (m : Memory) (a : At ops r m) (k : Call) (h : Sent (k .sent)) (e : Meets r m k) where
+    module _ (ops : List (Op Body)) (r : FixedLagRefiner) (m : Memory) (a : Reached c ops r m) (k : Call) (h : Sent (k .sent)) (e : Meets r m k) where
       abbrev replied : Reply Emitted
       replied = dueNext c ops k
 
@@ -112,11 +93,6 @@ module _ (c : FgoConfig) where
             history c ops .asSearched (k .sent) g
             (subst (λ b. run c (ops ++ more b (k .sent)) .emitted ≡ run c ops .emitted ++ (g ∷ [])) long last-one)
 
-        spoken-one : Spoken (g .scan .frame)
-        spoken-one =
-            let P : Emitted → Type 0 = λ e. Spoken (e .scan .frame) in
-            All-right P (run c ops .emitted) (g ∷ []) (subst (All P) last-one (emitted-spoken (ops ++ more (enough k) (k .sent)) bytes-more)) .0
-
       rooms : (x : Reply Emitted) → replied ≡ x → (length (k .wordsBack) ≡ length (k .words)) × (length (k .numbersBack) ≡ length (k .numbers))
       rooms x q =
           let s = go x q in (
@@ -129,11 +105,10 @@ module _ (c : FgoConfig) where
           go waits q = (refl, refl)
           go (gives g) q =
               let l = long-enough (length (k .words)) (length (k .numbers)) (long g q) in
-              let w = fit-words c (run c ops .emitted) g (told-one g q) (spoken-one g q) in
-              let n = fit-numbers c (run c ops .emitted) g (told-one g q) (spoken-one g q) in
-              (length-over 0 (wordsOf g) (k .words) (omega (arith, l .0)), length-over 0 (numbersOf g) (k .numbers) (omega (arith, l .1)))
+              let s = subst (Small written) q (ends .small) in
+              (length-over 0 (wordsOf g) (k .words) (omega (arith, l .0, s .0)), length-over 0 (numbersOf g) (k .numbers) (omega (arith, l .1, s .1)))
 
-      at-next : At (ops ++ more (enough k) (k .sent)) (k .value) (k .memory)
+      at-next : Reached c (ops ++ more (enough k) (k .sent)) (k .value) (k .memory)
       at-next =
           record {
             settings = e .settings ∙ a .settings;
@@ -142,7 +117,7 @@ module _ (c : FgoConfig) where
             bytes = bytes-more;
           }
 
-    pub known : Known frameIn (reply c) new written stateOf Keeps (λ k. Sent (k .sent)) At
+    pub known : Known frameIn (reply c) new written stateOf Keeps (λ k. Sent (k .sent)) (Reached c)
     known =
         record {
           state = λ ops r m a. a .state;
@@ -155,7 +130,7 @@ module _ (c : FgoConfig) where
 
 -- ---- from an opened refiner
 
-at-new : (c : FgoConfig) (m : Memory) → At c [] (newBy c) m
+pub at-new : (c : FgoConfig) (m : Memory) → Reached c [] (newBy c) m
 unfolding stateOf bodiesOk all rows runFrom
 at-new c m = record { settings = refl; state = refl; bodies = refl; bytes = tt }
 
@@ -163,14 +138,14 @@ module _ (c : FgoConfig) (r : FixedLagRefiner) (m : Memory) where
   pub is-legal : (ks : List Call) → Session c r m ks → legal c ≡ true
   is-legal ks s = opened-new c r (s .opening) .0
 
-  pub at-opened : (ks : List Call) → Session c r m ks → At c [] r m
-  at-opened ks s = subst (λ r. At c [] r m) (opened-new c r (s .opening) .1) (at-new c m)
+  pub at-opened : (ks : List Call) → Session c r m ks → Reached c [] r m
+  at-opened ks s = subst (λ r. Reached c [] r m) (opened-new c r (s .opening) .1) (at-new c m)
 
   -- after all the calls, and after the first of them
-  pub at-last : (ks : List Call) → Session c r m ks → At c (operations ks) (left r m ks .0) (left r m ks .1)
+  pub at-last : (ks : List Call) → Session c r m ks → Reached c (operations ks) (left r m ks .0) (left r m ks .1)
   at-last ks s = calls.reached frameIn (reply c) new written stateOf (known c (is-legal ks s)) ks [] r m (at-opened ks s) (s .bytes) (s .calls)
 
-  pub at-first : (ks fs : List Call) → Session c r m (ks ++ fs) → At c (operations ks) (left r m ks .0) (left r m ks .1)
+  pub at-first : (ks fs : List Call) → Session c r m (ks ++ fs) → Reached c (operations ks) (left r m ks .0) (left r m ks .1)
   at-first ks fs s =
       calls.at-first frameIn (reply c) new written stateOf (known c (is-legal (ks ++ fs) s)) r m (at-opened (ks ++ fs) s) ks fs (s .bytes) (s .calls)
 
@@ -179,7 +154,7 @@ module _ (c : FgoConfig) (r : FixedLagRefiner) (m : Memory) where
     abbrev split : Session c r m (past ++ (k ∷ later))
     split = subst (Session c r m) p s
 
-    one : At c (operations past) (left r m past .0) (k .lent) × Sent (k .sent) × Meets (left r m past .0) (k .lent) k
+    one : Reached c (operations past) (left r m past .0) (k .lent) × Sent (k .sent) × Meets (left r m past .0) (k .lent) k
     unfolding Calls
     one =
         let q = calls.calls-then Keeps r m past (k ∷ later) (split .calls) .0 in (

@@ -7,7 +7,7 @@ use mathlib.Core.List.{List, [], _∷_, _++_, map}
 use lib.ListN.{length}
 use Rattle.bounds.specs.Bounds.{TRACKS}
 use Rattle.buffers.specs.declared.Answer.the-variants.{Refused}
-use Rattle.buffers.specs.Answer.{pushed, taken, Written}
+use Rattle.buffers.specs.Answer.{Op, pushed, taken, Written}
 use Rattle.engine.specs.declared.config.FgoConfig.{FgoConfig}
 use Rattle.fgo_spec.specs.History.{run}
 use Rattle.smoother_frame.specs.Frame.{wellFormed}
@@ -15,7 +15,7 @@ use Rattle.smoother_window.specs.declared.FixedLagSmoother.{FixedLagSmoother}
 use Rattle.smoother_window.specs.declared.SmootherConfig.{SmootherConfig}
 use Rattle.smoother_window.specs.Config.{most}
 use Rattle.smoother.specs.declared.Opened.the-variants.{Ready}
-use Rattle.smoother.specs.Smoother.{new, opens, reply, finish}
+use Rattle.smoother.specs.Smoother.{new, windowFits, opens, reply, finish}
 use Rattle.smoother.specs.Promise.{Window, stateIn, openingOf, Promised}
 use Rattle.histories.specs.Calls as calls
 use Rattle.histories.specs.Calls.{Calls, writtenBy, left, enough, operations, accepted, wrote}
@@ -39,6 +39,11 @@ pub record Same (s : FixedLagSmoother) (w w′ : Window) : Type 0 where
 -- after the window w came back, it is lent one that stands for the same, and is as its contract says
 abbrev pub Keeps : FixedLagSmoother → Window → Call → Type 0
 Keeps s w k = Same s w (k .lent) × Meets s (k .lent) k
+
+-- where the pushes and takes ops lead to, with the settings d: the smoother and its window stand for the state that the smoother as defined has then
+pub record Reached (d : SmootherConfig) (ops : List (Op Written)) (s : FixedLagSmoother) (w : Window) : Type 0 where
+  pub state : stateIn s w ≡ smoothing d ops .state
+  pub fits : windowFits d (length (w .words)) (length (w .numbers)) ≡ true
 
 -- an opened smoother, as the contract of open has it, and calls from there; the window holds anything at first, and the other buffers anything at each call
 pub record Session (d : SmootherConfig) (s : FixedLagSmoother) (w : Window) (ks : List Call) : Type 0 where

@@ -13,7 +13,7 @@ use Rattle.fgo_spec.specs.Rule.{All}
 use Rattle.fgo_spec.specs.History.{run, settled, Sent, Told, History}
 use Rattle.fgo_state.specs.declared.state.FixedLagRefiner.{FixedLagRefiner}
 use Rattle.fgo_state.specs.Memory.{Memory, bodyAt, stateOf}
-use Rattle.fgo_state.specs.Sound.{soundOk, Sound}
+use Rattle.fgo_state.specs.Sound.{bodiesOk, soundOk, Sound}
 use Rattle.fgo.specs.Promise.{newBy, openRefusal, due, Promised}
 use Rattle.histories.specs.Calls as calls
 use Rattle.histories.specs.Calls.{Calls, left, operations, accepted, wrote, dueAfter}
@@ -38,6 +38,13 @@ pub record Same (r : FixedLagRefiner) (m m′ : Memory) : Type 0 where
 -- after the memory m came back, it is lent memory that stands for the same, and is as its contract says
 abbrev pub Keeps : FixedLagRefiner → Memory → Call → Type 0
 Keeps r m k = Same r m (k .lent) × Meets r (k .lent) k
+
+-- where the pushes and takes ops lead to, with the settings c: the refiner and the memory stand for the state that document 01's refiner has then
+pub record Reached (c : FgoConfig) (ops : List (Op Body)) (r : FixedLagRefiner) (m : Memory) : Type 0 where
+  pub settings : r .config ≡ c
+  pub state : stateOf r m ≡ run c ops .state
+  pub bodies : bodiesOk (m .bodies) (m .columns) (r .first .0) (r .held) ≡ true
+  pub bytes : All Sent ops
 
 -- "any list of pushes and takes runs from a new refiner, refused ones included": the refiner is one that open gave, and what is pushed are bytes; the memory
 -- holds anything at first, and the buffers anything at each call

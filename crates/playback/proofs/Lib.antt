@@ -1,1 +1,3 @@
-pub mod Showing
+mod Stepping
+mod Serving
+mod Playing

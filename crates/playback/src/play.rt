@@ -1,40 +1,33 @@
-// A recording, played: every frame is pushed to the refiner, at the end all are taken, then all from the smoother, if there is one; last come the counters.
-use crate::sink;
-use crate::sink::Printer;
+// A recording, played and printed, with a smoother or without; last come the counters.
 use crate::sink::Sink;
+use crate::steps;
+use crate::steps::Player;
 use bounds::BODIES;
 use bounds::COLUMNS;
 use bounds::FILTERS;
-use bounds::LAG;
 use bounds::NUMBERS;
 use bounds::OWNERS;
 use bounds::PARTS;
 use bounds::RECORDING;
+use bounds::TEXT;
 use bounds::TRACKS;
 use bounds::VALUES;
 use bounds::WINDOW;
 use bounds::WORDS;
-use buffers::Answer;
+use console::Input;
 use engine::config::FgoConfig;
-use engine::types::BodyKind;
 use fgo::Counted;
 use fgo::Opened;
-use fgo::Pushed;
 use fgo_state::state::FixedLagRefiner;
-use libc::STDIN_FILENO;
 use print::lines;
-use print::lines::ROOM;
-use print::short;
 use recording::Contents;
 use smoother_window::SmootherConfig;
 use smoother_window::window::window_numbers;
 use smoother_window::window::window_words;
-ghost use mathlib.Core.Path.{_≡_};
-ghost use mathlib.Core.Bool.{true};
-ghost use Prim.Native.Nat.{_≤_};
-ghost use Rattle.bounds.specs.Bounds.{FRAMES, LAG};
-ghost use Rattle.engine.specs.Config.{lag, legal};
-ghost use Rattle.playback.specs.Shown.{Shown};
+ghost use Rattle.print.specs.Text.{Puts};
+ghost use Rattle.smoother.specs.Promise as Smoothing;
+ghost use Rattle.playback.specs.Told.{countedLine};
+ghost use Rattle.playback.specs.Played.{Fresh, Serves, Plain, Played};
 
 // How the frames are printed: as the refiner emits them, in short or in full; or smoothed, in full.
 pub enum Form {
@@ -46,138 +39,49 @@ pub enum Form {
 // A recording of the greatest length, and one byte that tells a longer one.
 const INPUT: usize = RECORDING + 1;
 
-// Where a run stands: the refiner, and what is printed of its answers.
-struct Player {
-    refiner: FixedLagRefiner,
-    printer: Printer,
-}
-
-// Step i with a recording of n frames: frame i is pushed; past the last, the oldest frame held is taken, if there is one.
-fn step<'a, 'b, 'c, 'd, 'e, 'f, 'g, 'h>(
-    r: FixedLagRefiner,
-    s: &'h [u8],
-    i: usize,
-    n: usize,
-    bodies: &'a mut [u8; BODIES],
-    columns: &'b mut [u64; COLUMNS],
-    owners: &'c mut [u64; OWNERS],
-    tracks: &'d mut [u64; PARTS],
-    filters: &'e mut [f64; FILTERS],
-    fw: &'f mut [u64],
-    fx: &'g mut [f64],
-) -> Pushed
-    ensures { λ p. ⌜ Shown (p .answer) (now (fw .exit)) ⌝ }
-{
-    if i < n {
-        let body = recording::frame_at(s, i);
-        return fgo::push(
-            r,
-            BodyKind::Narrow,
-            body,
-            bodies,
-            columns,
-            owners,
-            tracks,
-            filters,
-            fw,
-            fx,
-        );
-    }
-    if r.held == 0 {
-        let answer = Answer::Held;
-        return Pushed { answer, state: r };
-    }
-    fgo::take(r, bodies, columns, owners, tracks, filters, fw, fx)
-}
-
-// A run after a step of the refiner, whose answer is printed.
-fn put_step<'a, 'b, 'c, 'd, 'e, 'f>(
-    p: Player,
-    t: Pushed,
-    fw: &'f [u64],
-    fx: &'f [f64],
-    window: &'a mut [u64],
-    values: &'b mut [f64],
-    words: &'c mut [u64; WORDS],
-    numbers: &'d mut [f64; NUMBERS],
-    out: &'e mut [u8; ROOM],
-) -> Player
-    requires { ⌜ Shown (t .answer) (now fw) ⌝ }
-{
-    let refiner = t.state;
-    let answer = t.answer;
-    let last = p.printer;
-    let printer = sink::put_answer(last, answer, fw, fx, window, values, words, numbers, out);
-    Player { refiner, printer }
-}
-
-// All the steps with a recording of n frames. When the last is pushed at most LAG are held.
-fn steps<'a, 'b, 'c, 'd, 'e, 'f, 'g, 'h, 'i, 'j, 'k>(
-    first: Player,
-    s: &'k [u8],
-    n: usize,
-    bodies: &'a mut [u8; BODIES],
-    columns: &'b mut [u64; COLUMNS],
-    owners: &'c mut [u64; OWNERS],
-    tracks: &'d mut [u64; PARTS],
-    filters: &'e mut [f64; FILTERS],
-    window: &'f mut [u64],
-    values: &'g mut [f64],
-    words: &'h mut [u64; WORDS],
-    numbers: &'i mut [f64; NUMBERS],
-    out: &'j mut [u8; ROOM],
-) -> Player
-    requires { ⌜ n ≤ FRAMES ⌝ }
-{
-    let mut frame_words = [0u64; WORDS];
-    let mut frame_numbers = [0.0; NUMBERS];
-    let fw: &mut [u64] = &mut frame_words;
-    let fx: &mut [f64] = &mut frame_numbers;
-    let mut p = first;
-    let mut i: usize = 0;
-    while i < n + LAG {
-        let r = p.refiner;
-        let t = step(r, s, i, n, bodies, columns, owners, tracks, filters, fw, fx);
-        p = put_step(p, t, fw, fx, window, values, words, numbers, out);
-        i += 1;
-    }
-    p
-}
+// Room for the line of a refusal.
+const REFUSED: usize = 32;
 
 // The line of the counters.
-fn put_counted(out: &mut [u8; ROOM], at: usize, k: Counted) -> usize {
+fn put_counted(out: &mut [u8], k: Counted) -> usize
+    ensures { λ r. ⌜ Puts (countedLine k) 0 (now (out .entry)) (now (out .exit)) r ⌝ }
+{
     match k {
-        Counted::Refused(code) => lines::put_refused(out, at, code),
-        Counted::Moves(moves) => short::put_counters(out, at, moves),
+        Counted::Refused(code) => lines::put_refused(out, 0, code),
+        Counted::Moves(moves) => lines::put_counters(out, 0, moves),
     }
 }
 
 // The line of a refusal alone.
-fn put_refusal(code: u8) {
-    let mut out = [0u8; ROOM];
+fn print_refusal(code: u8) {
+    let mut out = [0u8; REFUSED];
     let n = lines::put_refused(&mut out, 0, code);
-    lines::flush(&out, n);
+    console::write(&out, n, true);
 }
 
-// A recording of n frames, played from this start: all the steps, then what a smoother holds, then the counters.
+// A recording of n frames, played from this start: all the frames, then what a smoother holds, then the counters.
 fn run<'a, 'b, 'c>(
     s: &'c [u8],
     n: usize,
     first: Player,
     window: &'a mut [u64],
     values: &'b mut [f64],
-)
-    requires { ⌜ n ≤ FRAMES ⌝ }
+) -> Player
+    requires { ⌜ Fresh (first .refiner) × Serves (first .sink) (Smoothing.window (now window) (now values)) ⌝ }
+    ensures { λ p. ⌜ Played (now (s .entry)) n (first .refiner) p ⌝ }
 {
     let mut bodies = [0u8; BODIES];
     let mut columns = [0u64; COLUMNS];
     let mut owners = [0u64; OWNERS];
     let mut tracks = [0u64; PARTS];
     let mut filters = [0.0; FILTERS];
-    let mut words = [0u64; WORDS];
-    let mut numbers = [0.0; NUMBERS];
-    let mut out = [0u8; ROOM];
-    let p = steps(
+    let mut frame_words = [0u64; WORDS];
+    let mut frame_numbers = [0.0; NUMBERS];
+    let mut text = [0u8; TEXT];
+    let fw: &mut [u64] = &mut frame_words;
+    let fx: &mut [f64] = &mut frame_numbers;
+    let out: &mut [u8] = &mut text;
+    let pushed = steps::push_all(
         first,
         s,
         n,
@@ -186,28 +90,46 @@ fn run<'a, 'b, 'c>(
         &mut owners,
         &mut tracks,
         &mut filters,
+        fw,
+        fx,
         window,
         values,
-        &mut words,
-        &mut numbers,
-        &mut out,
+        out,
     );
-    let printer = p.printer;
-    let at = sink::put_rest(printer, window, values, &mut words, &mut numbers, &mut out);
-    let r = p.refiner;
+    let taken = steps::take_all(
+        pushed,
+        &mut bodies,
+        &mut columns,
+        &mut owners,
+        &mut tracks,
+        &mut filters,
+        fw,
+        fx,
+        window,
+        values,
+        out,
+    );
+    let last = steps::take_rest(taken, window, values, out);
+    let r = last.refiner;
     let k = fgo::counters(r, &bodies, &columns, &owners, &tracks);
-    let end = put_counted(&mut out, at, k);
-    lines::flush(&out, end);
+    let end = put_counted(out, k);
+    console::write(out, end, last.well);
+    last
 }
+
+// ---- a recording
 
 // A recording of n frames, played without a smoother.
 fn run_plain(s: &[u8], n: usize, refiner: FixedLagRefiner, sink: Sink)
-    requires { ⌜ n ≤ FRAMES ⌝ }
+    requires { ⌜ Fresh refiner × Plain sink ⌝ }
 {
     let mut window = [0u64; 0];
     let mut values = [0.0; 0];
-    let printer = Printer { sink, gathered: 0 };
-    let first = Player { refiner, printer };
+    let first = Player {
+        refiner,
+        sink,
+        well: true,
+    };
     run(s, n, first, &mut window, &mut values);
 }
 
@@ -228,19 +150,19 @@ fn run_over<'a, 'b, 'c>(
     window: &'a mut [u64],
     values: &'b mut [f64],
 )
-    requires { ⌜ n ≤ FRAMES ⌝ }
+    requires { ⌜ Fresh refiner ⌝ }
 {
     let o = smoother::open(smoothing(refiner.config), window, values);
     match o {
         smoother::Opened::Refused(code) => {
-            put_refusal(code);
+            print_refusal(code);
         }
         smoother::Opened::Ready(state) => {
-            let printer = Printer {
+            let first = Player {
+                refiner,
                 sink: Sink::Smoother(state),
-                gathered: 0,
+                well: true,
             };
-            let first = Player { refiner, printer };
             run(s, n, first, window, values);
         }
     }
@@ -248,7 +170,7 @@ fn run_over<'a, 'b, 'c>(
 
 // The same over as much of the longest window as the lag asks for.
 fn run_smoothed(s: &[u8], n: usize, refiner: FixedLagRefiner)
-    requires { ⌜ (n ≤ FRAMES) × (lag (refiner .config) ≤ LAG) ⌝ }
+    requires { ⌜ Fresh refiner ⌝ }
 {
     let mut window = [0u64; WINDOW];
     let mut values = [0.0; VALUES];
@@ -260,7 +182,7 @@ fn run_smoothed(s: &[u8], n: usize, refiner: FixedLagRefiner)
 
 // Played in the form that is asked for.
 fn run_as(s: &[u8], n: usize, refiner: FixedLagRefiner, form: Form)
-    requires { ⌜ (n ≤ FRAMES) × (lag (refiner .config) ≤ LAG) ⌝ }
+    requires { ⌜ Fresh refiner ⌝ }
 {
     match form {
         Form::Short => {
@@ -275,33 +197,30 @@ fn run_as(s: &[u8], n: usize, refiner: FixedLagRefiner, form: Form)
     }
 }
 
-// Played with these settings, which opening does not refuse.
-fn open(s: &[u8], n: usize, config: FgoConfig, form: Form)
-    requires { ⌜ (legal config ≡ true) × (n ≤ FRAMES) ⌝ }
-{
-    let o = fgo::open(config);
-    let Opened::Ready(r) = o else {
-        return;
-    };
-    run_as(s, n, r, form);
-}
-
 // A recording, played, its frames printed in that form; or its refusal, 11, 12 or 1.
 pub fn play(s: &[u8], form: Form) {
-    let c = recording::contents_of(s);
-    match c {
+    match recording::contents_of(s) {
         Contents::Refused(code) => {
-            put_refusal(code);
+            print_refusal(code);
         }
-        Contents::Frames { config, count } => {
-            open(s, count, config, form);
-        }
+        Contents::Frames { config, count } => match fgo::open(config) {
+            Opened::Refused(code) => {
+                print_refusal(code);
+            }
+            Opened::Ready(refiner) => {
+                run_as(s, count, refiner, form);
+            }
+        },
     }
 }
 
 // The recording on standard input, played.
 pub fn play_input(form: Form) {
     let mut buffer = [0u8; INPUT];
-    let n = io::read_full(STDIN_FILENO, &mut buffer);
-    play(&buffer[..n], form);
+    match console::read_all(&mut buffer) {
+        Input::Bytes(n) => {
+            play(&buffer[..n], form);
+        }
+        Input::Unreadable => {}
+    }
 }

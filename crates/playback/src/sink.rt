@@ -1,176 +1,162 @@
-// Where the refiner's frames go: to standard output, in short or in full; or to a smoother, whose frames are printed in full.
+// Where the refiner's frames go: into text, in short or in full; or to a smoother, whose frames go into text in full.
 //
-// A frame that the refiner emits stands at the front of fw and fx. A smoother has its window in window and values, which are empty where there is none, and
-// writes its frames to words and numbers.
+// A frame that the refiner emits stands at the front of fw and fx. A smoother has its window in window and values, which are empty where there is none. The
+// text of an answer is put together at the start of out.
 use bounds::NUMBERS;
 use bounds::WORDS;
 use buffers::Answer;
+use print::answers;
 use print::lines;
-use print::lines::ROOM;
-use print::short;
 use smoother_window::FixedLagSmoother;
-ghost use Rattle.print.specs.Printed.{Printable};
-ghost use Rattle.playback.specs.Shown.{Shown};
+ghost use Prim.Native.Nat.{_≤_};
+ghost use lib.ListN.{length};
+ghost use Rattle.bounds.specs.Bounds.{TEXT};
+ghost use Rattle.buffers.specs.Answer.{pushed, taken};
+ghost use Rattle.print.specs.Printed.{Shown, Counted};
+ghost use Rattle.smoother_frame.specs.Frame.{frame as frameOf};
+ghost use Rattle.smoother.specs.Promise as Smoothing;
+ghost use Rattle.playback.specs.Told.{Tells, Smooths, Prints};
 
+// Where the frames go.
 pub enum Sink {
     Short,
     Full,
     Smoother(FixedLagSmoother),
 }
 
-// A sink, and how many bytes are gathered for output.
-pub struct Printer {
+// A smoother after a push or a take, and the place where the text of its answer ends.
+pub struct Smoothed {
+    pub state: FixedLagSmoother,
+    pub end: usize,
+}
+
+// Where the frames go from now on, and the place where the text of an answer ends.
+pub struct Told {
     pub sink: Sink,
-    pub gathered: usize,
+    pub end: usize,
 }
 
 // ---- a smoother's answers
 
-// The line of a refusal; nothing where a frame is held; or a smoothed frame, in full.
-fn put_told<'a>(
-    out: &mut [u8; ROOM],
-    n: usize,
-    answer: Answer,
-    words: &'a [u64],
-    numbers: &'a [f64],
-) -> usize {
-    match answer {
-        Answer::Refused(code) => lines::put_refused(out, n, code),
-        Answer::Held => n,
-        Answer::Frame {
-            words: w,
-            numbers: x,
-        } => lines::put_front(out, n, words, w, numbers, x),
-    }
-}
-
-// A frame of the refiner, pushed to a smoother.
-fn smooth_one<'a, 'b, 'c, 'd, 'e, 'f>(
+// A frame, pushed to a smoother, and its answer.
+fn smooth_one<'a, 'b, 'c, 'd>(
     state: FixedLagSmoother,
-    n: usize,
-    fw: &'f [u64],
-    fx: &'f [f64],
+    fw: &'d [u64],
+    fx: &'d [f64],
     window: &'a mut [u64],
     values: &'b mut [f64],
-    words: &'c mut [u64; WORDS],
-    numbers: &'d mut [f64; NUMBERS],
-    out: &'e mut [u8; ROOM],
-) -> Printer {
+    out: &'c mut [u8],
+) -> Smoothed
+    requires { ⌜ TEXT ≤ length (now out) ⌝ }
+    ensures { λ t. ⌜
+        Tells state (Smoothing.window (now (window .entry)) (now (values .entry))) t
+        (Smoothing.window (now (window .exit)) (now (values .exit))) (now (out .exit)) (pushed (frameOf (now (fw .entry)) (now (fx .entry))))
+        ⌝ }
+{
+    let mut smoothed_words = [0u64; WORDS];
+    let mut smoothed_numbers = [0.0; NUMBERS];
+    let words: &mut [u64] = &mut smoothed_words;
+    let numbers: &mut [f64] = &mut smoothed_numbers;
     let t = smoother::push(state, window, values, fw, fx, words, numbers);
     let answer = t.answer;
     let next = t.state;
-    let gathered = put_told(out, n, answer, words, numbers);
-    Printer {
-        sink: Sink::Smoother(next),
-        gathered,
-    }
+    let end = answers::put_full(out, answer, words, numbers);
+    Smoothed { state: next, end }
 }
 
-// Every frame that a smoother holds, taken.
-fn smooth_rest<'a, 'b, 'c, 'd>(
+// The oldest frame that a smoother holds, taken.
+pub fn take_smoothed<'a, 'b>(
     state: FixedLagSmoother,
-    n: usize,
-    window: &'d [u64],
-    values: &'d [f64],
-    words: &'a mut [u64],
-    numbers: &'b mut [f64],
-    out: &'c mut [u8; ROOM],
-) -> usize {
-    let mut held = state.held;
-    let mut next = state;
-    let mut at = n;
-    while 0 < held {
-        let t = smoother::take(next, window, values, words, numbers);
-        let answer = t.answer;
-        next = t.state;
-        at = put_told(out, at, answer, words, numbers);
-        held -= 1;
-    }
-    at
+    window: &'b [u64],
+    values: &'b [f64],
+    out: &'a mut [u8],
+) -> Smoothed
+    requires { ⌜ TEXT ≤ length (now out) ⌝ }
+    ensures { λ t. ⌜
+        Tells state (Smoothing.window (now (window .entry)) (now (values .entry))) t
+        (Smoothing.window (now (window .entry)) (now (values .entry))) (now (out .exit)) taken
+        ⌝ }
+{
+    let mut smoothed_words = [0u64; WORDS];
+    let mut smoothed_numbers = [0.0; NUMBERS];
+    let words: &mut [u64] = &mut smoothed_words;
+    let numbers: &mut [f64] = &mut smoothed_numbers;
+    let t = smoother::take(state, window, values, words, numbers);
+    let answer = t.answer;
+    let next = t.state;
+    let end = answers::put_full(out, answer, words, numbers);
+    Smoothed { state: next, end }
 }
 
 // ---- the refiner's answers
 
-// A frame of the refiner, to where it goes.
-fn put_frame<'a, 'b, 'c, 'd, 'e, 'f>(
-    p: Printer,
-    fw: &'f [u64],
-    fx: &'f [f64],
-    window: &'a mut [u64],
-    values: &'b mut [f64],
-    words: &'c mut [u64; WORDS],
-    numbers: &'d mut [f64; NUMBERS],
-    out: &'e mut [u8; ROOM],
-) -> Printer
-    requires { ⌜ Printable (now fw) ⌝ }
-{
-    let n = p.gathered;
-    let sink = p.sink;
-    match sink {
-        Sink::Short => Printer {
-            sink: Sink::Short,
-            gathered: short::put_frame(out, n, fw, fx),
-        },
-        Sink::Full => Printer {
-            sink: Sink::Full,
-            gathered: lines::put_frame(out, n, fw, fx),
-        },
-        Sink::Smoother(state) => {
-            smooth_one(state, n, fw, fx, window, values, words, numbers, out)
-        }
-    }
-}
-
-// The line of a refusal; nothing where a frame is held; or so many words and numbers of a frame, to where it goes.
-pub fn put_answer<'a, 'b, 'c, 'd, 'e, 'f>(
-    p: Printer,
+// An answer of the refiner, to a smoother: a refusal is told, and a frame is pushed.
+fn put_smoothed<'a, 'b, 'c, 'd>(
+    state: FixedLagSmoother,
     answer: Answer,
-    fw: &'f [u64],
-    fx: &'f [f64],
+    fw: &'d [u64],
+    fx: &'d [f64],
     window: &'a mut [u64],
     values: &'b mut [f64],
-    words: &'c mut [u64; WORDS],
-    numbers: &'d mut [f64; NUMBERS],
-    out: &'e mut [u8; ROOM],
-) -> Printer
-    requires { ⌜ Shown answer (now fw) ⌝ }
+    out: &'c mut [u8],
+) -> Smoothed
+    requires { ⌜ (TEXT ≤ length (now out)) × Shown answer (now fw) (now fx) ⌝ }
+    ensures { λ t. ⌜
+        Smooths state (Smoothing.window (now (window .entry)) (now (values .entry))) t
+        (Smoothing.window (now (window .exit)) (now (values .exit))) (now (out .exit)) answer (now (fw .entry)) (now (fx .entry))
+        ⌝ }
 {
     match answer {
         Answer::Refused(code) => {
-            let sink = p.sink;
-            let gathered = lines::put_refused(out, p.gathered, code);
-            Printer { sink, gathered }
+            let end = lines::put_refused(out, 0, code);
+            Smoothed { state, end }
         }
-        Answer::Held => p,
+        Answer::Held => Smoothed { state, end: 0 },
         Answer::Frame {
             words: w,
             numbers: x,
-        } => {
-            if fw.len() < w {
-                return p;
-            }
-            if fx.len() < x {
-                return p;
-            }
-            put_frame(p, &fw[..w], &fx[..x], window, values, words, numbers, out)
-        }
+        } => smooth_one(state, &fw[..w], &fx[..x], window, values, out),
     }
 }
 
-// What a smoother still holds, taken and printed; how many bytes are gathered then.
-pub fn put_rest<'a, 'b, 'c, 'd>(
-    p: Printer,
-    window: &'d [u64],
-    values: &'d [f64],
-    words: &'a mut [u64; WORDS],
-    numbers: &'b mut [f64; NUMBERS],
-    out: &'c mut [u8; ROOM],
-) -> usize {
-    let n = p.gathered;
-    let sink = p.sink;
+// An answer of the refiner, to where its frames go.
+pub fn put_answer<'a, 'b, 'c, 'd>(
+    sink: Sink,
+    answer: Answer,
+    fw: &'d [u64],
+    fx: &'d [f64],
+    window: &'a mut [u64],
+    values: &'b mut [f64],
+    out: &'c mut [u8],
+) -> Told
+    requires { ⌜ (TEXT ≤ length (now out)) × Shown answer (now fw) (now fx) × Counted answer (now fw) ⌝ }
+    ensures { λ t. ⌜
+        Prints (Smoothing.window (now (window .entry)) (now (values .entry))) t
+        (Smoothing.window (now (window .exit)) (now (values .exit))) (now (out .exit)) sink answer (now (fw .entry)) (now (fx .entry))
+        ⌝ }
+{
     match sink {
-        Sink::Short => n,
-        Sink::Full => n,
-        Sink::Smoother(state) => { smooth_rest(state, n, window, values, words, numbers, out) }
+        Sink::Short => {
+            let end = answers::put_short(out, answer, fw, fx);
+            Told {
+                sink: Sink::Short,
+                end,
+            }
+        }
+        Sink::Full => {
+            let end = answers::put_full(out, answer, fw, fx);
+            Told {
+                sink: Sink::Full,
+                end,
+            }
+        }
+        Sink::Smoother(state) => {
+            let t = put_smoothed(state, answer, fw, fx, window, values, out);
+            let next = t.state;
+            Told {
+                sink: Sink::Smoother(next),
+                end: t.end,
+            }
+        }
     }
 }

@@ -1,127 +1,100 @@
-// What the programs print: document 01, "Recording and print".
-use crate::lines;
-use crate::lines::ROOM;
+// A frame in short: a line of the frame, one of each track and one of each association. Its counts must be in bounds.
+use crate::fields;
 use bounds::HEAD;
 use bounds::LINK;
 use bounds::STATE;
 use bounds::TRACK;
-use fgo_spec::moves::FgoCounters;
-use scalar::bits;
 use smoother_frame::frame;
-ghost use Prim.Native.Nat.{_≤_, _<_};
-ghost use Rattle.bounds.specs.Bounds.{TRACKS, ASSOCIATIONS, WORDS};
-ghost use Rattle.print.specs.Printed.{Printable};
+ghost use Prim.Native.Nat.{_+_, _*_, _<_, _≤_};
+ghost use Rattle.bounds.specs.Bounds.{LINK, TRACKS, WORDS};
+ghost use Rattle.smoother_frame.specs.Frame.{Counts};
+ghost use Rattle.print.specs.Text.{position, frameLine, trackLine, assocLine, texts, shortForm, Puts};
 
-// Word i, 0 past the last.
-fn word(words: &[u64], i: usize) -> u64 {
-    if i < words.len() {
-        return words[i];
-    }
-    0
+// `frame` time, tracks, associations.
+fn put_head(out: &mut [u8], n: usize, words: &[u64]) -> usize
+    ensures { λ r. ⌜ Puts (frameLine (now (words .entry))) n (now (out .entry)) (now (out .exit)) r ⌝ }
+{
+    let a = fields::put_text(out, n, b"frame");
+    let b = fields::put_signed_word(out, a, words, 0);
+    let c = fields::put_word(out, b, words, 2);
+    let d = fields::put_word(out, c, words, 3);
+    fields::put_text(out, d, b"\n")
 }
 
-fn number(numbers: &[f64], i: usize) -> f64 {
-    if i < numbers.len() {
-        return numbers[i];
-    }
-    0.0
+// The position bits of track i.
+fn put_position(out: &mut [u8], n: usize, x: &[f64], i: usize) -> usize
+    requires { ⌜ i < TRACKS ⌝ }
+    ensures { λ r. ⌜ Puts (position (now (x .entry)) i) n (now (out .entry)) (now (out .exit)) r ⌝ }
+{
+    let o = STATE * i;
+    let a = fields::put_bits(out, n, x, o);
+    let b = fields::put_bits(out, a, x, o + 1);
+    fields::put_bits(out, b, x, o + 2)
 }
 
 // `track` id, lifecycle, age, count, position bits.
-fn put_track<'a>(
-    out: &mut [u8; ROOM],
-    n: usize,
-    words: &'a [u64],
-    numbers: &'a [f64],
-    i: usize,
-) -> usize
+fn put_track<'a>(out: &mut [u8], n: usize, words: &'a [u64], x: &'a [f64], i: usize) -> usize
     requires { ⌜ i < TRACKS ⌝ }
+    ensures { λ r. ⌜ Puts (trackLine (now (words .entry)) (now (x .entry)) i) n (now (out .entry)) (now (out .exit)) r ⌝ }
 {
-    let w = HEAD + TRACK * i;
-    let p = STATE * i;
-    let x = bits::to_bits(number(numbers, p));
-    let y = bits::to_bits(number(numbers, p + 1));
-    let z = bits::to_bits(number(numbers, p + 2));
-    let mut at = lines::put_bytes(out, n, b"track");
-    at = lines::put_decimal(out, at, word(words, w));
-    at = lines::put_decimal(out, at, word(words, w + 1));
-    at = lines::put_signed(out, at, word(words, w + 3));
-    at = lines::put_decimal(out, at, word(words, w + 5));
-    at = lines::put_hex(out, at, x);
-    at = lines::put_hex(out, at, y);
-    at = lines::put_hex(out, at, z);
-    lines::put_byte(out, at, b'\n')
+    let o = HEAD + TRACK * i;
+    let a = fields::put_text(out, n, b"track");
+    let b = fields::put_word(out, a, words, o);
+    let c = fields::put_word(out, b, words, o + 1);
+    let d = fields::put_signed_word(out, c, words, o + 3);
+    let e = fields::put_word(out, d, words, o + 5);
+    let f = put_position(out, e, x, i);
+    fields::put_text(out, f, b"\n")
 }
 
-// `assoc` index, id, outcome: of the association that begins at word w.
-fn put_association(out: &mut [u8; ROOM], n: usize, words: &[u64], w: usize) -> usize
-    requires { ⌜ w ≤ WORDS ⌝ }
+// `assoc` index, id, outcome, of the association whose words begin at place o.
+fn put_association(out: &mut [u8], n: usize, words: &[u64], o: usize) -> usize
+    requires { ⌜ o ≤ WORDS ⌝ }
+    ensures { λ r. ⌜ Puts (assocLine (now (words .entry)) o) n (now (out .entry)) (now (out .exit)) r ⌝ }
 {
-    let mut at = lines::put_bytes(out, n, b"assoc");
-    at = lines::put_decimal(out, at, word(words, w));
-    at = lines::put_decimal(out, at, word(words, w + 1));
-    at = lines::put_decimal(out, at, word(words, w + 2));
-    lines::put_byte(out, at, b'\n')
+    let a = fields::put_text(out, n, b"assoc");
+    let b = fields::put_word(out, a, words, o);
+    let c = fields::put_word(out, b, words, o + 1);
+    let d = fields::put_word(out, c, words, o + 2);
+    fields::put_text(out, d, b"\n")
 }
 
-fn put_tracks<'a>(
-    out: &mut [u8; ROOM],
-    n: usize,
-    words: &'a [u64],
-    numbers: &'a [f64],
-    count: usize,
-) -> usize
-    requires { ⌜ count ≤ TRACKS ⌝ }
+// A line for each track.
+fn put_tracks<'a>(out: &mut [u8], n: usize, words: &'a [u64], x: &'a [f64], many: usize) -> usize
+    requires { ⌜ many ≤ TRACKS ⌝ }
+    ensures { λ r. ⌜ Puts (texts (trackLine (now (words .entry)) (now (x .entry))) many) n (now (out .entry)) (now (out .exit)) r ⌝ }
 {
     let mut at = n;
     let mut i: usize = 0;
-    while i < count {
-        at = put_track(out, at, words, numbers, i);
+    while i < many {
+        at = put_track(out, at, words, x, i);
         i += 1;
     }
     at
 }
 
-// The associations of a frame of so many tracks.
-fn put_associations(
-    out: &mut [u8; ROOM],
-    n: usize,
-    words: &[u64],
-    tracks: usize,
-    count: usize,
-) -> usize
-    requires { ⌜ (tracks ≤ TRACKS) × (count ≤ ASSOCIATIONS) ⌝ }
+// A line for each association; the words of the first begin at place o.
+fn put_associations(out: &mut [u8], n: usize, words: &[u64], o: usize, many: usize) -> usize
+    requires { ⌜ o + LINK * many ≤ WORDS ⌝ }
+    ensures { λ r. ⌜ Puts (texts (λ j. assocLine (now (words .entry)) (o + LINK * j)) many) n (now (out .entry)) (now (out .exit)) r ⌝ }
 {
     let mut at = n;
     let mut j: usize = 0;
-    while j < count {
-        at = put_association(out, at, words, HEAD + TRACK * tracks + LINK * j);
+    while j < many {
+        at = put_association(out, at, words, o + LINK * j);
         j += 1;
     }
     at
 }
 
-// A frame as the program refine prints it: `frame` time, tracks, associations; then a line for each track and each association.
-pub fn put_frame<'a>(out: &mut [u8; ROOM], n: usize, words: &'a [u64], numbers: &'a [f64]) -> usize
-    requires { ⌜ Printable (now words) ⌝ }
+// The lines of a frame.
+pub fn put_frame<'a>(out: &mut [u8], n: usize, words: &'a [u64], x: &'a [f64]) -> usize
+    requires { ⌜ Counts (now words) ⌝ }
+    ensures { λ r. ⌜ Puts (shortForm (now (words .entry)) (now (x .entry))) n (now (out .entry)) (now (out .exit)) r ⌝ }
 {
     let tracks = frame::track_count(words);
     let associations = frame::association_count(words);
-    let mut at = lines::put_bytes(out, n, b"frame");
-    at = lines::put_signed(out, at, word(words, 0));
-    at = lines::put_decimal(out, at, tracks as u64);
-    at = lines::put_decimal(out, at, associations as u64);
-    at = lines::put_byte(out, at, b'\n');
-    at = put_tracks(out, at, words, numbers, tracks);
-    put_associations(out, at, words, tracks, associations)
-}
-
-// `counters` swaps, merges, splits, drops.
-pub fn put_counters(out: &mut [u8; ROOM], n: usize, k: FgoCounters) -> usize {
-    let mut at = lines::put_bytes(out, n, b"counters");
-    at = lines::put_decimal(out, at, k.swaps);
-    at = lines::put_decimal(out, at, k.merges);
-    at = lines::put_decimal(out, at, k.splits);
-    at = lines::put_decimal(out, at, k.drops);
-    lines::put_byte(out, at, b'\n')
+    let a = put_head(out, n, words);
+    let b = put_tracks(out, a, words, x, tracks);
+    put_associations(out, b, words, HEAD + TRACK * tracks, associations)
 }

@@ -78,7 +78,7 @@ fn is_ill_sized(s: &[u8]) -> bool
 }
 
 // The eleven settings, in the order of `FgoConfig`.
-fn settings_of(s: &[u8]) -> FgoConfig
+pub fn settings_of(s: &[u8]) -> FgoConfig
     requires { ⌜ SETTINGS ≤ length (now s) ⌝ }
     ensures { λ r. ⌜ r ≡ settings (now (s .entry)) ⌝ }
 {

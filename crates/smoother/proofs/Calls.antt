@@ -80,7 +80,7 @@ module _ (o : Op Written) (s : FixedLagSmoother) (w : Window) (ws : List ℕ) (n
       record {
         ends =
             subst (λ a. Ends (λ f. f) stateIn a s w ws ns (p .answer) (p .state) w ws ns) (sym e)
-            (record { answered = ap (λ p. p .answer) q; state = ap (λ p. stateIn (p .state) w) q; words = refl; numbers = refl; unchanged = (ap (λ p. p .state) q, refl) });
+            (record { answered = ap (λ p. p .answer) q; state = ap (λ p. stateIn (p .state) w) q; words = refl; numbers = refl; small = tt; unchanged = (ap (λ p. p .state) q, refl) });
         window-words = refl;
         window-numbers = refl;
         words = refl;
@@ -95,7 +95,7 @@ module _ (o : Op Written) (s : FixedLagSmoother) (w : Window) (ws : List ℕ) (n
       record {
         ends =
             subst (λ a. Ends (λ f. f) stateIn a s w ws ns (p .answer) (p .state) w′ ws′ ns′) (sym (e ∙ oldest-leaves r w′ h))
-            (record { answered = d .answer; state = ap (λ r. stateIn r w′) (d .state); words = d .words; numbers = d .numbers; unchanged = tt });
+            (record { answered = d .answer; state = ap (λ r. stateIn r w′) (d .state); words = d .words; numbers = d .numbers; small = d .small; unchanged = tt });
         window-words = k;
         window-numbers = l;
         words = m;
@@ -143,7 +143,7 @@ module _ (s : FixedLagSmoother) (w : Window) (ws : List ℕ) (ns : List Float) (
       record {
         ends =
             subst (λ a. Ends (λ f. f) stateIn a s w ws ns Held r w′ ws ns) (sym (push-due ∙ settle-held r w′ l))
-            (record { answered = refl; state = refl; words = refl; numbers = refl; unchanged = tt });
+            (record { answered = refl; state = refl; words = refl; numbers = refl; small = tt; unchanged = tt });
         window-words = d .words;
         window-numbers = d .numbers;
         words = refl;

@@ -6,7 +6,7 @@ use mathlib.Core.List.{List}
 use lib.ListN.{length}
 use lib.Ieee.{Float}
 use Rattle.buffers.specs.declared.Answer.the-variants.{Refused}
-use Rattle.buffers.specs.Answer.{Opening, opened, unopened, Op, Reply, refused, gives, Written, roomy, checked, answerOf, Ends}
+use Rattle.buffers.specs.Answer.{Opening, opened, unopened, Op, Reply, refused, gives, Written, roomy, checked, answerOf, Small, Ends}
 use Rattle.buffers.specs.Buffers.{over}
 use Rattle.smoother_window.specs.declared.FixedLagSmoother.{FixedLagSmoother}
 use Rattle.smoother_window.specs.Config.{bounded}
@@ -69,3 +69,4 @@ pub record Emits (s : FixedLagSmoother) (w : Window) (ws : List ℕ) (ns : List 
   pub state : p .state ≡ fewer s
   pub words : ws′ ≡ over 0 (oldest s (w .words) (w .numbers) .words) ws
   pub numbers : ns′ ≡ over 0 (oldest s (w .words) (w .numbers) .numbers) ns
+  pub small : Small (λ f. f) (gives (oldest s (w .words) (w .numbers)))

@@ -57,7 +57,7 @@ fn smoothed_flag(c: SmootherConfig) -> u64
 // frame's counts fit its slot, and that words has room for any frame.
 pub fn emit_words<'a, 'b>(words: &'a mut [u64], s: FixedLagSmoother, win: &'b [u64]) -> usize
     requires { ⌜ (lag (s .config) ≤ LAG) × (most (s .config) ≤ TRACKS) × (length (now win) ≡ (lag (s .config) + 1) * wordsFor (most (s .config))) × SlotCounts s (now win) 0 × (WORDS ≤ length (now words)) ⌝ }
-    ensures { λ r. ⌜ (r ≡ length (wordsIn s (now (win .entry)) 0)) × (now (words .exit) ≡ over 0 (smoothedAs (wordsIn s (now (win .entry)) 0) (smoothedFlag (s .config))) (now (words .entry))) ⌝ }
+    ensures { λ r. ⌜ (r ≡ length (wordsIn s (now (win .entry)) 0)) × (now (words .exit) ≡ over 0 (smoothedAs (wordsIn s (now (win .entry)) 0) (smoothedFlag (s .config))) (now (words .entry))) × (r ≤ WORDS) ⌝ }
 {
     let w = frame_words(s, win, 0);
     put_words(words, 0, w);
@@ -73,7 +73,7 @@ pub fn emit_numbers<'a, 'b>(
     nums: &'b [f64],
 ) -> usize
     requires { ⌜ Fitting s (now win) (now nums) × (s .held ≤ lag (s .config) + 1) × (0 < s .held) × AllCounted s (now win) × (NUMBERS ≤ length (now numbers)) ⌝ }
-    ensures { λ r. ⌜ (r ≡ length (oldest s (now (win .entry)) (now (nums .entry)) .numbers)) × (now (numbers .exit) ≡ over 0 (oldest s (now (win .entry)) (now (nums .entry)) .numbers) (now (numbers .entry))) ⌝ }
+    ensures { λ r. ⌜ (r ≡ length (oldest s (now (win .entry)) (now (nums .entry)) .numbers)) × (now (numbers .exit) ≡ over 0 (oldest s (now (win .entry)) (now (nums .entry)) .numbers) (now (numbers .entry))) × (r ≤ NUMBERS) ⌝ }
 {
     put_states(numbers, s, win, nums);
     let w = frame_words(s, win, 0);

@@ -35,17 +35,17 @@ returns-2 c = search needs
 add-at : tie.Need-add-at Inv-loop μ-loop
 add-at c = search needs
 
-sub-play : tie.Need-sub-play Inv-loop μ-loop
-sub-play c = search needs
+sub-both : tie.Need-sub-both Inv-loop μ-loop
+sub-both c = search needs
 
-part-play-start : tie.Need-part-play-start Inv-loop μ-loop
-part-play-start c = search needs
+part-both-start : tie.Need-part-both-start Inv-loop μ-loop
+part-both-start c = search needs
 
-part-play-end : tie.Need-part-play-end Inv-loop μ-loop
-part-play-end c = search needs
+part-both-end : tie.Need-part-both-end Inv-loop μ-loop
+part-both-end c = search needs
 
-play-requires : tie.Need-play-requires Inv-loop μ-loop
-play-requires c κs = search needs
+both-requires : tie.Need-both-requires Inv-loop μ-loop
+both-requires c κs = search needs
 
 loop-less : tie.Need-loop-less Inv-loop μ-loop
 loop-less c = search needs
@@ -70,10 +70,10 @@ play-all-spec =
     sub-if2
     returns-2
     add-at
-    sub-play
-    part-play-start
-    part-play-end
-    play-requires
+    sub-both
+    part-both-start
+    part-both-end
+    both-requires
     loop-less
     loop-again
     returns-3)

@@ -1,5 +1,6 @@
 -- `smoother::emit_oldest` meets its contract. Assumes nothing.
 use mathlib.Core.Path.{sym, _∙_}
+use native.Mathlib.Omega.{arith}
 use lib.ListN.{length-set}
 use Rattle.buffers.specs.declared.Answer.the-variants.{Frame}
 use Rattle.smoother_window.specs.Window.{wordsIn}
@@ -23,6 +24,10 @@ returns c =
       state = c .dropped .ensures;
       words = c .before .before .before .before .before .before .before .emit-words .ensures .1;
       numbers = c .before .before .before .emit-numbers .ensures .1;
+      small = (
+        omega (arith, a, c .before .before .before .before .before .before .before .emit-words .ensures .2),
+        omega (arith, b, c .before .before .before .emit-numbers .ensures .2),
+      );
     }
 
 pub emit-oldest-spec : {M : Type 1} → statement M

@@ -1,18 +1,20 @@
 -- `print::short::put_tracks` meets its contract. Assumes nothing.
-use Prim.Native.Nat.{_-_, _≤_}
-use Rattle.bounds.specs.Bounds.{TRACKS}
+use Rattle.print.specs.Text.{trackLine}
+use Prim.Native.Nat.{_-_}
 use borrow.Author.Needs.{needs}
+use native.Mathlib.Omega.{arith}
+use Rattle.print.proofs.Putting.{Put, put-none, put-next, put-all}
 use Rattle.print.proofs.short.put_tracks.Statement.{statement}
 use Rattle.print.proofs.short.put_tracks.Tie as tie
 
 abbrev Inv-loop : tie.InvT-loop
-Inv-loop out₀ n words numbers count at₀ i₀ out at i = (i ≤ count) × (count ≤ TRACKS)
+Inv-loop out₀ n words x many at₀ i₀ out at i = Put (trackLine words x) many n out₀ i out at
 
 abbrev μ-loop : tie.MeasureT-loop
-μ-loop out₀ n words numbers count at₀ i₀ out at i = count - i
+μ-loop out₀ n words x many at₀ i₀ out at i = many - i
 
 loop-holds : tie.Need-loop-holds Inv-loop μ-loop
-loop-holds c = search needs
+loop-holds c = put-none
 
 put-track-requires : tie.Need-put-track-requires Inv-loop μ-loop
 put-track-requires c κs = search needs
@@ -21,15 +23,27 @@ add-i : tie.Need-add-i Inv-loop μ-loop
 add-i c = search needs
 
 loop-less : tie.Need-loop-less Inv-loop μ-loop
-loop-less c = search needs
+loop-less c = omega arith
 
 loop-again : tie.Need-loop-again Inv-loop μ-loop
-loop-again c = search needs
+loop-again c = put-next (c .before .before .before .before .before .loop .inv) (c .before .before .before .before .loop-test .taken) (c .before .before .put-track .ensures)
+
+same-length : tie.Need-same-length Inv-loop μ-loop
+same-length c = c .before .loop .inv .long
 
 returns : tie.Need-returns Inv-loop μ-loop
-returns c = search needs
+returns c = put-all (c .before .loop .inv) (c .loop-test .left)
 
 pub put-tracks-spec : {M : Type 1} → statement M
 put-tracks-spec =
     tie.close
-    (tie.spec Inv-loop μ-loop loop-holds put-track-requires add-i loop-less loop-again returns)
+    (tie.spec
+    Inv-loop
+    μ-loop
+    loop-holds
+    put-track-requires
+    add-i
+    loop-less
+    loop-again
+    same-length
+    returns)

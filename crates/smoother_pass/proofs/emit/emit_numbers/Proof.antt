@@ -47,7 +47,8 @@ returns c =
     let p = c .before .before .before .before .before .before .before .before .before .before .before .before .before .before .before .pre in
     let n = words-of (p .0 .tracks) (p .3 0 (p .2)) (c .before .before .before .before .before .before .before .frame-words .ensures .0) (c .before .before .before .before .before .before .before .frame-words .ensures .1) in
     let s = statesTo (g .s .config) (framesIn (g .s) (g .win .now) (g .nums .now)) (heldFrame (g .s) (g .win .now) (g .nums .now) 0) (trackCount (wordsIn (g .s) (g .win .now) 0)) in
-    rest-after s (g .numbers .now) (c .before .before .before .before .before .before .before .before .before .before .put-states .ensures .1) (c .before .before .before .before .before .before .frame-numbers .ensures .0) (c .before .before .before .before .before .costs-from .ensures ∙ ap costsFrom (c .before .before .before .before .before .before .before .frame-words .ensures .0)) (omega (arith, n, c .before .before .before .before .before .before .frame-numbers .ensures .1)) (omega (arith, n, p .4)) (c .before .before .before .before .before .before .before .before .before .before .put-states .ensures .0) (c .before .before .put-numbers .ensures)
+    let e = rest-after s (g .numbers .now) (c .before .before .before .before .before .before .before .before .before .before .put-states .ensures .1) (c .before .before .before .before .before .before .frame-numbers .ensures .0) (c .before .before .before .before .before .costs-from .ensures ∙ ap costsFrom (c .before .before .before .before .before .before .before .frame-words .ensures .0)) (omega (arith, n, c .before .before .before .before .before .before .frame-numbers .ensures .1)) (omega (arith, n, p .4)) (c .before .before .before .before .before .before .before .before .before .before .put-states .ensures .0) (c .before .before .put-numbers .ensures) in
+    (e .0, e .1, omega (arith, n, c .before .before .before .before .before .before .frame-numbers .ensures .1))
 
 pub emit-numbers-spec : {M : Type 1} → statement M
 emit-numbers-spec =

@@ -14,7 +14,7 @@ returns c =
     let w = c .before .before .before .before .before .before .before .before .before .frame-words in
     let f = c .before .before .before .smoothed-flag in
     let o = c .before .before .before .before .before .before .before .before .before .before .before .before .args .words .now in
-    (ap length (w .ensures .0), c .before .before .put-smoothed .ensures ∙ (λ i. smoothedAs (c .before .before .before .before .before .before .before .put-words .ensures i) (f .result)) ∙ flagged (w .result .now) o (f .result) (omega (arith, w .ensures .1)) ∙ (λ i. over 0 (smoothedAs (w .ensures .0 i) (f .ensures i)) o))
+    (ap length (w .ensures .0), c .before .before .put-smoothed .ensures ∙ (λ i. smoothedAs (c .before .before .before .before .before .before .before .put-words .ensures i) (f .result)) ∙ flagged (w .result .now) o (f .result) (omega (arith, w .ensures .1)) ∙ (λ i. over 0 (smoothedAs (w .ensures .0 i) (f .ensures i)) o), omega (arith, w .ensures .1))
 
 pub emit-words-spec : {M : Type 1} → statement M
 emit-words-spec =

@@ -1,0 +1,2 @@
+mod Desks
+mod Playing

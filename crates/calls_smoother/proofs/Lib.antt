@@ -1,0 +1,7 @@
+mod Reading
+mod Lending
+mod Rooms
+mod Telling
+mod Opening
+mod Writing
+mod Performing
