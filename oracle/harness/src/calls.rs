@@ -1,130 +1,225 @@
-//! Calls of a smoother as the program smoother_frames reads them, and document 01's refusals 1, 5 and 13. Written from the document, apart from the project's code.
-use crate::engine::*;
-use crate::smoother::FixedLagSmoother;
+//! A list of calls of a refiner and of a smoother as the program `calls` reads it, and what it prints.
+use crate::frames::{self, Lists};
+use crate::image::{self, RefinerImage};
+use crate::junk::Junk;
+use crate::reading::{number, numbers};
+use crate::refiner_calls::{self, Answer, Refusal, Room};
+use crate::smoother_calls::Smoother;
+use std::io::Write;
 
-/// What the input asks for, and the words of the input after it.
-enum Call {
+/// The most bytes of a list.
+const LIST: usize = 262_144;
+/// The longest output buffers that may be lent, which are as long as the longest lists of a pushed frame.
+const BUFFERS: (usize, usize) = (4096, 8192);
+
+/// One call.
+enum Call<'a> {
+    Open(&'a [u8]),
+    Push(&'a [u8]),
     Take,
-    Push(Vec<u64>, Vec<u64>),
-    End,
+    Counters,
+    Lend(Room),
+    Write(u64, u64, u64),
+    Digest,
+    OpenSmoother(u64, u64, u64),
+    PushLast,
+    PushFrame(Lists),
+    TakeSmoothed,
+    LendWindow(Room),
+    WriteSmoother(u64, u64, u64),
 }
 
-struct Input<'a> {
-    words: &'a [u64],
-    at: usize,
+/// Two lengths up to their bounds.
+fn lengths(words: u64, numbers: u64, most: Room) -> Option<Room> {
+    (words <= most.0 as u64 && numbers <= most.1 as u64).then_some((words as usize, numbers as usize))
 }
 
-impl Input<'_> {
-    /// The next word, 0 past the end.
-    fn next(&mut self) -> u64 {
-        let w = self.words.get(self.at).copied().unwrap_or(0);
-        self.at += 1;
-        w
-    }
-
-    fn list(&mut self, n: u64) -> Vec<u64> {
-        (0..n).map(|_| self.next()).collect()
-    }
-
-    fn call(&mut self) -> Call {
-        if self.at >= self.words.len() {
-            return Call::End;
-        }
-        match self.next() {
-            0 => Call::Take,
-            1 => {
-                let (words, numbers) = (self.next(), self.next());
-                if words > 910 || numbers > 5408 {
-                    return Call::End;
-                }
-                Call::Push(self.list(words), self.list(numbers))
+/// A call by its code and what follows; none where it is bad.
+fn call(code: u64, s: &[u8]) -> Option<Call<'_>> {
+    let words = if code == 2 { Vec::new() } else { numbers(s) };
+    Some(match (code, s.len()) {
+        (1, 88) => Call::Open(s),
+        (2, _) => Call::Push(s),
+        (4, 0) => Call::Take,
+        (5, 0) => Call::Counters,
+        (6, 16) => Call::Lend(lengths(words[0], words[1], BUFFERS)?),
+        (7, 24) => Call::Write(words[0], words[1], words[2]),
+        (9, 0) => Call::Digest,
+        (11, 24) => Call::OpenSmoother(words[0], words[1], words[2]),
+        (12, 0) => Call::PushLast,
+        (13, 16..) => {
+            let (w, x) = lengths(words[0], words[1], BUFFERS)?;
+            if s.len() != 16 + 8 * (w + x) {
+                return None;
             }
-            _ => Call::End,
+            Call::PushFrame(Lists {
+                words: words[2..2 + w].to_vec(),
+                numbers: words[2 + w..].to_vec(),
+            })
         }
-    }
+        (14, 0) => Call::TakeSmoothed,
+        (16, 16) => Call::LendWindow(lengths(words[0], words[1], image::WINDOW)?),
+        (17, 24) => Call::WriteSmoother(words[0], words[1], words[2]),
+        _ => return None,
+    })
 }
 
-/// A frame from its words and the bits of its numbers, or none where it is malformed.
-fn frame(words: &[u64], bits: &[u64], most: u64) -> Option<LidarFrameOutput> {
-    let &[time, mode, tracks, associations, sensors, smoothed] = words.get(..6)?.first_chunk()?;
-    let bound = (1i64 << 62) - 1;
-    let time = time as i64;
-    if time < -bound || time > bound || mode > 2 || tracks > most || associations > 32 || sensors > 8 || smoothed > 1 {
-        return None;
-    }
-    if words.len() as u64 != 6 + 6 * tracks + 4 * associations + sensors || bits.len() as u64 != 42 * tracks + associations {
-        return None;
-    }
-    let (rows, rest) = words[6..].split_at(6 * tracks as usize);
-    let (links, sensors) = rest.split_at(4 * associations as usize);
-    let (states, costs) = bits.split_at(42 * tracks as usize);
-    let mut f = LidarFrameOutput {
-        mode: [TrackingMode::LidarOnly, TrackingMode::CameraAssociated, TrackingMode::CameraAssisted][mode as usize],
-        timestamp_ns: time,
-        tracks: Vec::new(),
-        observations: Vec::new(),
-        associations: Vec::new(),
-        unmatched_track_ids: Vec::new(),
-        pose_correction: None,
-        smoothed: smoothed == 1,
-        sensors: sensors.iter().map(|s| u32::try_from(*s).ok()).collect::<Option<_>>()?,
-    };
-    for (row, state) in rows.chunks(6).zip(states.chunks(42)) {
-        let age = row[3] as i64;
-        if age > 0 {
-            f.unmatched_track_ids.push(row[0]);
-        }
-        let state: Vec<f64> = state.iter().map(|b| f64::from_bits(*b)).collect();
-        f.tracks.push(TrackOutput {
-            track_id: row[0],
-            lifecycle: ["tentative", "confirmed"].get(row[1] as usize)?.to_string(),
-            state_timestamp_ns: time,
-            last_spatial_update_ns: Some(row[2] as i64),
-            last_camera_support_ns: None,
-            age_since_spatial_update_ns: age,
-            prediction_only: age > 0,
-            position: state[..3].to_vec(),
-            velocity: state[3..6].to_vec(),
-            covariance: state[6..].to_vec(),
-            class_label: if row[4] == 1 << 32 { None } else { Some(row[4].try_into().ok()?) },
-            class_prior: None,
-            contributing_sensors: Vec::new(),
-            observation_times_count: row[5].try_into().ok()?,
-            confidence: None,
-        });
-    }
-    for (row, cost) in links.chunks(4).zip(costs) {
-        f.associations.push(LidarAssociationOutput {
-            observation_index: row[0] as usize,
-            track_id: (row[1] != 0).then_some(row[1]),
-            outcome: ["updated", "spawned", "unmatched"].get(row[2] as usize)?.to_string(),
-            cost: match (row[3], *cost) {
-                (0, 0) => None,
-                (1, b) => Some(f64::from_bits(b)),
-                _ => return None,
-            },
-        });
-    }
-    Some(f)
+/// The next call of a list, and what comes after it; none where it is bad.
+fn next(s: &[u8]) -> Option<(Call<'_>, &[u8])> {
+    let (head, rest) = s.split_at_checked(8)?;
+    let (what, rest) = rest.split_at_checked(number(&head[4..]) as usize)?;
+    Some((call(number(&head[..4]), what)?, rest))
 }
 
-/// What each call answers: a refusal or the frames that it gives, in order.
-pub fn play(bytes: &[u8], mut told: impl FnMut(Result<LidarFrameOutput, u32>)) {
-    let words: Vec<u64> = bytes[..bytes.len().min(65536)].chunks_exact(8).map(|c| u64::from_le_bytes(c.try_into().unwrap())).collect();
-    let mut input = Input { words: &words, at: 0 };
-    let (lag, density, most) = (input.next(), f64::from_bits(input.next()), input.next());
-    if lag > 16 || !density.is_finite() || !(1..=128).contains(&most) {
-        return told(Err(1));
-    }
-    let mut smoother = FixedLagSmoother::new(lag as usize, density);
-    loop {
-        match input.call() {
-            Call::End => return,
-            Call::Take => told(smoother.take().ok_or(13)),
-            Call::Push(words, numbers) => match frame(&words, &numbers, most) {
-                None => told(Err(5)),
-                Some(f) => smoother.push(f).into_iter().for_each(|g| told(Ok(g))),
+/// What a list is played with.
+pub struct Player {
+    pub refiner: RefinerImage,
+    pub smoother: Smoother,
+    room: Room,
+    /// The frame that the refiner gave last.
+    last: Lists,
+    /// Whether the broken clauses stand after `refused 3`.
+    pub names: bool,
+    /// Junk that is put past the counts after each call that was carried out.
+    pub junk: Option<Junk>,
+}
+
+impl Player {
+    pub fn new() -> Self {
+        Player {
+            refiner: RefinerImage::new(),
+            smoother: Smoother::new(),
+            room: (910, 5408),
+            last: Lists {
+                words: Vec::new(),
+                numbers: Vec::new(),
             },
+            names: false,
+            junk: None,
         }
+    }
+
+    fn refused(&self, out: &mut impl Write, r: Refusal) {
+        let names = if self.names { r.broken } else { Vec::new() };
+        let words: Vec<String> = [r.number.to_string()].into_iter().chain(names.iter().map(|n| n.to_string())).collect();
+        writeln!(out, "refused {}", words.join(" ")).unwrap();
+    }
+
+    fn opened(&self, out: &mut impl Write, answer: Result<(), Refusal>) {
+        match answer {
+            Ok(()) => writeln!(out, "opened").unwrap(),
+            Err(r) => self.refused(out, r),
+        }
+    }
+
+    /// Prints an answer; the frame, if there is one.
+    fn answered(&self, out: &mut impl Write, answer: Answer) -> Option<Lists> {
+        match answer {
+            Ok(Some(f)) => {
+                let f = frames::lists(&f);
+                frames::print(out, &f);
+                return Some(f);
+            }
+            Ok(None) => writeln!(out, "held").unwrap(),
+            Err(r) => self.refused(out, r),
+        }
+        None
+    }
+
+    fn refined(&mut self, out: &mut impl Write, answer: Answer) {
+        if let (Some(junk), Ok(_)) = (&mut self.junk, &answer) {
+            junk.spill(&mut self.refiner);
+        }
+        if let Some(f) = self.answered(out, answer) {
+            self.last = f;
+        }
+    }
+
+    fn smoothed(&mut self, out: &mut impl Write, answer: Answer) {
+        if let (Some(junk), Ok(_)) = (&mut self.junk, &answer) {
+            junk.spill_smoother(&mut self.smoother.image);
+        }
+        self.answered(out, answer);
+    }
+
+    /// Plays one call and prints its answer; none where it names a cell that is not there.
+    fn play_one(&mut self, out: &mut impl Write, call: Call) -> Option<()> {
+        match call {
+            Call::Open(settings) => {
+                let answer = refiner_calls::open(&mut self.refiner, settings);
+                self.opened(out, answer);
+            }
+            Call::Push(body) => {
+                let answer = refiner_calls::push(&mut self.refiner, body, self.room);
+                self.refined(out, answer);
+            }
+            Call::Take => {
+                let answer = refiner_calls::take(&mut self.refiner, self.room);
+                self.refined(out, answer);
+            }
+            Call::Counters => match refiner_calls::counters(&self.refiner) {
+                Ok([a, b, c, d]) => writeln!(out, "counters {a} {b} {c} {d}").unwrap(),
+                Err(r) => self.refused(out, r),
+            },
+            Call::Lend(room) => self.room = room,
+            Call::Write(place, index, value) => self.refiner.put(place, index, value)?,
+            // what lies past the counts is free, so the numbers are not known here
+            Call::Digest => writeln!(out, "digest -").unwrap(),
+            Call::OpenSmoother(lag, density, most) => {
+                let answer = self.smoother.open(lag, density, most);
+                self.opened(out, answer);
+            }
+            Call::PushLast => {
+                let answer = self.smoother.push(&self.last, self.room);
+                self.smoothed(out, answer);
+            }
+            Call::PushFrame(f) => {
+                let answer = self.smoother.push(&f, self.room);
+                self.smoothed(out, answer);
+            }
+            Call::TakeSmoothed => {
+                let answer = self.smoother.take(self.room);
+                self.smoothed(out, answer);
+            }
+            Call::LendWindow(window) => self.smoother.lend(window),
+            Call::WriteSmoother(place, index, value) => self.smoother.put(place, index, value)?,
+        }
+        Some(())
+    }
+
+    /// Plays a list up to its end or its first bad call.
+    pub fn play(&mut self, out: &mut impl Write, mut s: &[u8]) {
+        if s.len() > LIST {
+            return writeln!(out, "bad call").unwrap();
+        }
+        while !s.is_empty() {
+            let played = next(s).and_then(|(call, rest)| self.play_one(out, call).map(|()| rest));
+            match played {
+                Some(rest) => s = rest,
+                None => return writeln!(out, "bad call").unwrap(),
+            }
+        }
+    }
+
+    /// What the callers keep, and what they lend: the refiner's fields, bodies, columns, owners, tracks and filters, the smoother's fields, words and numbers; the
+    /// lengths of the window and of the buffers.
+    pub fn cells(&self) -> Vec<u8> {
+        let (r, s, w) = (&self.refiner, &self.smoother.image, self.smoother.window());
+        let lengths = [w.0, w.1, self.room.0, self.room.1].map(|n| n as u64);
+        let mut out: Vec<u8> = r.fields.iter().flat_map(|c| c.to_le_bytes()).collect();
+        out.extend(&r.bodies);
+        for cells in [
+            &r.columns,
+            &r.owners,
+            &r.tracks,
+            &r.filters,
+            &s.fields.to_vec(),
+            &s.words,
+            &s.numbers,
+            &lengths.to_vec(),
+        ] {
+            out.extend(cells.iter().flat_map(|c| c.to_le_bytes()));
+        }
+        out
     }
 }

@@ -1,8 +1,11 @@
-//! Runs a recording through the published refiner and smoother and prints what refine, frames or smooth should print; or calls of a smoother, and prints what
-//! smoother_frames should print.
+//! Runs a recording through the published refiner and smoother and prints what refine, frames or smooth should print; or a list of calls of a refiner and of a
+//! smoother, and prints what calls should print, but for the numbers of a digest.
 //!
 //!     oracle refine|frames|smooth < RECORDING
-//!     oracle smoother_frames < CALLS
+//!     oracle calls < CALLS
+//!     oracle calls_named < CALLS          the same, and after `refused 3` the clauses of the state rule that are broken
+//!     oracle calls_over_junk < CALLS      the same as calls, with junk past the counts after each call that was carried out
+//!     oracle calls_cells < CALLS          what the callers keep and lend at the end, in binary
 //!
 //! The refusals are not the published code's: they are worked out here from document 01, so that the published code sees the accepted frames only.
 #![allow(dead_code)]
@@ -11,15 +14,23 @@ mod arithmetic;
 mod calls;
 mod engine;
 mod fgo;
+mod frames;
+mod image;
+mod junk;
 mod models;
 mod reading;
+mod refiner_calls;
+mod rule;
 mod smoother;
+mod smoother_calls;
 
 use engine::*;
 use fgo::{FgoConfig, FixedLagRefiner};
 use smoother::FixedLagSmoother;
 use std::collections::BTreeSet;
 use std::io::{Read, Write};
+
+const USE: &str = "oracle refine|frames|smooth < RECORDING, or oracle calls|calls_named|calls_over_junk|calls_cells < CALLS";
 
 #[derive(Clone, Copy, PartialEq)]
 enum Program {
@@ -28,78 +39,11 @@ enum Program {
     Smooth,
 }
 
-fn bits(x: f64) -> u64 {
-    if x.is_nan() {
-        0x7ff8_0000_0000_0000
-    } else {
-        x.to_bits()
-    }
-}
-
-fn mode_number(m: TrackingMode) -> u64 {
-    match m {
-        TrackingMode::LidarOnly => 0,
-        TrackingMode::CameraAssociated => 1,
-        TrackingMode::CameraAssisted => 2,
-    }
-}
-
-fn outcome_number(o: &str) -> u64 {
-    match o {
-        "updated" => 0,
-        "spawned" => 1,
-        _ => 2,
-    }
-}
-
-fn words(f: &LidarFrameOutput) -> Vec<u64> {
-    let mut w = vec![
-        f.timestamp_ns as u64,
-        mode_number(f.mode),
-        f.tracks.len() as u64,
-        f.associations.len() as u64,
-        f.sensors.len() as u64,
-        f.smoothed as u64,
-    ];
-    for t in &f.tracks {
-        assert_eq!(t.prediction_only, t.age_since_spatial_update_ns > 0);
-        w.extend([
-            t.track_id,
-            (t.lifecycle == "confirmed") as u64,
-            t.last_spatial_update_ns.expect("a last time") as u64,
-            t.age_since_spatial_update_ns as u64,
-            t.class_label.map_or(1 << 32, u64::from),
-            t.observation_times_count as u64,
-        ]);
-    }
-    let unmatched: Vec<u64> = f.tracks.iter().filter(|t| t.prediction_only).map(|t| t.track_id).collect();
-    assert_eq!(unmatched, f.unmatched_track_ids);
-    for a in &f.associations {
-        w.extend([
-            a.observation_index as u64,
-            a.track_id.unwrap_or(0),
-            outcome_number(&a.outcome),
-            a.cost.is_some() as u64,
-        ]);
-    }
-    w.extend(f.sensors.iter().map(|s| *s as u64));
-    w
-}
-
-fn numbers(f: &LidarFrameOutput) -> Vec<f64> {
-    let mut n = Vec::new();
-    for t in &f.tracks {
-        n.extend(t.position.iter().chain(&t.velocity).chain(&t.covariance));
-    }
-    n.extend(f.associations.iter().map(|a| a.cost.unwrap_or(0.0)));
-    n
-}
-
 fn print_frame(out: &mut impl Write, p: Program, f: &LidarFrameOutput) {
     if p == Program::Refine {
         writeln!(out, "frame {} {} {}", f.timestamp_ns, f.tracks.len(), f.associations.len()).unwrap();
         for t in &f.tracks {
-            let q: Vec<String> = t.position.iter().map(|x| format!("{:016x}", bits(*x))).collect();
+            let q: Vec<String> = t.position.iter().map(|x| format!("{:016x}", frames::bits(*x))).collect();
             writeln!(
                 out,
                 "track {} {} {} {} {}",
@@ -112,19 +56,11 @@ fn print_frame(out: &mut impl Write, p: Program, f: &LidarFrameOutput) {
             .unwrap();
         }
         for a in &f.associations {
-            writeln!(out, "assoc {} {} {}", a.observation_index, a.track_id.unwrap_or(0), outcome_number(&a.outcome)).unwrap();
+            writeln!(out, "assoc {} {} {}", a.observation_index, a.track_id.unwrap_or(0), frames::outcome_number(&a.outcome)).unwrap();
         }
         return;
     }
-    write!(out, "words").unwrap();
-    for w in words(f) {
-        write!(out, " {w}").unwrap();
-    }
-    write!(out, "\nnumbers").unwrap();
-    for n in numbers(f) {
-        write!(out, " {:016x}", bits(n)).unwrap();
-    }
-    writeln!(out).unwrap();
+    frames::print(out, &frames::lists(f));
 }
 
 struct Run<'a, W: Write> {
@@ -173,17 +109,25 @@ fn main() {
     std::io::stdin().read_to_end(&mut bytes).unwrap();
     let stdout = std::io::stdout();
     let mut out = std::io::BufWriter::new(stdout.lock());
-    if name == "smoother_frames" {
-        return calls::play(&bytes, |told| match told {
-            Ok(f) => print_frame(&mut out, Program::Frames, &f),
-            Err(n) => writeln!(out, "refused {n}").unwrap(),
-        });
+    if let Some(how) = name.strip_prefix("calls") {
+        let mut player = calls::Player::new();
+        match how {
+            "" => {}
+            "_named" => player.names = true,
+            "_over_junk" => player.junk = Some(junk::Junk::new()),
+            "_cells" => {
+                player.play(&mut std::io::sink(), &bytes);
+                return out.write_all(&player.cells()).unwrap();
+            }
+            _ => panic!("{USE}"),
+        }
+        return player.play(&mut out, &bytes);
     }
     let program = match name.as_str() {
         "refine" => Program::Refine,
         "frames" => Program::Frames,
         "smooth" => Program::Smooth,
-        _ => panic!("oracle refine|frames|smooth < RECORDING, or oracle smoother_frames < CALLS"),
+        _ => panic!("{USE}"),
     };
     let (config, bodies) = match reading::recording(&bytes) {
         Ok(r) => r,
@@ -192,20 +136,7 @@ fn main() {
             return;
         }
     };
-    let legal = config.lag_frames <= 16
-        && config.max_passes <= 1000
-        && [
-            config.radius_m,
-            config.birth_cost,
-            config.miss_cost,
-            config.clutter_cost,
-            config.accel_spectral_density,
-            config.position_sigma_m,
-            config.initial_velocity_variance,
-        ]
-        .iter()
-        .all(|x| x.is_finite());
-    if !legal {
+    if !reading::legal(&config) {
         writeln!(out, "refused 1").unwrap();
         return;
     }

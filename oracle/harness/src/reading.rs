@@ -1,13 +1,50 @@
-//! Recordings and frame bodies as document 01 has them, with its refusals 5, 6, 7, 11 and 12. Written from the document, apart from the project's code.
+//! Recordings, settings and frame bodies as document 01 has them, with its refusals 1, 5, 6, 7, 11 and 12. Written from the document, apart from the project's code.
 use crate::engine::*;
 use crate::fgo::FgoConfig;
 
-fn number(s: &[u8]) -> u64 {
+pub fn number(s: &[u8]) -> u64 {
     s.iter().rev().fold(0, |n, b| n << 8 | *b as u64)
+}
+
+/// The 64-bit numbers of which bytes consist, as far as they are whole.
+pub fn numbers(s: &[u8]) -> Vec<u64> {
+    s.chunks_exact(8).map(|c| u64::from_le_bytes(c.try_into().unwrap())).collect()
 }
 
 fn real(s: &[u8]) -> f64 {
     f64::from_bits(number(s))
+}
+
+/// The eleven fields of the settings, in `FgoConfig` order.
+pub fn settings(fields: &[u64]) -> FgoConfig {
+    let real = |i: usize| f64::from_bits(fields[i]);
+    FgoConfig {
+        lag_frames: fields[0] as usize,
+        radius_m: real(1),
+        birth_cost: real(2),
+        miss_cost: real(3),
+        clutter_cost: real(4),
+        accel_spectral_density: real(5),
+        position_sigma_m: real(6),
+        initial_velocity_variance: real(7),
+        coast_ns: fields[8] as i64,
+        forget_after_ns: fields[9] as i64,
+        max_passes: fields[10] as usize,
+    }
+}
+
+/// Whether 1 does not refuse them.
+pub fn legal(c: &FgoConfig) -> bool {
+    let floats = [
+        c.radius_m,
+        c.birth_cost,
+        c.miss_cost,
+        c.clutter_cost,
+        c.accel_spectral_density,
+        c.position_sigma_m,
+        c.initial_velocity_variance,
+    ];
+    c.lag_frames <= 16 && c.max_passes <= 1000 && floats.iter().all(|x| x.is_finite())
 }
 
 pub fn recording(s: &[u8]) -> Result<(FgoConfig, Vec<&[u8]>), u32> {
@@ -32,21 +69,7 @@ pub fn recording(s: &[u8]) -> Result<(FgoConfig, Vec<&[u8]>), u32> {
     if at != s.len() {
         return Err(12);
     }
-    let field = |i: usize| &s[8 * i..8 * i + 8];
-    let config = FgoConfig {
-        lag_frames: number(field(0)) as usize,
-        radius_m: real(field(1)),
-        birth_cost: real(field(2)),
-        miss_cost: real(field(3)),
-        clutter_cost: real(field(4)),
-        accel_spectral_density: real(field(5)),
-        position_sigma_m: real(field(6)),
-        initial_velocity_variance: real(field(7)),
-        coast_ns: number(field(8)) as i64,
-        forget_after_ns: number(field(9)) as i64,
-        max_passes: number(field(10)) as usize,
-    };
-    Ok((config, bodies))
+    Ok((settings(&numbers(&s[..88])), bodies))
 }
 
 /// A present byte with the bits of its value.
