@@ -109,13 +109,18 @@ def table(root):
     return turn, names
 
 
+LENT = re.compile(r"^(?:ghost )?use (?!Rattle\.(?!std\b|core\b))[^\n{]*\{([^}]*)\}", re.M)
+
+
 def turned(text, turn, comment):
-    """The text with each whole name that the table has, turned; a line comment keeps its dashed words."""
+    """The text with each whole name that the table has, turned; a line comment keeps its dashed words, and a name that the file has
+    from the library is turned as a field alone."""
+    lent = {n.split(" as ")[-1].strip() for names in LENT.findall(text) for n in names.split(",")} & set(turn)
     lines = []
     for line in text.split("\n"):
         cut = line.find(comment) if comment else -1
         code, rest = (line, "") if cut < 0 else (line[:cut], line[cut:])
-        code = TOKEN.sub(lambda m: turn.get(m.group(0), m.group(0)), code)
+        code = TOKEN.sub(lambda m: m.group(0) if m.group(0) in lent and m.string[m.start() - 1 : m.start()] != "." else turn.get(m.group(0), m.group(0)), code)
         rest = TOKEN.sub(lambda m: turn[m.group(0)] if m.group(0) in turn and "-" not in m.group(0) else m.group(0), rest)
         lines.append(code + rest)
     return "\n".join(lines)

@@ -1,6 +1,6 @@
 -- A list written over another one, from a place on: one by one, or part by part. Assumes nothing.
 use Prim.Native.Nat.{ℕ, ◌+◌, ◌<◌, ◌≤◌}
-use native.Mathlib.Nat.{add_zero, zero-add}
+use native.Mathlib.Nat.{add-zero, zero-add}
 use native.Mathlib.Omega.{arith}
 use mathlib.Core.Path.{◌≡◌, refl, sym, ap, ◌∙◌}
 use mathlib.Core.List.{List, [], ◌++◌, append_assoc}
@@ -46,7 +46,7 @@ pub record WrittenOver {A : Type 0} (o : ℕ) (g l l' : List A) : Type 0 where
 module _ {A : Type 0} (o : ℕ) (l : List A) where
   over_none : over o [] l ≡ l
   unfolding over
-  over_none = rw add_zero (take-append-drop o l)
+  over_none = rw add-zero (take-append-drop o l)
 
   pub written_none : WrittenOver o [] l l
   written_none = record { long = refl; written = sym over_none }

@@ -1,5 +1,5 @@
 -- How the fold over a window goes on: its parts, and the misses it counts. Assumes nothing.
-use Rattle.std.proofs.Common.{◌≡◌, ℕ, zero, suc, ◌+◌, ◌*◌, ◌^◌, ◌≤◌, List, [], ◌∷◌, ◌++◌, length, get_or, sym, refl, ap, ◌∙◌, add_zero, add-suc, suc-add, arith}
+use Rattle.std.proofs.Common.{◌≡◌, ℕ, zero, suc, ◌+◌, ◌*◌, ◌^◌, ◌≤◌, List, [], ◌∷◌, ◌++◌, length, get_or, sym, refl, ap, ◌∙◌, add-zero, add-suc, suc-add, arith}
 use lib.Ieee.{Float}
 use Rattle.engine.specs.declared.config.FgoConfig.{FgoConfig}
 use Rattle.engine.specs.Config.{density}
@@ -17,7 +17,7 @@ fold-append c s (d ∷ ds) es = fold-append c (fold_one c s d) ds es
 -- and so of the parts of a row
 pub dets_append : (v : View) (k : ℕ) (r q : List ℕ) → measurements v k (r ++ q) ≡ measurements v k r ++ measurements v (k + length r) q
 unfolding measurements
-dets_append v k [] q = rw (add_zero k)
+dets_append v k [] q = rw (add-zero k)
 dets_append v k (zero ∷ r) q = dets_append v (suc k) r q ∙ ap (λ (n : ℕ). measurements v (suc k) r ++ measurements v n q) (suc-add k (length r) ∙ sym (add-suc k (length r)))
 dets_append v k (suc j ∷ r) q =
     ap (λ (l : List Measurement). measurement_at v k j ∷ l)

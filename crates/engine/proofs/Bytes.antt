@@ -3,7 +3,7 @@ use Prim.Native.Nat.{ℕ, zero, suc, ◌+◌, ◌*◌, ◌^◌, ◌<◌}
 use mathlib.Core.Path.{◌≡◌}
 use mathlib.Core.List.{List}
 use native.Mathlib.Omega.{arith}
-use native.Mathlib.Nat.{pow-suc, mul_assoc, mul_add, add_assoc, add-suc, mul_comm, suc-add, zero-add, add_zero, one_mul}
+use native.Mathlib.Nat.{pow-suc, mul_assoc, mul-add, add_assoc, add-suc, mul_comm, suc-add, zero-add, add-zero, one-mul}
 use lib.ListN.{get_or}
 use lib.Dec.{lit<}
 use mir.Syntax.{w8, w64}
@@ -15,10 +15,10 @@ use Rattle.engine.specs.Little.{little}
 -- a number of a + b bytes is that of the first a, and 256 ^ a times that of the b after them
 pub little-add : (a b : ℕ) (s : List ℕ) (o : ℕ) → little (a + b) s o ≡ little a s o + 256 ^ a * little b s (o + a)
 unfolding little
-little-add zero b s o = simp (add_zero, zero-add, one_mul)
+little-add zero b s o = simp (add-zero, zero-add, one-mul)
 little-add (suc a) b s o =
     let ih = little-add a b s (suc o) in
-    simp (suc-add, ih, pow-suc, add-suc, mul_add, add_assoc, mul_comm (256 ^ a) 256, mul_assoc)
+    simp (suc-add, ih, pow-suc, add-suc, mul-add, add_assoc, mul_comm (256 ^ a) 256, mul_assoc)
 
 -- bytes give a number below 256 ^ w
 pub little_below : (w : ℕ) (s : List ℕ) (o : ℕ) → ((i : ℕ) → Fits w8 (get_or s i 0)) → little w s o < 256 ^ w
@@ -29,7 +29,7 @@ little_below (suc w) s o h = rw pow-suc (omega (arith, (h o).fits, little_below 
 -- one byte is its own number
 pub little-one : (s : List ℕ) (o : ℕ) → little 1 s o ≡ get_or s o 0
 unfolding little
-little-one s o = add_zero (get_or s o 0)
+little-one s o = add-zero (get_or s o 0)
 
 -- a signed number of eight bytes, passed on
 pub signed_passed : (s : List ℕ) (o : ℕ) → ((i : ℕ) → Fits w8 (get_or s i 0)) → to_z w64 (of_z w64 (signed (little 8 s o))) ≡ signed (little 8 s o)

@@ -4,7 +4,7 @@ use Prim.Native.Nat.{ℕ, zero, suc, ◌+◌, ◌*◌, ◌/◌, ◌%◌, ◌^◌
 use mathlib.Core.Path.{◌≡◌, refl, ap, ◌∙◌}
 use mathlib.Core.List.{List, [], ◌∷◌, ◌++◌, flat_map}
 use native.Mathlib.Omega.{arith}
-use native.Mathlib.Nat.{pow-suc, add_zero, add_assoc, mul-suc, mul-zero}
+use native.Mathlib.Nat.{pow-suc, add-zero, add_assoc, mul-suc, mul-zero}
 use lib.ListN.{length, get_or, length-append, get_or-append}
 use lib.Seq.{get_or-append-add, ext_get_or}
 use Rattle.engine.specs.Little.{little}
@@ -29,7 +29,7 @@ pub read_bytes : (w n : ℕ) (s : List ℕ) (o : ℕ) → n < 256 ^ w → Lies s
 unfolding little bytes_of
 read_bytes zero n s o f h = omega arith
 read_bytes (suc w) n s o f h =
-    let a : get_or s o 0 ≡ n % 256 = rw add_zero at (h 0 (omega arith)) in
+    let a : get_or s o 0 ≡ n % 256 = rw add-zero at (h 0 (omega arith)) in
     let b : little w s (suc o) ≡ n / 256 = read_bytes w (n / 256) s (suc o) (omega (arith, rw pow-suc at f)) (λ i g. let e : o + suc i ≡ suc o + i = omega arith in rw e at (h (suc i) (omega arith))) in
     rw (a, b) (omega arith)
 
@@ -80,7 +80,7 @@ module _ {A : Type 0} (g : A → List ℕ) (k : ℕ) (sized : (x : A) → length
   pub lies_row : (s : List ℕ) (o : ℕ) (l : List A) (d : A) → Lies s o (flat_map g l) → (j : ℕ) → j < length l → Lies s (o + k * j) (g (get_or l j d))
   unfolding flat_map
   lies_row s o [] d h j f = absurd (omega arith)
-  lies_row s o (x ∷ l) d h zero f = rw (mul-zero, add_zero) (lies_left s o (g x) (flat_map g l) h)
+  lies_row s o (x ∷ l) d h zero f = rw (mul-zero, add-zero) (lies_left s o (g x) (flat_map g l) h)
   lies_row s o (x ∷ l) d h (suc j) f =
       let e : o + length (g x) + k * j ≡ o + k * suc j = rw (sized x, mul-suc) (omega arith) in
       rw (← e) (lies_row s (o + length (g x)) l d (lies_right s o (g x) (flat_map g l) h) j (omega arith))

@@ -4,7 +4,7 @@ use mathlib.Core.Path.{◌≡◌, refl, sym, ap, subst, ◌∙◌}
 use mathlib.Core.List.{List, ◌++◌}
 use mathlib.Core.Bool.{Bool, true, false, cond, not}
 use native.Mathlib.Omega.{arith}
-use native.Mathlib.Nat.{add_zero, zero-add, one-le-pow}
+use native.Mathlib.Nat.{add-zero, zero-add, one-le-pow}
 use lib.Dec.{T, eqb, lit<}
 use lib.IntN.{ℤ, pos, negsuc}
 use lib.Ieee.{Float, binary64, of_bits, fits}
@@ -114,8 +114,8 @@ module _ (s : List ℕ) (o : ℕ) where
   unfolding track_ok track_at
   track-said t ok h =
       let p = class_present_lem t.class in
-      let r : Reads s o 0 (track_fields t) = read_fields s o 0 (track_fields t) (ok.id, (ok.class, (p.0, (lit< tt, tt)))) (rw add_zero h) in
-      let a = rw add_zero at r.0 in
+      let r : Reads s o 0 (track_fields t) = read_fields s o 0 (track_fields t) (ok.id, (ok.class, (p.0, (lit< tt, tt)))) (rw add-zero h) in
+      let a = rw add-zero at r.0 in
       let b = r.1.0 in
       let d = byte s (o + 12) _ r.1.1.0 in
       let e = r.1.1.1.0 in
@@ -125,8 +125,8 @@ module _ (s : List ℕ) (o : ℕ) where
   unfolding observation_ok observation_at
   observation-said q ok h =
       let fits : Fit (observation_fields q) = (float_fits q.x ok.x.0, (float_fits q.y ok.y.0, (float_fits q.z ok.z.0, tt))) in
-      let r : Reads s o 0 (observation_fields q) = read_fields s o 0 (observation_fields q) fits (rw add_zero h) in
-      let a = rw add_zero at r.0 in
+      let r : Reads s o 0 (observation_fields q) = read_fields s o 0 (observation_fields q) fits (rw add-zero h) in
+      let a = rw add-zero at r.0 in
       let b = r.1.0 in
       let d = r.1.1.0 in
       let x = float_back q.x ok.x.0 in
@@ -143,12 +143,12 @@ module _ (s : List ℕ) (o : ℕ) where
       let q = cost-present c.cost in
       let u = outcome_code c.outcome in
       let fits : Fit (association_fields w c) = (omega (arith, ok.index), (p.0, (omega arith, (q.0, (one-le-pow (5 - w) 256 (lit< tt), (ok.id, (cost_fits c.cost ok.cost, tt))))))) in
-      let r : Reads s o 0 (association_fields w c) = read_fields s o 0 (association_fields w c) fits (rw add_zero h) in
+      let r : Reads s o 0 (association_fields w c) = read_fields s o 0 (association_fields w c) fits (rw add-zero h) in
       let e2 : 0 + w + 1 + 1 ≡ w + 2 = omega arith in
       let e3 : 0 + w + 1 + 1 + 1 ≡ w + 3 = omega arith in
       let e4 : 0 + w + 1 + 1 + 1 + (5 - w) ≡ 8 = omega arith in
       let e5 : 0 + w + 1 + 1 + 1 + (5 - w) + 8 ≡ 16 = omega arith in
-      let a = rw add_zero at r.0 in
+      let a = rw add-zero at r.0 in
       let b = byte s (o + w) _ (rw zero-add at r.1.0) in
       let d = byte s (o + (w + 1)) _ (rw zero-add at r.1.1.0) in
       let e = byte s (o + (w + 2)) _ (rw e2 at r.1.1.1.0) in
@@ -199,8 +199,8 @@ module _ (k : Layout) (slim : k.width ≤ 5) (room : k.observations ≤ 256 ^ k.
   sensors-said =
       let h = lies_left s (sensors_from k s) (sensor_bytes f) (observation_bytes f ++ association_bytes w f) after-tracks in
       rw says.sensors (rows_back _ 0 f.sensors
-      (λ j g. rw add_zero at (read_fields s (sensors_from k s + SENSOR * j) 0 (sensor_fields (get_or f.sensors j 0)) (ok.sensors j g, tt)
-      (rw add_zero (lies_row _ SENSOR (λ v. length-laid (sensor_fields v)) s (sensors_from k s) f.sensors 0 h j g))).0))
+      (λ j g. rw add-zero at (read_fields s (sensors_from k s + SENSOR * j) 0 (sensor_fields (get_or f.sensors j 0)) (ok.sensors j g, tt)
+      (rw add-zero (lies_row _ SENSOR (λ v. length-laid (sensor_fields v)) s (sensors_from k s) f.sensors 0 h j g))).0))
 
   after-sensors : Lies s (observations_from k s) (observation_bytes f ++ association_bytes w f)
   after-sensors = rw says.sensors (lies_after _ SENSOR (λ v. length-laid (sensor_fields v)) s (sensors_from k s) f.sensors _ after-tracks)

@@ -1,6 +1,6 @@
 -- The oldest scan leaves: what each step asks of the one before it, and what is left. Assumes nothing.
 use Prim.Native.Nat.{ℕ, zero, suc, ◌+◌, ◌-◌, ◌≤◌, ◌<◌, compare, Ordering}
-use native.Mathlib.Nat.{zero-add, add_zero, le_refl}
+use native.Mathlib.Nat.{zero-add, add-zero, le_refl}
 use native.Mathlib.Numerals.{add-one}
 use native.Mathlib.Omega.{arith}
 use mathlib.Core.Path.{◌≡◌, refl, sym, ap, subst, ◌∙◌}
@@ -108,7 +108,7 @@ module _ (r : FixedLagRefiner) (m : Memory) (ready : Ready r m) (some : 1 ≤ r.
   ss = scans_in m.bodies m.columns (n + 1) (r.held - 1)
 
   pub oldest-passes : body_refusal (body_at m.bodies m.columns n) ≡ 0
-  oldest-passes = subst (λ (i : ℕ). body_refusal (body_at m.bodies m.columns i) ≡ 0) (add_zero n) (ready.passes 0 some)
+  oldest-passes = subst (λ (i : ℕ). body_refusal (body_at m.bodies m.columns i) ≡ 0) (add-zero n) (ready.passes 0 some)
 
   timed : time_ok s.frame.time ≡ true
   unfolding scan_in frame_of

@@ -1,6 +1,6 @@
 -- What was gathered of the held scans is what the search asks, and ids put back are the search's scans. Assumes nothing.
 use Prim.Native.Nat.{ℕ, zero, suc, ◌+◌, ◌-◌, ◌*◌, ◌%◌, ◌≤◌, ◌<◌}
-use native.Mathlib.Nat.{zero-add, add_zero, mod-eq_of_lt}
+use native.Mathlib.Nat.{zero-add, add-zero, mod-eq_of_lt}
 use native.Mathlib.Numerals.{add-one}
 use native.Mathlib.Omega.{arith}
 use mathlib.Core.Path.{◌≡◌, refl, sym, ap, ◌∙◌}
@@ -78,7 +78,7 @@ numbers-at c z (g ∷ gs) (suc i) b h k =
 -- dot i of a scan, by its numbers
 det_at : (c : FgoConfig) (first k i : ℕ) (ds : List Float) (o : Detection) → i < DETECTIONS → ((b : ℕ) → b < DOT → get_or ds (DOT * i + b) nan ≡ get_or (o.x ∷ o.y ∷ noise c o ∷ seconds_of o.time ∷ []) b nan) → first + k ≡ o.scan → measurement_at (record { first = first; dots = ds }) k i ≡ measure c o
 det_at c first k i ds o l e s =
-    let x : get_or ds (DOT * i) nan ≡ o.x = ap (λ (m : ℕ). get_or ds m nan) (sym (add_zero (DOT * i))) ∙ e 0 (omega arith) in
+    let x : get_or ds (DOT * i) nan ≡ o.x = ap (λ (m : ℕ). get_or ds m nan) (sym (add-zero (DOT * i))) ∙ e 0 (omega arith) in
     let m : i % DETECTIONS ≡ i = mod-eq_of_lt l in
     rw (m, x, e 1 (omega arith), e 2 (omega arith), e 3 (omega arith), s)
 

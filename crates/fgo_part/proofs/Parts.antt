@@ -3,7 +3,7 @@ use Prim.Native.Nat.{ℕ, ◌+◌, ◌-◌, ◌*◌, ◌≤◌, ◌<◌}
 use mathlib.Core.Path.{◌≡◌, refl, sym, ap, ◌∙◌}
 use mathlib.Core.Bool.{Bool, true, false, cond}
 use mathlib.Core.List.{List, [], ◌++◌, append-nil}
-use native.Mathlib.Nat.{add_zero, zero-add, add_assoc}
+use native.Mathlib.Nat.{add-zero, zero-add, add_assoc}
 use native.Mathlib.Omega.{arith}
 use borrow.Author.Tests.{leb-true, ltb-true, ltb-false}
 use lib.Dec.{leb, ltb, lit<}
@@ -63,7 +63,7 @@ module _ (l ns : List Float) (p o : ℕ) (same : (i : ℕ) → i < HEIGHTS → g
 -- a filter whose numbers stand in another place
 pub kf_same : (f g : List Float) (o p : ℕ) → ((i : ℕ) → i < KF → get_or f (o + i) nan ≡ get_or g (p + i) nan) → kf_in f o ≡ kf_in g p
 kf_same f g o p same =
-    let first : get_or f o nan ≡ get_or g p nan = rw (add_zero, add_zero) at (same 0 (lit< tt)) in
+    let first : get_or f o nan ≡ get_or g p nan = rw (add-zero, add-zero) at (same 0 (lit< tt)) in
     λ i. record {
       x = first i;
       y = same 1 (lit< tt) i;
@@ -79,7 +79,7 @@ module _ (t : List ℕ) (f : List Float) (k : ℕ) (t' : List ℕ) (f' : List Fl
     (words : (a : ℕ) → a < PART → get_or t' (PART * k' + a) 0 ≡ get_or t (PART * k + a) 0)
     (numbers : (b : ℕ) → b < FILTER → get_or f' (FILTER * k' + b) nan ≡ get_or f (FILTER * k + b) nan) where
   key-same : part_id t' k' ≡ part_id t k
-  key-same = rw (add_zero, add_zero) at (words 0 (lit< tt))
+  key-same = rw (add-zero, add-zero) at (words 0 (lit< tt))
 
   tail : (i : ℕ) → i < HEIGHTS → get_or f' (part_heights_at k' + i) nan ≡ get_or f (part_heights_at k + i) nan
   tail i h = rw (add_assoc, add_assoc) (numbers (KF + i) (omega arith))
@@ -157,7 +157,7 @@ module _ (t : List ℕ) (f : List Float) (k : ℕ) (few : k < FROZEN) (wide : le
       let n = number_in ws ns refl b in
       let t₁ : List ℕ = over (PART * k) ws t in
       let f₁ : List Float = over (FILTER * k) ns f in
-      let e0 : part_id t₁ k ≡ x = rw add_zero at (w 0 (lit< tt)) in
+      let e0 : part_id t₁ k ≡ x = rw add-zero at (w 0 (lit< tt)) in
       let g : part_kf f₁ k ≡ p.kf = kf_same f₁ ns (FILTER * k) 0 (λ i h. n i (omega arith) ∙ ap (λ (m : ℕ). get_or ns m nan) (sym (zero-add i))) in
       let h =
       heights_same f₁ p.heights (part_heights_at k) 0

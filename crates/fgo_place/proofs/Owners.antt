@@ -1,7 +1,7 @@
 -- The table of owners as it lies in its array: changing an entry, adding one. Assumes nothing.
 use Prim.Native.Nat.{ℕ, ◌+◌, ◌-◌, ◌*◌, ◌≤◌, ◌<◌}
 use native.Mathlib.Omega.{arith}
-use native.Mathlib.Nat.{zero-add, add_zero, sub-zero}
+use native.Mathlib.Nat.{zero-add, add-zero, sub-zero}
 use mathlib.Core.Path.{◌≡◌, refl, sym, ap, ◌∙◌, subst}
 use mathlib.Core.Bool.{Bool, true, false}
 use mathlib.Core.List.{List, [], ◌∷◌, ◌++◌, append_assoc}
@@ -52,7 +52,7 @@ module _ (os : List ℕ) (w e x : ℕ) (room : OWNER * w + OWNER ≤ length os) 
 
   pub owning_at : owner_entry (owning os w e x) w ≡ (e, x)
   owning_at =
-      let first : engine_at (owning os w e x) w ≡ e = rw add_zero at (over_in (OWNER * w) (e ∷ x ∷ []) os room 0 0 (lit< tt)) in
+      let first : engine_at (owning os w e x) w ≡ e = rw add-zero at (over_in (OWNER * w) (e ∷ x ∷ []) os room 0 0 (lit< tt)) in
       pair_same first (over_in (OWNER * w) (e ∷ x ∷ []) os room 1 0 (lit< tt))
 
   -- the others are as they were

@@ -1,6 +1,6 @@
 -- A test of all numbers below a bound, and a test of all of a list. Assumes nothing.
 use Prim.Native.Nat.{ℕ, zero, suc, ◌+◌, ◌<◌}
-use native.Mathlib.Nat.{zero-add, add_zero, add-suc, suc-add}
+use native.Mathlib.Nat.{zero-add, add-zero, add-suc, suc-add}
 use native.Mathlib.Omega.{arith}
 use mathlib.Core.Path.{◌≡◌, refl, sym, ap, ◌∙◌}
 use mathlib.Core.Bool.{Bool, true, false, ◌&&◌, and_assoc}
@@ -32,7 +32,7 @@ module _ {A : Type 0} (q : A → Bool) where
   all-rows g o zero = unfold all in refl
   all-rows g o (suc n) =
       all_front (λ i. q (g (o + i))) n
-      ∙ ap (λ (k : ℕ). q (g k) && all (λ i. q (g (o + suc i))) n) (add_zero o)
+      ∙ ap (λ (k : ℕ). q (g k) && all (λ i. q (g (o + suc i))) n) (add-zero o)
       ∙ ap (λ b. q (g o) && b) (all_same (λ i. q (g (o + suc i))) (λ i. q (g (suc o + i))) n (λ i l. ap (λ (k : ℕ). q (g k)) (add-suc o i ∙ sym (suc-add o i))) ∙ all-rows g (suc o) n)
 
 -- of the numbers themselves

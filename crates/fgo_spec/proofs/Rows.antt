@@ -3,7 +3,7 @@ use Prim.Native.Nat.{ℕ, zero, suc, ◌+◌, ◌-◌, ◌≤◌, ◌<◌}
 use mathlib.Core.Path.{◌≡◌, refl, sym, ap, ◌∙◌, subst}
 use mathlib.Core.Bool.{Bool, true, false}
 use mathlib.Core.List.{[], ◌∷◌, ◌++◌, map}
-use native.Mathlib.Nat.{zero-add, add_zero, add-suc, suc-add}
+use native.Mathlib.Nat.{zero-add, add-zero, add-suc, suc-add}
 use native.Mathlib.Numerals.{add-one}
 use native.Mathlib.Omega.{arith}
 use Rattle.engine.specs.Body.{rows}
@@ -20,7 +20,7 @@ module _ {A : Type 0} where
   -- one row more
   pub rows_more : (g : ℕ → A) (i n : ℕ) → rows g i (suc n) ≡ rows g i n ++ (g (i + n) ∷ [])
   unfolding rows
-  rows_more g i zero = rw (add_zero i)
+  rows_more g i zero = rw (add-zero i)
   rows_more g i (suc n) = let e : i + suc n ≡ suc i + n = omega arith in rw e (ap (λ r. g i ∷ r) (rows_more g (suc i) n))
 
   pub front_more : (g : ℕ → A) (k : ℕ) → rows g 0 (k + 1) ≡ rows g 0 k ++ (g k ∷ [])
@@ -29,7 +29,7 @@ module _ {A : Type 0} where
   -- in two parts
   pub rows_parts : (g : ℕ → A) (o m n : ℕ) → rows g o (m + n) ≡ rows g o m ++ rows g (o + m) n
   unfolding rows
-  rows_parts g o zero n = rw (zero-add n, add_zero o)
+  rows_parts g o zero n = rw (zero-add n, add-zero o)
   rows_parts g o (suc m) n = rw (suc-add m n) (ap (λ l. g o ∷ l) (rows_parts g (suc o) m n ∙ ap (λ (i : ℕ). rows g (suc o) m ++ rows g i n) (suc-add o m ∙ sym (add-suc o m))))
 
   -- rows that agree

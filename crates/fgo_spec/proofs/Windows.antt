@@ -1,7 +1,7 @@
 -- What scans have of an id: how renaming changes it, that a regular scan has one detection or none, that a window rises in scan, and that each held
 -- association lies in exactly one window or in clutter. Assumes nothing.
 use Prim.Native.Nat.{ℕ, suc, ◌+◌, ◌≤◌, ◌<◌, zero-le}
-use native.Mathlib.Nat.{le_refl, le_of_eq, lt_irrefl, eq-zero-or-pos, add_zero, zero-add, suc-add, add-suc}
+use native.Mathlib.Nat.{le_refl, le_of_eq, lt_irrefl, eq-zero-or-pos, add-zero, zero-add, suc-add, add-suc}
 use native.Mathlib.Decide.{ℕ_discrete}
 use native.Mathlib.Omega.{arith}
 use mathlib.Core.Path.{◌≡◌, refl, sym, ap, ◌∙◌, subst}
@@ -104,7 +104,7 @@ detected x n s h r = go (has x s.ids) refl
 
 pub window-append : (x n : ℕ) (ss ts : List Scan) → window x n (ss ++ ts) ≡ window x n ss ++ window x (n + length ss) ts
 unfolding window
-window-append x n [] ts = rw (add_zero n)
+window-append x n [] ts = rw (add-zero n)
 window-append x n (s ∷ ss) ts =
     ap (λ l. in_scan x n s ++ l) (window-append x (suc n) ss ts ∙ ap (λ k. window x (suc n) ss ++ window x k ts) (suc-add n (length ss) ∙ sym (add-suc n (length ss))))
     ∙ sym (append_assoc (in_scan x n s) (window x (suc n) ss) (window x (n + suc (length ss)) ts))

@@ -1,6 +1,6 @@
 -- What was gathered of the held scans, scan by scan: where each scan's ids and engine ids stand, and that put back they are the columns. Assumes nothing.
 use Prim.Native.Nat.{ℕ, zero, suc, ◌+◌, ◌-◌, ◌≤◌, ◌<◌, zero-le}
-use native.Mathlib.Nat.{add_zero, add-suc, suc-add}
+use native.Mathlib.Nat.{add-zero, add-suc, suc-add}
 use native.Mathlib.Omega.{arith}
 use mathlib.Core.Path.{◌≡◌, refl, sym, ap, ◌∙◌}
 use mathlib.Core.List.{List, [], ◌∷◌, ◌++◌, map, append_assoc, append-nil, map-append}
@@ -75,11 +75,11 @@ put_back_same starts ids k (s ∷ ss) h =
 pub each_rows : (P : ℕ → Scan → Type 0) (g : ℕ → Scan) (k o n : ℕ) → ((i : ℕ) → i < n → P (k + i) (g (o + i))) → Each P k (rows g o n)
 unfolding rows
 each_rows P g k o zero h = tt
-each_rows P g k o (suc n) h = (rw (add_zero k, add_zero o) at (h 0 (omega arith)), each_rows P g (suc k) (suc o) n (λ i l. rw (add-suc k i, add-suc o i, ← suc-add k i, ← suc-add o i) at (h (suc i) (omega arith))))
+each_rows P g k o (suc n) h = (rw (add-zero k, add-zero o) at (h 0 (omega arith)), each_rows P g (suc k) (suc o) n (λ i l. rw (add-suc k i, add-suc o i, ← suc-add k i, ← suc-add o i) at (h (suc i) (omega arith))))
 
 gathered-append : (n : ℕ) (ss ts : List Scan) → gathered n (ss ++ ts) ≡ gathered n ss ++ gathered (n + length ss) ts
 unfolding gathered
-gathered-append n [] ts = ap (λ (k : ℕ). gathered k ts) (sym (add_zero n))
+gathered-append n [] ts = ap (λ (k : ℕ). gathered k ts) (sym (add-zero n))
 gathered-append n (s ∷ ss) ts = ap (λ l. gathered_of n s ++ l) (gathered-append (suc n) ss ts ∙ ap (λ (k : ℕ). gathered (suc n) ss ++ gathered k ts) (suc-add n (length ss) ∙ sym (add-suc n (length ss)))) ∙ sym (append_assoc (gathered_of n s) (gathered (suc n) ss) (gathered (n + suc (length ss)) ts))
 
 segment_middle : {A : Type 0} (a b c : List A) (x y : ℕ) → x ≡ length a → y ≡ length a + length b → segment x y (a ++ (b ++ c)) ≡ b

@@ -1,6 +1,6 @@
 -- The latest holder of an engine id, read off the gathered lists, is fgo_spec's: of the scans with the gathered ids put back. Assumes nothing.
 use Prim.Native.Nat.{ℕ, zero, suc, ◌+◌, ◌-◌, ◌≤◌, ◌<◌, max}
-use native.Mathlib.Nat.{add_zero, add-suc, suc-add}
+use native.Mathlib.Nat.{add-zero, add-suc, suc-add}
 use native.Mathlib.Omega.{arith}
 use mathlib.Core.Path.{◌≡◌, refl, sym, ap, ◌∙◌}
 use mathlib.Core.Bool.{Bool, true, false, cond}
@@ -100,7 +100,7 @@ module _ (e y : ℕ) (ids engines starts : List ℕ) where
       Each (Engines starts engines) k ss →
       latest e (or_else (last k) y) (put_back starts ids k ss) ≡ or_else (last (k + length ss)) y
   unfolding latest put_back latest_of
-  latest-from k [] f h = ap (λ (n : ℕ). or_else (last n) y) (sym (add_zero k))
+  latest-from k [] f h = ap (λ (n : ℕ). or_else (last n) y) (sym (add-zero k))
   latest-from k (s ∷ ss) f h =
       let b = f k (omega arith) in
       let q : holder_in e s.frame.associations (spread s.ids (column_at starts ids k)) ≡ holder_of e ids engines (get_or starts k 0) (get_or starts (suc k) 0) =

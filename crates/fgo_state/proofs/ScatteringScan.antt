@@ -1,6 +1,6 @@
 -- The ids put back into the column of a scan, cell by cell. Assumes nothing.
 use Prim.Native.Nat.{ℕ, zero, suc, ◌+◌, ◌-◌, ◌*◌, ◌≤◌, ◌<◌}
-use native.Mathlib.Nat.{zero-add, add_zero}
+use native.Mathlib.Nat.{zero-add, add-zero}
 use native.Mathlib.Numerals.{add-one}
 use native.Mathlib.Omega.{arith}
 use mathlib.Core.Path.{◌≡◌, refl, sym, ap, ◌∙◌}
@@ -99,7 +99,7 @@ module _ (a o : ℕ) (ids cs : List ℕ) where
         let here : get_or cs'' (a + j) 0 ≡ x = ap (λ (t : List ℕ). get_or t (a + j) 0) e ∙ get_or-set_same cs' (a + j) x 0 (omega arith) in
         let there : (i : ℕ) → (i ≡ a + j → ⊥) → get_or cs'' i 0 ≡ get_or cs' i 0 = λ i d. ap (λ (t : List ℕ). get_or t i 0) e ∙ get_or-set_other cs' (a + j) i x 0 d in
         let same : cells 0 cs'' a j ≡ cells 0 cs' a j = rows_same (λ i. get_or cs'' (a + i) 0) (λ i. get_or cs' (a + i) 0) 0 j (λ i b d. there (a + i) (λ z. omega arith)) in
-        let next : get_or (drop w (drop o ids)) 0 0 ≡ x = get_or-drop w (drop o ids) 0 0 ∙ ap (λ (i : ℕ). get_or (drop o ids) i 0) (add_zero w) ∙ get_or-drop o ids w 0 ∙ ap (λ (i : ℕ). get_or ids i 0) (sym g.place) in
+        let next : get_or (drop w (drop o ids)) 0 0 ≡ x = get_or-drop w (drop o ids) 0 0 ∙ ap (λ (i : ℕ). get_or (drop o ids) i 0) (add-zero w) ∙ get_or-drop o ids w 0 ∙ ap (λ (i : ℕ). get_or ids i 0) (sym g.place) in
         record {
           place = omega (arith, g.place, count_held cs a j held);
           long = ap length e ∙ length-set cs' (a + j) x ∙ g.long;

@@ -1,6 +1,6 @@
 -- The chain through emitted frames is the chain of fresh runs, and what the smoother emits of them is their smoothed form. Assumes nothing.
 use Prim.Native.Nat.{ℕ, zero, suc, ◌≤◌, ◌<◌}
-use native.Mathlib.Nat.{le_refl, add_zero}
+use native.Mathlib.Nat.{le_refl, add-zero}
 use native.Mathlib.Decide.{ℕ_discrete}
 use native.Mathlib.Omega.{arith}
 use mathlib.Core.Path.{◌≡◌, refl, sym, ap, ◌∙◌, subst}
@@ -46,7 +46,7 @@ flat_snoc g (b ∷ l) a = append_assoc (g b) (flat_map g l) (g a) ∙ ap (λ k. 
 
 module _ (e : Emitted) where
   pub id_is : (i : ℕ) → i < length e.tracks → (a : At e.tracks i) → id_word (words_of e) i ≡ a.item.id
-  id_is i h a = ap (λ n. get_or (words_of e) n 0) (sym (add_zero _)) ∙ track_word e i h a 0
+  id_is i h a = ap (λ n. get_or (words_of e) n 0) (sym (add-zero _)) ∙ track_word e i h a 0
 
   -- where all tracks of the id x are the one that o gives, the last of them is it
   module _ (t : ℤ) (x : ℕ) (o : Option Listed) (only : (l : Listed) → Memᴰ l e.tracks → l.id ≡ x → o ≡ some l) where

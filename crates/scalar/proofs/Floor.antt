@@ -1,5 +1,5 @@
 -- The root of a whole number, rounded down and to the nearest. Assumes nothing.
-use Rattle.std.proofs.Common.{◌≡◌, ℕ, zero, suc, ◌+◌, ◌-◌, ◌*◌, ◌/◌, ◌^◌, ◌<◌, ◌≤◌, Bool, true, false, cond, leb, refl, lt_irrefl, add-mul, mul-le-mul, le_antisymm, pow-suc, lt_of_not-le, mul_add, arith, leb-false, leb-true}
+use Rattle.std.proofs.Common.{◌≡◌, ℕ, zero, suc, ◌+◌, ◌-◌, ◌*◌, ◌/◌, ◌^◌, ◌<◌, ◌≤◌, Bool, true, false, cond, leb, refl, lt_irrefl, add-mul, mul-le-mul, le_antisymm, pow-suc, lt_of_not-le, mul-add, arith, leb-false, leb-true}
 use Rattle.scalar.specs.Root.{floor_root, near_root}
 use Rattle.scalar.proofs.RootDigits.{sq_even, sq_odd}
 
@@ -10,7 +10,7 @@ pub record IsFloor (n s : ℕ) : Type 0 where
 pub sq_next : (s : ℕ) → (s + 1) * (s + 1) ≡ s * s + 2 * s + 1
 sq_next s =
     let a : (s + 1) * (s + 1) ≡ s * (s + 1) + 1 * (s + 1) = add-mul s 1 (s + 1) in
-    let b : s * (s + 1) ≡ s * s + s * 1 = mul_add s s 1 in
+    let b : s * (s + 1) ≡ s * s + s * 1 = mul-add s s 1 in
     omega arith
 
 pub floor_is : (k n : ℕ) → n < 4 ^ k → IsFloor n (floor_root k n)

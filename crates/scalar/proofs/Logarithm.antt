@@ -1,5 +1,5 @@
 -- What the proofs of the logarithm cite: how a positive f64 falls into m · 2^e, from its digits. Assumes nothing.
-use Rattle.std.proofs.Common.{◌≡◌, ℕ, zero, suc, ◌+◌, ◌-◌, ◌*◌, ◌/◌, ◌%◌, ◌^◌, ◌<◌, ◌≤◌, Bool, true, false, cond, not, T, ltb, leb, ℤ, pos, negsuc, ◌+ℤ◌, sym, refl, ap, ◌∙◌, subst, lt_of_lt_of_le, lt_of_le_of_lt, lt_irrefl, mul-le-mul_right, mod-eq_of_lt, mul_assoc, lt_of_mul-lt-mul_right, one_mul, le_of_mul-le-mul_right, arith, lit≤, leb→le, pow_pos, pow-add, ltb-false, ltb-true, le-ltb, lt-ltb, le-leb, leb-false, leb-true}
+use Rattle.std.proofs.Common.{◌≡◌, ℕ, zero, suc, ◌+◌, ◌-◌, ◌*◌, ◌/◌, ◌%◌, ◌^◌, ◌<◌, ◌≤◌, Bool, true, false, cond, not, T, ltb, leb, ℤ, pos, negsuc, ◌+ℤ◌, sym, refl, ap, ◌∙◌, subst, lt_of_lt_of_le, lt_of_le_of_lt, lt_irrefl, mul-le-mul_right, mod-eq_of_lt, mul_assoc, lt_of_mul-lt-mul_right, one-mul, le_of_mul-le-mul_right, arith, lit≤, leb→le, pow_pos, pow-add, ltb-false, ltb-true, le-ltb, lt-ltb, le-leb, leb-false, leb-true}
 use lib.IntN.{sub_ℕ}
 use lib.Dec.{nleb→lt}
 use lib.Ieee.{Float, inf, fin, binary64, minus, size, odd, of_bits, lt, eq, mul, div, neg, nan_bits}
@@ -43,7 +43,7 @@ scaled q y sh qp ql sl lo hi =
     let i = o.zeros in
     let mp : 0 < m = omega (arith, o.odd_part) in
     let whole : m * 2 ^ (i + sh) ≡ q * 2 ^ sh = ap (λ (x : ℕ). m * x) (pow-add 2 i sh) ∙ sym (mul_assoc m (2 ^ i) (2 ^ sh)) ∙ ap (λ (x : ℕ). x * 2 ^ sh) o.is in
-    let jl : i + sh < 53 = pow_lt_back (i + sh) 53 (lt_of_le_of_lt (subst (λ (x : ℕ). x ≤ m * 2 ^ (i + sh)) (one_mul (2 ^ (i + sh))) (mul-le-mul_right (2 ^ (i + sh)) mp)) (subst (λ (x : ℕ). x < 2 ^ 53) (sym whole) hi)) in
+    let jl : i + sh < 53 = pow_lt_back (i + sh) 53 (lt_of_le_of_lt (subst (λ (x : ℕ). x ≤ m * 2 ^ (i + sh)) (one-mul (2 ^ (i + sh))) (mul-le-mul_right (2 ^ (i + sh)) mp)) (subst (λ (x : ℕ). x < 2 ^ 53) (sym whole) hi)) in
     let split : (a : ℕ) → i + sh ≤ a → 2 ^ a ≡ 2 ^ (a - (i + sh)) * 2 ^ (i + sh) = λ a g. let b : a ≡ a - (i + sh) + (i + sh) = omega arith in ap (λ (x : ℕ). 2 ^ x) b ∙ pow-add 2 (a - (i + sh)) (i + sh) in
     let more : 53 - (i + sh) ≡ suc (52 - (i + sh)) = omega arith in
     let sz : size m ≡ suc (52 - (i + sh)) =

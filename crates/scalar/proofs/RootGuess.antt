@@ -1,5 +1,5 @@
 -- The rest that shows a guess at a root right. The guess g is a * 2^27 + b. Assumes nothing.
-use Rattle.std.proofs.Common.{◌≡◌, ℕ, ◌+◌, ◌-◌, ◌*◌, ◌/◌, ◌%◌, ◌^◌, ◌<◌, ◌≤◌, sym, ap, ◌∙◌, mul_assoc, add-mul, mul-le-mul, mul_add, mul_right_comm, mul_left_comm, arith}
+use Rattle.std.proofs.Common.{◌≡◌, ℕ, ◌+◌, ◌-◌, ◌*◌, ◌/◌, ◌%◌, ◌^◌, ◌<◌, ◌≤◌, sym, ap, ◌∙◌, mul_assoc, add-mul, mul-le-mul, mul-add, mul_right_comm, mul_left_comm, arith}
 use native.Mathlib.Nat.{mul-mul-mul_comm}
 use Rattle.scalar.proofs.Floor.{sq_next, sq_lt}
 
@@ -30,8 +30,8 @@ square : (a b : ℕ) → (a * 0x800_0000 + b) * (a * 0x800_0000 + b) ≡ a * a *
 square a b =
     let w : ℕ = 0x800_0000 in
     let e1 : (a * w + b) * (a * w + b) ≡ a * w * (a * w + b) + b * (a * w + b) = add-mul (a * w) b (a * w + b) in
-    let e2 : a * w * (a * w + b) ≡ a * w * (a * w) + a * w * b = mul_add (a * w) (a * w) b in
-    let e3 : b * (a * w + b) ≡ b * (a * w) + b * b = mul_add b (a * w) b in
+    let e2 : a * w * (a * w + b) ≡ a * w * (a * w) + a * w * b = mul-add (a * w) (a * w) b in
+    let e3 : b * (a * w + b) ≡ b * (a * w) + b * b = mul-add b (a * w) b in
     let e4 : a * w * (a * w) ≡ a * a * (w * w) = mul-mul-mul_comm a w a w in
     let e5 : a * w * b ≡ a * b * w = mul_right_comm a w b in
     let e6 : b * (a * w) ≡ a * b * w = mul_left_comm b a w ∙ sym (mul_assoc a b w) in

@@ -1,6 +1,6 @@
 -- The detections of a row: the scans they lie in, and what a test of scans, a cut or a gap leaves of them. Assumes nothing.
 use Prim.Native.Nat.{ℕ, zero, suc, ◌+◌, ◌≤◌, ◌<◌}
-use native.Mathlib.Nat.{add_zero, zero-add, le_refl}
+use native.Mathlib.Nat.{add-zero, zero-add, le_refl}
 use native.Mathlib.Omega.{arith}
 use mathlib.Core.Path.{◌≡◌, refl, sym, ap, ◌∙◌, subst}
 use mathlib.Core.Bool.{Bool, true, false, cond}
@@ -50,17 +50,17 @@ module _ (v : View) where
   unfolding measurements keep up_from
   dets_scans k [] g h = refl
   dets_scans k (zero ∷ r) g h =
-      let p : g k ≡ false = ap g (sym (add_zero k)) ∙ h 0 ∙ le-ltb 0 0 (le_refl 0) in
+      let p : g k ≡ false = ap g (sym (add-zero k)) ∙ h 0 ∙ le-ltb 0 0 (le_refl 0) in
       rw p (dets_scans (suc k) r g (λ i. ap g (later k i) ∙ h (suc i)))
   dets_scans k (suc j ∷ r) g h =
-      let p : g k ≡ true = ap g (sym (add_zero k)) ∙ h 0 ∙ lt-ltb 0 (suc j) (omega arith) in
+      let p : g k ≡ true = ap g (sym (add-zero k)) ∙ h 0 ∙ lt-ltb 0 (suc j) (omega arith) in
       rw p (ap (λ (l : List ℕ). (v.first + k) ∷ l) (dets_scans (suc k) r g (λ i. ap g (later k i) ∙ h (suc i))))
 
   -- ---- a cut
 
   dets-crossed : (k n : ℕ) (a b : List ℕ) → length a ≡ length b → measurements v k (take n a ++ drop n b) ≡ measurements v k (take n a) ++ measurements v (k + n) (drop n b)
   unfolding measurements
-  dets-crossed k zero a b e = ap (λ (m : ℕ). measurements v m b) (sym (add_zero k))
+  dets-crossed k zero a b e = ap (λ (m : ℕ). measurements v m b) (sym (add-zero k))
   dets-crossed k (suc n) [] [] e = refl
   dets-crossed k (suc n) [] (y ∷ b) e = absurd (omega arith)
   dets-crossed k (suc n) (x ∷ a) [] e = absurd (omega arith)

@@ -3,7 +3,7 @@ use Prim.Native.Nat.{ℕ, zero, suc, ◌+◌, ◌-◌, ◌*◌, ◌≤◌, ◌<�
 use mathlib.Core.Path.{◌≡◌, refl, sym, ap, ◌∙◌}
 use mathlib.Core.Bool.{Bool, true, false, ◌&&◌}
 use mathlib.Core.List.{List, [], ◌∷◌, ◌++◌}
-use native.Mathlib.Nat.{zero-add, add_zero, suc-add, add-suc}
+use native.Mathlib.Nat.{zero-add, add-zero, suc-add, add-suc}
 use native.Mathlib.Omega.{arith}
 use native.Mathlib.Numerals.{add-one}
 use lib.ListN.{length, drop, length-drop}
@@ -47,7 +47,7 @@ module _ (s : FixedLagSmoother) (win : List ℕ) (nums : List Float) where
   all_from k zero = refl
   all_from k (suc n) =
       ap (λ b. formed k && b) (all_from (suc k) n ∙ (λ j. all (λ i. formed ((suc-add k i ∙ sym (add-suc k i)) j)) n))
-      ∙ ap (λ m. formed m && all (λ i. formed (k + suc i)) n) (sym (add_zero k)) ∙ sym (all_front (λ i. formed (k + i)) n)
+      ∙ ap (λ m. formed m && all (λ i. formed (k + suc i)) n) (sym (add-zero k)) ∙ sym (all_front (λ i. formed (k + i)) n)
 
   pub all_held : all_formed (most s.config) (frames_in s win nums) ≡ all formed s.held
   all_held = all_from 0 s.held ∙ (λ j. all (λ i. formed (zero-add i j)) s.held)

@@ -5,7 +5,7 @@ use mathlib.Core.List.{List, [], ◌∷◌, ◌++◌, append_assoc}
 use mathlib.Core.Bool.{Bool, true, false}
 use Prim.Native.Nat.{ℕ, zero, suc, ◌+◌, ◌-◌, ◌*◌, ◌%◌, ◌≤◌, ◌<◌}
 use native.Mathlib.Omega.{arith}
-use native.Mathlib.Nat.{mul-le-mul_right, suc-mul, add_zero, zero-add, mod-lt, mod-eq_of_lt, mod-eq-sub-mod, mod-add-mod}
+use native.Mathlib.Nat.{mul-le-mul_right, suc-mul, add-zero, zero-add, mod-lt, mod-eq_of_lt, mod-eq-sub-mod, mod-add-mod}
 use lib.ListN.{length, take, drop, take-append-drop, length-append, length-drop}
 use lib.Dec.{ltb}
 use lib.Seq.{drop_at, take-append-le, drop-append-le, take-append_seam, drop-drop, length-take-le, take-take, get_or-take}
@@ -113,7 +113,7 @@ keeps s d e w k m h l n z =
 -- one frame more at the end
 snoc : (s : FixedLagSmoother) (win : List ℕ) (nums : List Float) (k n : ℕ) → frames_from s win nums k (n + 1) ≡ frames_from s win nums k n ++ (held_frame s win nums (k + n) ∷ [])
 unfolding frames_from
-snoc s win nums k zero = ap (λ m. held_frame s win nums m ∷ []) (sym (add_zero k))
+snoc s win nums k zero = ap (λ m. held_frame s win nums m ∷ []) (sym (add-zero k))
 snoc s win nums k (suc n) =
     let e : suc n + 1 ≡ suc (n + 1) = omega arith in
     let g : suc k + n ≡ k + suc n = omega arith in

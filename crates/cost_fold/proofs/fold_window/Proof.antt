@@ -2,7 +2,7 @@
 use borrow.Author.Rules.{rules}
 use mathlib.Core.Path.{ap, subst, ◌∙◌}
 use Prim.Native.Nat.{◌^◌, ◌<◌}
-use native.Mathlib.Nat.{add_zero}
+use native.Mathlib.Nat.{add-zero}
 use native.Mathlib.Omega.{arith}
 use Rattle.cost.specs.declared.Sums.{Sums}
 use Rattle.cost.specs.declared.LentFold.{LentFold}
@@ -90,7 +90,7 @@ returns-4 c =
 returns-5 : tie.Need-returns-5
 returns-5 c =
     let s = c.before.before.before.before.before.before.before.args in
-    (rw (c.fold-on3.ensures.0, ← fold_going s.c, c.before.before.before.before.from2.given.1, add_zero s.k), c.fold-on3.ensures.1)
+    (rw (c.fold-on3.ensures.0, ← fold_going s.c, c.before.before.before.before.from2.given.1, add-zero s.k), c.fold-on3.ensures.1)
 
 pub fold-window-spec : {M : Type 1} → statement M
 fold-window-spec =

@@ -1,7 +1,7 @@
 -- `cost_fold::leading` meets its contract. Assumes nothing.
 use mathlib.Core.Path.{sym, ap}
 use Prim.Native.Nat.{◌-◌}
-use native.Mathlib.Nat.{add_zero}
+use native.Mathlib.Nat.{add-zero}
 use native.Mathlib.Omega.{arith}
 use lib.ListN.{length}
 use Rattle.cost.specs.Cost.{measurements}
@@ -16,7 +16,7 @@ abbrev decreases-loop : tie.decreases-loop
 decreases-loop slots i₀ i = length slots - i
 
 loop-holds : tie.Need-loop-init invariant-loop decreases-loop
-loop-holds c = record { rest = λ v k. ap (λ n. measurements v n _) (sym (add_zero k)) }
+loop-holds c = record { rest = λ v k. ap (λ n. measurements v n _) (sym (add-zero k)) }
 
 mul-if1 : tie.Need-overflow-mul-if1 invariant-loop decreases-loop
 mul-if1 c = omega (arith, c.before.before.well-formed)

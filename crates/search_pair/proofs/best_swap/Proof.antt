@@ -5,7 +5,7 @@ use mathlib.Core.Bool.{Bool, true, false}
 use mathlib.Core.List.{List}
 use mathlib.Core.Logic.{⊎_elim}
 use Prim.Native.Nat.{ℕ, ◌+◌, ◌-◌, ◌≤◌}
-use native.Mathlib.Nat.{le_trans, add_zero}
+use native.Mathlib.Nat.{le_trans, add-zero}
 use native.Mathlib.Omega.{arith}
 use lib.ListN.{length, drop}
 use lib.Ieee.{Float, binary64, add, sub, le}
@@ -112,7 +112,7 @@ loop-holds c =
     let s = c.before.before.before.before.before.before.args in
     let p = c.before.before.before.before.before.before.requires in
     let v = view_in s.hall s.dots.now in
-    let first : s.hall.first ≡ scan_at v 0 = λ i. record { 0 = sym (add_zero s.hall.first.0) i } in (
+    let first : s.hall.first ≡ scan_at v 0 = λ i. record { 0 = sym (add-zero s.hall.first.0) i } in (
       rw (c.before.before.before.before.first-swap.ensures, c.before.before.lend.ensures, c.lend2.ensures)
           (first-tried s.hall.config v s.pa s.pb s.close.now s.a.now s.b.now s.base _ c.before.before.before.before.before.is_cut.ensures first p.fit_a.long p.fit_b.long p.exchanged_a p.exchanged_b),
       rw (c.before.before.lend.ensures, c.lend2.ensures) p,

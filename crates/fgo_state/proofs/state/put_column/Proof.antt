@@ -1,6 +1,6 @@
 -- `fgo_state::state::put_column` meets its contract. Assumes nothing.
 use Prim.Native.Nat.{ℕ, ◌+◌, ◌-◌, ◌*◌, ◌<◌}
-use native.Mathlib.Nat.{add_zero}
+use native.Mathlib.Nat.{add-zero}
 use native.Mathlib.Omega.{arith}
 use mathlib.Core.Path.{◌≡◌, refl, sym, ap, ◌∙◌}
 use mathlib.Core.List.{List, [], ◌∷◌}
@@ -17,7 +17,7 @@ use Rattle.fgo_state.proofs.state.put_column.Tie as tie
 -- one number written
 one-over : (l : List ℕ) (o x : ℕ) → o < length l → set l o x ≡ over o (x ∷ []) l
 one-over l o x h =
-    ap (λ (i : ℕ). set l i x) (sym (add_zero o))
+    ap (λ (i : ℕ). set l i x) (sym (add-zero o))
     ∙ writes_all o (x ∷ []) l (writes_more o (x ∷ []) l 0 x (writes_none o (x ∷ []) l (omega arith)) (omega arith) refl) (omega arith)
 
 abbrev invariant-loop : tie.invariant-loop

@@ -1,7 +1,7 @@
 -- `fgo_state::state::windows_in` meets its contract. Assumes nothing.
 use Prim.Native.Nat.{◌+◌, ◌-◌}
 use mathlib.Core.Path.{◌≡◌, sym, ◌∙◌}
-use native.Mathlib.Nat.{add_zero}
+use native.Mathlib.Nat.{add-zero}
 use native.Mathlib.Omega.{arith}
 use Rattle.engine.specs.Body.{rows}
 use Rattle.fgo_spec.specs.Windows.{Scan}
@@ -21,7 +21,7 @@ decreases-loop bodies columns first held id i₀ i = held - i
 
 loop-holds : tie.Need-loop-init invariant-loop decreases-loop
 unfolding in_window
-loop-holds c = let a = c.args in let z : a.held - 0 ≡ a.held = omega arith in rw (add_zero a.first.0, z)
+loop-holds c = let a = c.args in let z : a.held - 0 ≡ a.held = omega arith in rw (add-zero a.first.0, z)
 
 add-t10 : tie.Need-overflow-add-t10 invariant-loop decreases-loop
 add-t10 c = omega arith
