@@ -3,6 +3,7 @@
 //
 // A name in the singular says how long one is (BODY), and that in the plural how long the array of all of them is (BODIES); how many there are at most has a
 // name of its own (SCANS).
+#![tactic(auto)]
 
 // ---- scans
 

@@ -1,5 +1,7 @@
 // The buffers that a caller lends for a frame: words and numbers put into one, when both are long enough, and the answer that says how much of them a frame
 // takes. Refiner and smoother answer alike.
+#![tactic(auto)]
+
 ghost use Rattle.std.specs.Prelude.{◌≡◌, ◌+◌, ◌≤◌, length};
 ghost use Rattle.buffers.specs.Buffers.{over};
 ghost use Rattle.buffers.specs.Answer.{roomy};

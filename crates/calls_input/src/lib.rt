@@ -1,5 +1,7 @@
 // The list of calls on standard input: each has a code and the length of what follows it, four bytes each, then that many bytes; all numbers are little-endian.
 // A call that is not as README's table has it is a bad one.
+#![tactic(auto)]
+
 ghost use Rattle.std.specs.Prelude.{◌≡◌, ◌+◌, ◌*◌, ◌≤◌, length};
 ghost use Rattle.bounds.specs.Bounds.{SETTING};
 ghost use Rattle.calls_input.specs.Input.{number, within, cell_in, refiner_cells, refiner_has, smoother_cells};

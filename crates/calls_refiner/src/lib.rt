@@ -2,6 +2,8 @@
 //
 // The five arrays from bodies on are its memory; words and numbers are the output buffers that are lent to it; at the front of kept_words and kept_numbers
 // stands the frame that it gave last. What a call prints is put at the start of out.
+#![tactic(auto)]
+
 ghost use Rattle.std.specs.Prelude.{◌≡◌, true, List, ◌≤◌, ◌<◌, length, set, Float};
 ghost use Rattle.bounds.specs.Bounds.{SETTINGS, TEXT, REFINER};
 ghost use Rattle.buffers.specs.Answer.{pushed, taken};

@@ -3,6 +3,8 @@
 // Its window has as many words and numbers of window and values as are lent; words and numbers are the output buffers that are lent to it; at the front of
 // kept_words and kept_numbers stands the frame that the refiner gave last. A frame of the input is read into frame_words and frame_numbers. What a call prints
 // is put at the start of out.
+#![tactic(auto)]
+
 ghost use Rattle.std.specs.Prelude.{◌≡◌, true, List, ℕ, ◌+◌, ◌*◌, ◌≤◌, ◌<◌, length, set, Float};
 ghost use Rattle.std.specs.Float.{binary64};
 ghost use Rattle.std.specs.Float.Ieee.{of_bits};

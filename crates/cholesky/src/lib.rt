@@ -1,4 +1,6 @@
 // Cholesky's factor of a matrix, and the inverse by it.
+#![tactic(auto)]
+
 ghost use Rattle.std.specs.Prelude.{◌≡◌, ◌+◌, ◌*◌, ◌≤◌, ◌<◌};
 ghost use Rattle.scalar.specs.F64.{f64};
 ghost use Rattle.linalg.specs.Cholesky as Cholesky;

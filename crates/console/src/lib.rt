@@ -1,4 +1,6 @@
 // Standard input, read to its end, and text written to standard output. What cannot be read or written is said on standard error.
+#![tactic(auto)]
+
 ghost use Rattle.std.specs.Prelude.{◌≤◌, length};
 ghost use Rattle.console.specs.Input.{Within};
 

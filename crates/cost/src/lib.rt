@@ -1,6 +1,8 @@
 // The cost of a window of detections: a left fold over them, and a close.
 //
 // DOT numbers stand for each dot: x, y, the variance of its position, and its scan's time in seconds.
+#![tactic(auto)]
+
 ghost use Rattle.std.specs.Prelude.{◌≡◌, ◌+◌, ◌^◌, ◌<◌};
 ghost use Rattle.cost.specs.Cost.{dot_at, gap, added, born, resumed, closed, measurement_of, sums_in, fold_in, LogsKept, Recalled};
 

@@ -1,6 +1,8 @@
 // The fold over the row of a window.
 //
 // A row has for each scan held one more than the place of its detection among the dots, 0 where it has none.
+#![tactic(auto)]
+
 ghost use Rattle.std.specs.Prelude.{◌≡◌, ◌+◌, ◌≤◌, drop};
 ghost use mathlib.Core.List.{foldl};
 ghost use Rattle.bounds.specs.Bounds.{SCANS};

@@ -1,4 +1,6 @@
 // What does not change during a search, what the windows of its tracks go on from, and what they cost.
+#![tactic(auto)]
+
 ghost use Rattle.std.specs.Prelude.{◌≡◌, ◌^◌, ◌≤◌, ◌<◌, drop};
 ghost use Rattle.bounds.specs.Bounds.{SCANS, FROZEN};
 ghost use Rattle.cost.specs.Cost.{measurements, cost, fold_in, misses_of, LogsKept};

@@ -1,4 +1,6 @@
 // The 64-bit FNV-1a hash over bytes, words and numbers, each from the hash so far.
+#![tactic(auto)]
+
 ghost use Rattle.std.specs.Prelude.{◌≡◌, ◌*◌, ◌%◌, ◌^◌};
 ghost use Rattle.digest.specs.Digest.{BASIS, PRIME, mixed, fnv1a, word_bytes, words_bytes, numbers_bytes};
 

@@ -1,4 +1,6 @@
 // Whether bytes are a frame's body: refusals 5, 6 and 7.
+#![tactic(auto)]
+
 ghost use Rattle.std.specs.Prelude.{◌≡◌, cond, eqb, ◌+◌, ◌*◌, ◌≤◌, length};
 ghost use Rattle.bounds.specs.Bounds.{SENSORS, OBSERVATIONS, ENGINE, OBSERVATION, ASSOCIATION};
 ghost use Rattle.engine.specs.Little.{little};

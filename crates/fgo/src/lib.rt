@@ -1,4 +1,6 @@
 // The refiner: open, push, take and counters.
+#![tactic(auto)]
+
 ghost use Rattle.std.specs.Prelude.{◌≡◌, List, ◌≤◌, Float};
 ghost use Rattle.buffers.specs.Answer.{opened_by, pushed, taken};
 ghost use Rattle.engine.specs.Body.{body as body_of};

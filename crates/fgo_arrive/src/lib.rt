@@ -1,4 +1,6 @@
 // A frame arrives, and is held: placing, the search over all that is held, and owning.
+#![tactic(auto)]
+
 ghost use Rattle.std.specs.Prelude.{◌≡◌, length};
 ghost use Rattle.bounds.specs.Bounds.{BODIES, COLUMNS, OWNERS};
 ghost use Rattle.engine.specs.Body.{body as body_of};

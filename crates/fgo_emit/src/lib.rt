@@ -1,4 +1,6 @@
 // The emitted frame: words and numbers at the start of the lent buffers.
+#![tactic(auto)]
+
 ghost use Rattle.std.specs.Prelude.{◌≡◌, ◌+◌, ◌*◌, ◌<◌, ◌≤◌, true, length, ◌-ℤ◌, int_le};
 ghost use Rattle.std.specs.Float.{nan};
 ghost use Rattle.bounds.specs.Bounds.{FROZEN, HEIGHTS, HEAD, LINK, VECTOR};

@@ -1,4 +1,6 @@
 // Freezing: the oldest scan's detections move the frozen parts of their tracks on, and parts that nothing asks for any more are forgotten.
+#![tactic(auto)]
+
 ghost use Rattle.std.specs.Prelude.{◌≡◌, true, [], ◌∷◌, ◌++◌, ◌+◌, ◌<◌, ◌≤◌, ◌-ℤ◌};
 ghost use Rattle.std.proofs.Math.Option.{none, some};
 ghost use Rattle.std.specs.Float.{nan};

@@ -1,6 +1,8 @@
 // The frozen parts of tracks in lent memory: of each PART words and FILTER numbers.
 //
 // The words are its id, last frame, last time, count, class and number of heights; the numbers are those of its filter, then its last heights, oldest first.
+#![tactic(auto)]
+
 ghost use Rattle.std.specs.Prelude.{◌≡◌, ◌+◌, ◌*◌, ◌<◌};
 ghost use Rattle.bounds.specs.Bounds.{FROZEN, PART, HEIGHTS, FILTER};
 ghost use Rattle.fgo_spec.specs.Lists.{segment};

@@ -1,4 +1,6 @@
 // What a push is refused for, once the state is sound and the buffers are long enough.
+#![tactic(auto)]
+
 ghost use Rattle.std.specs.Prelude.{◌≡◌, ◌+◌, ◌<◌, ◌≤◌, length};
 ghost use Rattle.bounds.specs.Bounds.{ACCEPTED, ASSOCIATIONS, JOINED, OWNED};
 ghost use Rattle.engine.specs.Body.{body as body_of, frame_in, body_refusal};

@@ -1,4 +1,6 @@
 // The state rule, checked whole: 3 is answered where it is broken.
+#![tactic(auto)]
+
 ghost use Rattle.std.specs.Prelude.{◌≡◌, ◌+◌, ◌<◌, ◌≤◌};
 ghost use Rattle.bounds.specs.Bounds.{ACCEPTED, DETECTIONS, FROZEN, OWNED};
 ghost use Rattle.engine.specs.Body.{body as body_of, associations_in, body_refusal};

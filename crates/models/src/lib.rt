@@ -1,4 +1,6 @@
 // The motion of constant velocity over the positions x, y, z and their speeds, and products with it.
+#![tactic(auto)]
+
 ghost use Rattle.std.specs.Prelude.{◌≡◌};
 ghost use Rattle.scalar.specs.F64.{f64};
 ghost use Rattle.linalg.specs.Matrix as Matrix;

@@ -1,4 +1,6 @@
 // A recording: settings, a contents table and frame bodies; and a reader over it that stands at one entry.
+#![tactic(auto)]
+
 ghost use Rattle.std.specs.Prelude.{◌≡◌, ◌+◌, ◌*◌, ◌≤◌, length};
 ghost use Rattle.bounds.specs.Bounds.{SETTINGS, CONTENTS, ENTRY, RECORDING};
 ghost use Rattle.recording.specs.Recording.{count, offset, size, holds, ill_sized, fills, settings, contents_of, recorded_body};

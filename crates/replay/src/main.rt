@@ -1,5 +1,7 @@
 // Plays recordings from standard input, one after the other, each twice: it prints each emitted frame in full, then in short. Each recording stands after its
 // length, four bytes, little-endian. The sample and its answers are oracle/sample's; the answers came from the published Rust.
+#![tactic(auto)]
+
 use console::Input;
 use engine::little;
 use playback::play;

@@ -14,6 +14,8 @@
 // - an index that is past the observations by one, 255, or 0 where there are none; an index twice, beside each other and apart, and twice
 //   without an engine id;
 // - two faults in one body: 6 and 7, 5 and 6, 5 and 7.
+#![tactic(auto)]
+
 use engine::types::{Associated, Association, BodyKind};
 use engine::{body, little};
 use libc::{STDIN_FILENO, STDOUT_FILENO};

@@ -1,4 +1,6 @@
 // One step of the backward pass.
+#![tactic(auto)]
+
 ghost use Rattle.std.specs.Prelude.{◌≡◌};
 ghost use Rattle.scalar.specs.F64.{f64};
 ghost use Rattle.rts.specs.Smoothing as Smoothing;

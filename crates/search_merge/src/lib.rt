@@ -1,4 +1,6 @@
 // What the merges of a pair of rows cost.
+#![tactic(auto)]
+
 ghost use Rattle.std.specs.Prelude.{◌≡◌, true, false, length};
 ghost use Rattle.bounds.specs.Bounds.{SCANS};
 ghost use Rattle.cost.specs.Cost.{misses_of, LogsKept};

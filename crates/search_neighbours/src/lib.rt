@@ -1,4 +1,6 @@
 // Which rows come close to each other, and in which scans.
+#![tactic(auto)]
+
 ghost use Rattle.std.specs.Prelude.{◌≡◌, false, ◌<◌, length, get_or, replicate};
 ghost use Rattle.bounds.specs.Bounds.{DETECTIONS, ROWS, SCANS};
 ghost use Rattle.search_neighbours.specs.Near.{point_at, near_points, close_points, close_scans, any_close, meets, CloseWithin};

@@ -1,4 +1,6 @@
 // The best move of a pair of rows.
+#![tactic(auto)]
+
 ghost use Rattle.std.specs.Prelude.{◌≡◌, true, ◌^◌, ◌≤◌, ◌<◌, length, drop};
 ghost use Rattle.bounds.specs.Bounds.{SCANS};
 ghost use Rattle.cost.specs.Cost.{measurements, cost, fold_in, misses_of, LogsKept};

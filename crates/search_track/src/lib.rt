@@ -1,4 +1,6 @@
 // The best move of one row.
+#![tactic(auto)]
+
 ghost use Rattle.std.specs.Prelude.{◌≡◌, ◌^◌, ◌≤◌, ◌<◌, length};
 ghost use Rattle.bounds.specs.Bounds.{SCANS};
 ghost use Rattle.cost.specs.Cost.{fold_in, misses_of, LogsKept};

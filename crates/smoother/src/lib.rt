@@ -1,4 +1,6 @@
 // Fixed-lag smoothing of refined frames, over window buffers that the caller lends: open, push and take, and what they refuse.
+#![tactic(auto)]
+
 ghost use Rattle.std.specs.Prelude.{◌≡◌, ◌+◌, ◌<◌, ◌≤◌, length};
 ghost use Rattle.bounds.specs.Bounds.{LAG, TRACKS, WORDS, NUMBERS};
 ghost use Rattle.buffers.specs.Answer.{pushed, taken};

@@ -1,4 +1,6 @@
 // The frames that a fixed-lag smoother holds, in a ring of slots in lent window buffers.
+#![tactic(auto)]
+
 pub mod window;
 
 // A smoother's settings.

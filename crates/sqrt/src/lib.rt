@@ -1,4 +1,6 @@
 // The square root of IEEE 754: nearest, ties to even.
+#![tactic(auto)]
+
 ghost use Rattle.std.specs.Prelude.{◌≡◌, false, ◌+◌, ◌*◌, ◌<◌, ◌≤◌, ◌^◌};
 ghost use Rattle.std.specs.Float.Ieee.{odd};
 ghost use Rattle.scalar.specs.Root.{root_of};
