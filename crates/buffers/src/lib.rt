@@ -9,7 +9,7 @@ ghost use Rattle.buffers.specs.Answer.{roomy};
 use bounds::{NUMBERS, WORDS};
 
 // What push and take answer.
-#[derive(Drop)]
+#[derive(Clone, Copy)]
 pub enum Answer {
     // A refusal's number.
     Refused(u8),

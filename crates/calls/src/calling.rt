@@ -22,7 +22,7 @@ use smoother_window::FixedLagSmoother;
 
 // The refiner, the smoother, how many words and numbers of the output buffers are lent, what of a window is lent, and how long the frame is that the refiner
 // gave last.
-#[derive(Drop)]
+#[derive(Clone, Copy)]
 pub struct Caller {
     pub refiner: FixedLagRefiner,
     pub smoother: FixedLagSmoother,
@@ -33,7 +33,7 @@ pub struct Caller {
 }
 
 // A caller after a call, and where what it prints ends.
-#[derive(Drop)]
+#[derive(Clone, Copy)]
 pub struct Called {
     pub caller: Caller,
     pub end: usize,

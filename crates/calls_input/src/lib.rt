@@ -14,7 +14,7 @@ use bounds::{
 use engine::little;
 
 // One cell of what a caller keeps, and what is written there.
-#[derive(Drop)]
+#[derive(Clone, Copy)]
 pub struct Cell {
     pub place: usize,
     pub index: usize,
@@ -22,7 +22,7 @@ pub struct Cell {
 }
 
 // A call of the refiner.
-#[derive(Drop)]
+#[derive(Clone, Copy)]
 pub enum RefinerCall {
     Open,
     Push,
@@ -32,7 +32,7 @@ pub enum RefinerCall {
 }
 
 // A call of the smoother: it is pushed the frame that the refiner gave last, or one of so many words and numbers.
-#[derive(Drop)]
+#[derive(Clone, Copy)]
 pub enum SmootherCall {
     Open,
     PushLast,
@@ -42,7 +42,7 @@ pub enum SmootherCall {
 }
 
 // A call: of refiner or smoother; or from now on output buffers, or a window, of these lengths are lent.
-#[derive(Drop)]
+#[derive(Clone, Copy)]
 pub enum Call {
     Refiner(RefinerCall),
     Smoother(SmootherCall),
@@ -53,7 +53,7 @@ pub enum Call {
 }
 
 // A call, and where what follows it begins and ends.
-#[derive(Drop)]
+#[derive(Clone, Copy)]
 pub struct Next {
     pub call: Call,
     pub from: usize,

@@ -30,14 +30,14 @@ use print::{answers, lines};
 use scalar::bits;
 
 // How many words and numbers the frame has that the refiner gave last.
-#[derive(Drop)]
+#[derive(Clone, Copy)]
 pub struct Last {
     pub words: usize,
     pub numbers: usize,
 }
 
 // A refiner after a call, the frame that it gave last, and where what the call prints ends.
-#[derive(Drop)]
+#[derive(Clone, Copy)]
 pub struct Refined {
     pub refiner: FixedLagRefiner,
     pub last: Last,

@@ -34,7 +34,7 @@ use smoother_window::window::{window_numbers, window_words};
 use smoother_window::{FixedLagSmoother, SmootherConfig};
 
 // How many words and numbers of a window are lent, and whether a call has said so.
-#[derive(Drop)]
+#[derive(Clone, Copy)]
 pub struct Room {
     pub words: usize,
     pub numbers: usize,
@@ -42,7 +42,7 @@ pub struct Room {
 }
 
 // A smoother after a call, the room that it has, and where what the call prints ends.
-#[derive(Drop)]
+#[derive(Clone, Copy)]
 pub struct Smoothed {
     pub smoother: FixedLagSmoother,
     pub room: Room,

@@ -7,7 +7,7 @@ ghost use Rattle.console.specs.Input.{Within};
 use libc::{STDIN_FILENO, STDOUT_FILENO};
 
 // What reading gives: so many bytes at the front of the buffer, which is full where there may be more; or that the input cannot be read.
-#[derive(Drop)]
+#[derive(Clone, Copy)]
 pub enum Input {
     Bytes(usize),
     Unreadable,

@@ -13,7 +13,7 @@ use engine::types::ScanIndex;
 use kf::filter::{Kf, log_term};
 
 // Where the fold over a window stands.
-#[derive(Drop)]
+#[derive(Clone, Copy)]
 pub enum Fold {
     // Nothing yet, and no frozen part.
     Fresh,
@@ -24,7 +24,7 @@ pub enum Fold {
 }
 
 // The filter after the last detection, the NLLs so far, the last detection's scan, and the scans without a detection.
-#[derive(Drop)]
+#[derive(Clone, Copy)]
 pub struct Sums {
     pub kf: Kf,
     pub total: f64,
@@ -33,21 +33,21 @@ pub struct Sums {
 }
 
 // Sums whose filter and NLLs are lent: the last detection's scan, and the scans without a detection.
-#[derive(Drop)]
+#[derive(Clone, Copy)]
 pub struct LentSums {
     pub last: ScanIndex,
     pub misses: u64,
 }
 
 // A fold whose numbers are lent: nothing yet; after a frozen part, with its last scan; after a detection.
-#[derive(Drop)]
+#[derive(Clone, Copy)]
 pub enum LentFold {
     Fresh,
     Frozen(ScanIndex),
     Going(LentSums),
 }
 
-#[derive(Drop)]
+#[derive(Clone, Copy)]
 pub struct Dot {
     pub x: f64,
     pub y: f64,

@@ -12,7 +12,7 @@ use engine::config::FgoConfig;
 use engine::types::{RefinedId, ScanIndex};
 
 // What does not change during a search: the settings, the number of the oldest scan held, the detections gathered and the frozen tracks.
-#[derive(Drop)]
+#[derive(Clone, Copy)]
 pub struct Hall {
     pub config: FgoConfig,
     pub first: ScanIndex,

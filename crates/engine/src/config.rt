@@ -5,7 +5,7 @@ ghost use Rattle.engine.specs.Config.{legal, defaults, position_variance};
 use bounds::{LAG, PASSES};
 use scalar::bits;
 
-#[derive(Drop)]
+#[derive(Clone, Copy)]
 pub struct FgoConfig {
     // Scans held back; a scan is emitted this many scans late.
     pub lag_frames: usize,

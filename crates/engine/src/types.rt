@@ -3,30 +3,30 @@ ghost use Rattle.std.specs.Prelude.{◌≡◌};
 ghost use Rattle.engine.specs.Frame.{mode_number, outcome_number};
 
 // The id that the engine gave a track.
-#[derive(Drop)]
+#[derive(Clone, Copy)]
 pub struct EngineId(pub u64);
 
 // The id that the refiner gives a track.
-#[derive(Drop)]
+#[derive(Clone, Copy)]
 pub struct RefinedId(pub u64);
 
 // The number of a scan, counted from the first one that the refiner accepted.
-#[derive(Drop)]
+#[derive(Clone, Copy)]
 pub struct ScanIndex(pub u64);
 
 // The place of an observation in its scan.
-#[derive(Drop)]
+#[derive(Clone, Copy)]
 pub struct ObservationIndex(pub usize);
 
 // How a frame's body is laid out.
-#[derive(Drop)]
+#[derive(Clone, Copy)]
 pub enum BodyKind {
     // Counts and indices have a byte each.
     Narrow,
 }
 
 // How much of the camera the engine used.
-#[derive(Drop)]
+#[derive(Clone, Copy)]
 pub enum TrackingMode {
     LidarOnly,
     CameraAssociated,
@@ -34,7 +34,7 @@ pub enum TrackingMode {
 }
 
 // What the engine did with an observation.
-#[derive(Drop)]
+#[derive(Clone, Copy)]
 pub enum Outcome {
     Updated,
     Spawned,
@@ -42,41 +42,41 @@ pub enum Outcome {
 }
 
 // The engine track that an observation belongs to, if any.
-#[derive(Drop)]
+#[derive(Clone, Copy)]
 pub enum Associated {
     Nobody,
     Track(EngineId),
 }
 
 // A class, if it is known.
-#[derive(Drop)]
+#[derive(Clone, Copy)]
 pub enum ClassLabel {
     Unknown,
     Known(u32),
 }
 
 // The price that the engine paid for an association, if it says.
-#[derive(Drop)]
+#[derive(Clone, Copy)]
 pub enum Cost {
     Absent,
     Paid(f64),
 }
 
-#[derive(Drop)]
+#[derive(Clone, Copy)]
 pub struct EngineTrack {
     pub id: EngineId,
     pub class: ClassLabel,
 }
 
 // Where a dot lies, in metres.
-#[derive(Drop)]
+#[derive(Clone, Copy)]
 pub struct Observation {
     pub x: f64,
     pub y: f64,
     pub z: f64,
 }
 
-#[derive(Drop)]
+#[derive(Clone, Copy)]
 pub struct Association {
     pub index: ObservationIndex,
     pub track: Associated,

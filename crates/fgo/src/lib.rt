@@ -21,21 +21,21 @@ use fgo_state::state;
 use fgo_state::state::FixedLagRefiner;
 
 // What opening answers: refusal 1, or a refiner that holds nothing.
-#[derive(Drop)]
+#[derive(Clone, Copy)]
 pub enum Opened {
     Refused(u8),
     Ready(FixedLagRefiner),
 }
 
 // What push and take answer, and the state after it.
-#[derive(Drop)]
+#[derive(Clone, Copy)]
 pub struct Pushed {
     pub answer: Answer,
     pub state: FixedLagRefiner,
 }
 
 // What counters answers: refusal 3, or the moves made so far.
-#[derive(Drop)]
+#[derive(Clone, Copy)]
 pub enum Counted {
     Refused(u8),
     Moves(FgoCounters),

@@ -24,7 +24,7 @@ use kf::filter::Kf;
 use scalar::bits;
 
 // The length of an emitted frame in words and in numbers.
-#[derive(Drop)]
+#[derive(Clone, Copy)]
 pub struct Size {
     pub words: usize,
     pub numbers: usize,

@@ -25,7 +25,7 @@ use kf::lent;
 use scalar::bits;
 
 // A detection as it is frozen: the number of its scan, the scan's time, where it lies, and the class that its association knows.
-#[derive(Drop)]
+#[derive(Clone, Copy)]
 pub struct Detection {
     pub scan: ScanIndex,
     pub time: i64,

@@ -16,7 +16,7 @@ use kf::filter::Kf;
 use scalar::bits;
 
 // The frozen part of a track.
-#[derive(Drop)]
+#[derive(Clone, Copy)]
 pub struct Prefix {
     pub kf: Kf,
     pub last_frame: ScanIndex,

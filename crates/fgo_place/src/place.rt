@@ -13,7 +13,7 @@ use engine::types::{Associated, BodyKind, EngineId, RefinedId};
 use fgo_state::owners::{engine_at, owner_of, put_owner};
 
 // How many engine ids have an owner, and the next id.
-#[derive(Drop)]
+#[derive(Clone, Copy)]
 pub struct Placing {
     pub owned: usize,
     pub next_id: RefinedId,

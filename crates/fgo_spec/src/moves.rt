@@ -2,7 +2,7 @@
 use engine::types::{RefinedId, ScanIndex};
 
 // The best move of a pair of tracks.
-#[derive(Drop)]
+#[derive(Clone, Copy)]
 pub enum PairMove {
     Stay,
     // From the cut on the two exchange their windows.
@@ -19,7 +19,7 @@ pub enum PairMove {
 }
 
 // The best move of one track.
-#[derive(Drop)]
+#[derive(Clone, Copy)]
 pub enum TrackMove {
     Stay,
     // From the cut on the window goes to a new track.
@@ -29,7 +29,7 @@ pub enum TrackMove {
 }
 
 // Moves made so far.
-#[derive(Drop)]
+#[derive(Clone, Copy)]
 pub struct FgoCounters {
     pub swaps: u64,
     pub merges: u64,

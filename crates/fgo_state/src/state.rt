@@ -15,7 +15,7 @@ use engine::config::FgoConfig;
 use engine::types::{BodyKind, RefinedId, ScanIndex};
 use fgo_spec::moves::FgoCounters;
 
-#[derive(Drop)]
+#[derive(Clone, Copy)]
 pub struct FixedLagRefiner {
     pub config: FgoConfig,
     // The number of the oldest scan held.

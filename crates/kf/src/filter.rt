@@ -8,7 +8,7 @@ ghost use Rattle.kf.specs.Filter.{started, predicted, updated, log_of, kf_in, kf
 use bounds::KF;
 use scalar::log;
 
-#[derive(Drop)]
+#[derive(Clone, Copy)]
 pub struct Kf {
     pub x: f64,
     pub y: f64,
@@ -22,7 +22,7 @@ pub struct Kf {
 }
 
 // A filter after an update, with the negative log-likelihood of the observation.
-#[derive(Drop)]
+#[derive(Clone, Copy)]
 pub struct Updated {
     pub kf: Kf,
     pub nll: f64,

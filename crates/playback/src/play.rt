@@ -21,7 +21,7 @@ use smoother_window::SmootherConfig;
 use smoother_window::window::{window_numbers, window_words};
 
 // How the frames are printed: as the refiner emits them, in short or in full; or smoothed, in full.
-#[derive(Drop)]
+#[derive(Clone, Copy)]
 pub enum Form {
     Short,
     Full,

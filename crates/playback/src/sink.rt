@@ -16,7 +16,7 @@ use print::{answers, lines};
 use smoother_window::FixedLagSmoother;
 
 // Where the frames go.
-#[derive(Drop)]
+#[derive(Clone, Copy)]
 pub enum Sink {
     Short,
     Full,
@@ -24,14 +24,14 @@ pub enum Sink {
 }
 
 // A smoother after a push or a take, and the place where the text of its answer ends.
-#[derive(Drop)]
+#[derive(Clone, Copy)]
 pub struct Smoothed {
     pub state: FixedLagSmoother,
     pub end: usize,
 }
 
 // Where the frames go from now on, and the place where the text of an answer ends.
-#[derive(Drop)]
+#[derive(Clone, Copy)]
 pub struct Told {
     pub sink: Sink,
     pub end: usize,

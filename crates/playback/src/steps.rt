@@ -23,7 +23,7 @@ use fgo_state::state::FixedLagRefiner;
 use smoother_window::FixedLagSmoother;
 
 // Where a run stands: the refiner, where its frames go, and whether all that was printed could be written.
-#[derive(Drop)]
+#[derive(Clone, Copy)]
 pub struct Player {
     pub refiner: FixedLagRefiner,
     pub sink: Sink,
@@ -31,7 +31,7 @@ pub struct Player {
 }
 
 // A smoother that is taken from, and whether all could be written.
-#[derive(Drop)]
+#[derive(Clone, Copy)]
 struct Rest {
     smoother: FixedLagSmoother,
     well: bool,

@@ -10,7 +10,7 @@ use engine::config::FgoConfig;
 use engine::little;
 
 // What a recording says at its start: refusal 11, 12 or 1, or its settings and the number of its frames.
-#[derive(Drop)]
+#[derive(Clone, Copy)]
 pub enum Contents {
     Refused(u8),
     Frames { config: FgoConfig, count: usize },

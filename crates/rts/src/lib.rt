@@ -11,7 +11,7 @@ use linalg::matrix::{add_vec6, add6, half_sum6, mul_vec6, mul6, sub_vec6, sub6, 
 use models::{cv_f6_mul, cv_f6_mul_vec, cv_q6, mul_cv_f6t};
 
 // What a step did.
-#[derive(Drop)]
+#[derive(Clone, Copy)]
 pub enum Step {
     // The later state is replaced by this one's smoothed form.
     Smoothed,

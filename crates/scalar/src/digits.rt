@@ -2,7 +2,7 @@
 ghost use Rattle.std.specs.Prelude.{◌≡◌};
 ghost use Rattle.scalar.specs.Digits.{digits_of};
 
-#[derive(Drop)]
+#[derive(Clone, Copy)]
 pub enum Digits {
     // Above 0 and finite: q · 2^(y - 1074).
     Finite { q: u64, y: u64 },

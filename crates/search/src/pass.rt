@@ -22,14 +22,14 @@ use search_rows::{moves, rows};
 // the next: nothing, the row's pairs, or its pairs and its track; 2 for a track that is new.
 
 // What a pass leaves to the next beside its tables: how many tracks it listed, and the next id before it visited them.
-#[derive(Drop)]
+#[derive(Clone, Copy)]
 struct Last {
     count: usize,
     next_id: RefinedId,
 }
 
 // A pass that ran: its tally, and what it leaves.
-#[derive(Drop)]
+#[derive(Clone, Copy)]
 struct PassDone {
     tally: Tally,
     last: Last,

@@ -91,7 +91,7 @@ fn only_has(x: usize, y: usize) -> u64
 }
 
 // How two rows lie to each other: the scans that both have, those that only the first has, and those that only the second has.
-#[derive(Drop)]
+#[derive(Clone, Copy)]
 pub struct Overlap {
     pub shared: u64,
     pub mine: u64,

@@ -8,7 +8,7 @@ ghost use Rattle.search_neighbours.specs.Near.{point_at, near_points, close_poin
 use bounds::{DOTS, ROW, ROWS, SCANS};
 
 // Where a detection lies. One that is not there lies at NaN, which is near nothing.
-#[derive(Drop)]
+#[derive(Clone, Copy)]
 struct Point {
     x: f64,
     y: f64,

@@ -12,14 +12,14 @@ use fgo_spec::moves::{FgoCounters, PairMove, TrackMove};
 const FULL: u64 = 0x8000_0000_0000_0000;
 
 // What becomes of two ids in one scan; 0 is clutter.
-#[derive(Drop)]
+#[derive(Clone, Copy)]
 pub struct Targets {
     pub a: RefinedId,
     pub b: RefinedId,
 }
 
 // The next id, the moves counted, the passes that ran, and whether the last one made a move.
-#[derive(Drop)]
+#[derive(Clone, Copy)]
 pub struct Tally {
     pub next_id: RefinedId,
     pub counters: FgoCounters,

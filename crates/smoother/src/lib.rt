@@ -20,14 +20,14 @@ use smoother_pass::emit::{emit_numbers, emit_words};
 use smoother_window::{FixedLagSmoother, SmootherConfig, window};
 
 // What opening answers: refusal 1 or 2, or a smoother that holds nothing.
-#[derive(Drop)]
+#[derive(Clone, Copy)]
 pub enum Opened {
     Refused(u8),
     Ready(FixedLagSmoother),
 }
 
 // What push and take answer, and the state after it.
-#[derive(Drop)]
+#[derive(Clone, Copy)]
 pub struct Pushed {
     pub answer: Answer,
     pub state: FixedLagSmoother,

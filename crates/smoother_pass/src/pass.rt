@@ -19,21 +19,21 @@ use smoother_window::FixedLagSmoother;
 use smoother_window::window::{frame_numbers, frame_words};
 
 // Position and velocity, and their covariance by rows.
-#[derive(Drop)]
+#[derive(Clone, Copy)]
 pub struct TrackState {
     pub x: [f64; VECTOR],
     pub p: [f64; COVARIANCE],
 }
 
 // What running back gave: a state, unless a Cholesky failed.
-#[derive(Drop)]
+#[derive(Clone, Copy)]
 pub struct RanBack {
     pub ok: bool,
     pub state: TrackState,
 }
 
 // Where an id stands among a frame's tracks.
-#[derive(Drop)]
+#[derive(Clone, Copy)]
 pub enum Found {
     At(usize),
     Nothing,

@@ -4,7 +4,7 @@
 pub mod window;
 
 // A smoother's settings.
-#[derive(Drop)]
+#[derive(Clone, Copy)]
 pub struct SmootherConfig {
     // Frames held back; a frame is emitted this many frames late.
     pub lag_frames: usize,
@@ -15,7 +15,7 @@ pub struct SmootherConfig {
 }
 
 // What is kept between calls, beside the window.
-#[derive(Drop)]
+#[derive(Clone, Copy)]
 pub struct FixedLagSmoother {
     pub config: SmootherConfig,
     // The slot of the oldest frame, counted round the window's lag_frames + 1 slots.

@@ -8,7 +8,7 @@ ghost use Rattle.scalar.specs.Root.{root_of};
 use scalar::digits::{Digits, digits_of};
 
 // The root of a whole number, rounded down, and what is left: root * root + rest, with rest at most 2 * root.
-#[derive(Drop)]
+#[derive(Clone, Copy)]
 struct WholeRoot {
     root: u64,
     rest: u64,
