@@ -1,0 +1,18 @@
+use native.Mathlib.Omega.{arith}
+use Rattle.engine.specs.Body.{association_at}
+use Rattle.engine.proofs.Bytes.{little-one}
+use Rattle.engine.proofs.Layouts.{association_read_lem}
+use Rattle.engine.proofs.body.association_at.Goals as goal
+
+pub overflow_cast-index : goal.overflow_cast-index
+overflow_cast-index c = record { fits = omega (arith, (c.type_inv.s c.args.o).fits) }
+
+pub u64_at-requires : goal.u64_at-requires
+u64_at-requires c = omega arith
+
+pub f64_at-requires : goal.f64_at-requires
+f64_at-requires c = omega arith
+
+pub returns : goal.returns
+unfolding association_at
+returns c = association_read_lem c.args.kind c.args.s.now c.args.o (rw (little-one c.args.s.now c.args.o, c.associated_of-track.ensures, c.u64_at.ensures, c.outcome_of-outcome.ensures, c.cost_of-cost.ensures, c.f64_at.ensures))

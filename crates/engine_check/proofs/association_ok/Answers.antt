@@ -1,0 +1,5 @@
+use Rattle.engine_check.proofs.Forms.{association_tested}
+use Rattle.engine_check.proofs.association_ok.Goals as goal
+
+pub returns : goal.returns
+returns c = association_tested c.args.kind c.args.s.now c.args.o c.narrow_association_ok.ensures

@@ -1,0 +1,77 @@
+use Prim.Native.Nat.{ℕ, ◌+◌, ◌*◌, ◌≤◌}
+use native.Mathlib.Omega.{arith}
+use mathlib.Core.Path.{◌≡◌, refl}
+use mathlib.Core.List.{List}
+use lib.ListN.{length}
+use Rattle.bounds.specs.Bounds.{ASSOCIATIONS, BODY, COLUMN}
+use Rattle.engine.specs.Body.{Body, body, associations_in}
+use Rattle.fgo_place.specs.declared.place.Placing.{Placing}
+use Rattle.fgo_state.specs.declared.state.FixedLagRefiner.{FixedLagRefiner}
+use Rattle.buffers.specs.Buffers.{over}
+use Rattle.fgo_state.specs.Memory.{slot_at, column_words}
+use Rattle.fgo_place.specs.Placing.{Placed}
+use Rattle.fgo_arrive.specs.Arriving.{placed_by, Holds, HeldBy}
+use Rattle.fgo_state.proofs.Counts.{associations_few}
+use Rattle.fgo_arrive.proofs.HeldScans.{body_fits, bodies_kept, columns-kept, body_other, body_here, scans_more}
+use Rattle.fgo_arrive.proofs.hold.Goals as goal
+
+-- where the frame was placed, and its slot written
+held_by :
+    (r : FixedLagRefiner) (s : Body) (bodies columns owners : List ℕ) → Holds r s bodies columns owners → (p : Placing) (owners' ids : List ℕ) →
+    Placed (associations_in s) (placed_by r s owners) p owners' ids → {count : ℕ} {bodies' columns' : List ℕ} → count ≡ associations_in s →
+    bodies' ≡ over (BODY * slot_at (r.first.0 + r.held)) s.bytes bodies →
+    columns' ≡ over (COLUMN * slot_at (r.first.0 + r.held)) (column_words s.kind (length s.bytes) count ids) columns →
+    HeldBy r s bodies columns owners
+    (record { config = r.config; first = r.first; held = r.held + 1; frozen = r.frozen; owned = p.owned; next_id = p.next_id; counters = r.counters })
+    bodies' columns' owners'
+held_by r s bodies columns owners h p owners' ids w ec eb ed =
+    rw (eb, ed, ec)
+    (record {
+      settings = refl;
+      first = refl;
+      held = refl;
+      frozen = refl;
+      counters = refl;
+      next_id = w.next_is;
+      owned = w.few;
+      owners_are = w.owners_are;
+      scans = scans_more bodies columns s ids n m fits few enough h.bodies_long h.columns_long r.first.0 r.held refl h.few refl w.ids_are;
+      older = λ i l. body_other bodies columns s ids n m fits few enough h.bodies_long h.columns_long (r.first.0 + i) (λ z. let k = h.few in omega arith);
+      newest = body_here bodies columns s ids n m fits few enough h.bodies_long h.columns_long;
+      bodies_long = bodies_kept bodies columns s ids n m fits few enough h.bodies_long h.columns_long;
+      columns_long = columns-kept bodies columns s ids n m fits few enough h.bodies_long h.columns_long;
+      owners_long = w.owners_long;
+    })
+  where
+    n : ℕ
+    n = r.first.0 + r.held
+
+    m : ℕ
+    m = associations_in s
+
+    fits : length s.bytes ≤ BODY
+    fits = body_fits s h.passes
+
+    few : m ≤ ASSOCIATIONS
+    few = associations_few s h.passes
+
+    enough : m ≤ length ids
+    enough = omega (arith, few, w.ids_long)
+
+pub put_body-requires : goal.put_body-requires
+put_body-requires c = ((let f = c.args in body_fits (body f.kind f.s.now) c.requires.passes), c.requires.bodies_long)
+
+pub put_column-requires : goal.put_column-requires
+put_column-requires c = (
+  rw c.association_count-count.ensures (let f = c.args in associations_few (body f.kind f.s.now) c.requires.passes),
+  c.place_all-p.ensures.ids_long,
+  c.requires.columns_long,
+)
+
+pub overflow_add-result : goal.overflow_add-result
+overflow_add-result c = let h = c.requires.few in record { fits = omega arith }
+
+pub returns : goal.returns
+returns c = let f = c.args in
+    held_by f.r (body f.kind f.s.now) f.bodies.now f.columns.now f.owners.now c.requires c.place_all-p.result c.place_all-p.new.owners
+    c.place_all-p.new.ids c.place_all-p.ensures c.association_count-count.ensures c.put_body.ensures c.put_column.ensures

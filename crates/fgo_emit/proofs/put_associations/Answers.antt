@@ -1,0 +1,84 @@
+use Rattle.std.proofs.Common.{◌≡◌, ℕ, ◌+◌, ◌-◌, ◌*◌, ◌<◌, ◌≤◌, List, ◌++◌, length, take, sym, refl, ap, ◌∙◌, add-one, arith, length-take-le, take_all}
+use Rattle.bounds.specs.Bounds.{LINK}
+use Rattle.engine.specs.declared.types.Association.{Association}
+use Rattle.engine.specs.Frame.{no_association}
+use Rattle.engine.specs.Body.{Body, body as body_of, frame_in, associations_in}
+use Rattle.engine.proofs.Passing.{row_at, length-rows}
+use Rattle.fgo_spec.specs.Emitting.{association_words, associations_words}
+use Rattle.buffers.specs.Buffers.{over}
+use Rattle.fgo_state.specs.Memory.{id_at, ids_in, association_in}
+use Rattle.fgo_emit.specs.Writing.{links_in}
+use Rattle.fgo_state.proofs.Counts.{associations_long}
+use Rattle.fgo_emit.proofs.Associations.{associations_more, associations_size}
+use Rattle.buffers.proofs.Writes.{WrittenOver, written_none, written-more, written_same}
+use Rattle.fgo_emit.proofs.put_associations.Goals as goal
+
+module _ (columns : List ℕ) (n : ℕ) (s : Body) where
+  -- the words of the first j associations
+  abbrev first : ℕ → List ℕ
+  first j = associations_words (take j (frame_in s).associations) (take j (ids_in columns n s))
+
+  first-long : (j : ℕ) → j ≤ associations_in s → length (first j) ≡ LINK * j
+  first-long j h =
+      let a : length (take j (frame_in s).associations) ≡ j = length-take-le j _ (rw (associations_long s) h) in
+      let b : length (take j (ids_in columns n s)) ≡ j = length-take-le j _ (rw (length-rows (id_at columns n) 0 (associations_in s)) h) in
+      associations_size _ _ (a ∙ sym b) ∙ ap (λ (k : ℕ). LINK * k) a
+
+  more : (j : ℕ) → j < associations_in s → first j ++ association_words (association_in s j) (id_at columns n j) ≡ first (j + 1)
+  more j h =
+      sym
+      (ap first (add-one j)
+      ∙ associations_more (frame_in s).associations (ids_in columns n s) j no_association 0 (rw (associations_long s) h) (rw (length-rows (id_at columns n) 0 (associations_in s)) h)
+      ∙ ap (λ (i : ℕ). first j ++ association_words (association_in s j) i) (row_at (id_at columns n) (associations_in s) j 0 h))
+
+  all : (j : ℕ) → associations_in s ≤ j → first j ≡ links_in columns n s
+  all j h =
+      ap (λ (l : List Association). associations_words l (take j (ids_in columns n s))) (take_all j (frame_in s).associations (rw (associations_long s) h))
+      ∙ ap (associations_words (frame_in s).associations) (take_all j (ids_in columns n s) (rw (length-rows (id_at columns n) 0 (associations_in s)) h))
+
+  next : (o : ℕ) {j : ℕ} {words words' words'' : List ℕ} → j < associations_in s → o + LINK * associations_in s ≤ length words → WrittenOver o (first j) words words' → words'' ≡ over (o + LINK * j) (association_words (association_in s j) (id_at columns n j)) words' → WrittenOver o (first (j + 1)) words words''
+  next o {j} {words} {words'} h room w e =
+      let l : length (first j) ≡ LINK * j = first-long j (omega arith) in
+      written_same o words
+      (written-more o words (first j) (association_words (association_in s j) (id_at columns n j)) w (omega arith) (e ∙ ap (λ (k : ℕ). over (o + k) (association_words (association_in s j) (id_at columns n j)) words') (sym l)))
+      (more j h)
+      refl
+
+pub loop-j-init : goal.loop-j-init
+unfolding associations_words
+loop-j-init c = (omega arith, written_none _ _)
+
+pub overflow_mul-j : goal.overflow_mul-j
+overflow_mul-j c = record { fits = omega (arith, c.association_count.ensures, c.requires.1) }
+
+pub overflow_add-o : goal.overflow_add-o
+overflow_add-o c = record { fits = omega (arith, c.association_count.ensures, c.requires.1) }
+
+pub put_words-requires : goal.put_words-requires
+put_words-requires c = let long : length c.association_words-ws.result ≡ LINK = ap length c.association_words-ws.ensures in
+    omega (arith, c.association_count.ensures, c.requires.1, c.loop-j.invariant.1.long)
+
+pub overflow_add-j : goal.overflow_add-j
+overflow_add-j c = record { fits = omega (arith, c.association_count.ensures, c.requires.1) }
+
+pub loop-j-smaller : goal.loop-j-smaller
+loop-j-smaller c = omega (arith, c.association_count.ensures)
+
+pub loop-j-preserved : goal.loop-j-preserved
+loop-j-preserved c = let s = body_of c.args.kind c.args.s.now in
+    let o = c.args.o in
+    let j = c.loop-j.j in
+    let words = c.loop-j.words in
+    let said =
+    c.association_words-ws.ensures
+    ∙ ap (λ (a : Association). association_words a c.id_at.result.0) (c.association-a.ensures.1 c.requires.0)
+    ∙ ap (association_words (association_in s j)) c.id_at.ensures in
+    (omega (arith, c.association_count.ensures), next c.args.columns.now c.args.n.0 s o (omega (arith, c.association_count.ensures)) c.requires.1 c.loop-j.invariant.1 (c.put_words.ensures ∙ ap (λ (l : List ℕ). over (o + LINK * j) l words) said))
+
+pub shape_of-words : goal.shape_of-words
+shape_of-words c = c.loop-j.invariant.1.long
+
+pub returns : goal.returns
+returns c = let o = c.args.o in
+    c.loop-j.invariant.1.written
+    ∙ ap (λ (g : List ℕ). over o g c.args.words.now) (all c.args.columns.now c.args.n.0 (body_of c.args.kind c.args.s.now) c.loop-j.j (omega (arith, c.association_count.ensures)))

@@ -1,0 +1,13 @@
+use mathlib.Core.Path.{◌≡◌}
+use mir.Syntax.{w64}
+use mir.Val.{to_z, of_z}
+use mir.Facts.{to_z-of_z}
+use Rattle.engine.specs.Body.{rows}
+use Rattle.fgo_spec.specs.Freezing as spec
+use Rattle.fgo_freeze.proofs.fresh.Goals as goal
+
+pub returns : goal.returns
+unfolding rows spec.freeze
+returns c =
+    let e : to_z w64 (of_z w64 c.args.d.time) ≡ c.args.d.time = to_z-of_z (record { sfits = c.type_inv.d.1.0.1 }) in
+    rw (c.start-kf.ensures, c.position_variance.ensures, c.seconds.ensures, e)

@@ -1,0 +1,9 @@
+use Prim.Native.Nat.{◌≤◌}
+use Rattle.fgo_freeze.proofs.Raising.{Raising}
+use Rattle.fgo_freeze.proofs.make_room.Given as goal
+
+abbrev pub invariant-loop-i : goal.invariant-loop-i
+invariant-loop-i l = (l.k ≤ l.i) × Raising l.frozen l.initial.tracks l.initial.filters l.i l.tracks l.filters
+
+abbrev pub decreases-loop-i : goal.decreases-loop-i
+decreases-loop-i l = l.i

@@ -1,0 +1,10 @@
+use mathlib.Core.Path.{◌≡◌}
+use mir.Syntax.{w64}
+use mir.Val.{to_z, of_z}
+use mir.Facts.{to_z-of_z}
+use Rattle.fgo_freeze.proofs.moved_on.Goals as goal
+
+pub returns : goal.returns
+returns c =
+    let e : to_z w64 (of_z w64 c.args.d.time) ≡ c.args.d.time = to_z-of_z (record { sfits = c.type_inv.d.1.0.1 }) in
+    rw (c.advanced.ensures, c.position_variance.ensures, c.seconds.ensures, e)

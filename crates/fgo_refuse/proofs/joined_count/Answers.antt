@@ -1,0 +1,47 @@
+use native.Mathlib.Omega.{arith}
+use mathlib.Core.Path.{◌≡◌, refl, sym, ap, ◌∙◌}
+use mathlib.Core.List.{List}
+use Prim.Native.Nat.{ℕ}
+use lib.ListN.{length, replicate}
+use Rattle.bounds.specs.Bounds.{JOINED}
+use Rattle.engine.specs.declared.types.Association.{Association}
+use Rattle.engine.specs.Body.{body}
+use Rattle.buffers.specs.Buffers.{over}
+use Rattle.fgo_part.specs.Parts.{cells}
+use Rattle.fgo_state.specs.Memory.{engine_at}
+use Rattle.fgo_refuse.specs.Refusing.{engines_in}
+use Rattle.engine.proofs.Passing.{length-rows}
+use Rattle.fgo_part.proofs.Cells.{cells_over}
+use Rattle.buffers.proofs.Over.{length_over}
+use Rattle.fgo_state.proofs.Counts.{associations_few}
+use Rattle.fgo_refuse.proofs.Joining.{joins_none, joins_more, joins_all}
+use Rattle.fgo_refuse.proofs.joined_count.Goals as goal
+
+pub owner_keys-requires : goal.owner_keys-requires
+owner_keys-requires c = (c.requires.0, refl)
+
+pub loop-j-init : goal.loop-j-init
+loop-j-init c =
+    let a = c.args in
+    let keys = engines_in a.owners.now a.owned in
+    let long : length keys ≡ a.owned = length-rows (engine_at a.owners.now) 0 a.owned in
+    let said = c.owner_keys.ensures in
+    joins_none _ _ (body a.kind a.s.now) _
+    (ap length said ∙ length_over 0 keys (replicate JOINED 0) (omega (arith, c.requires.0)))
+    c.association_count-j.ensures
+    (ap (λ (l : List ℕ). cells 0 l 0 a.owned) said ∙ ap (cells 0 (over 0 keys (replicate JOINED 0)) 0) (sym long) ∙ cells_over 0 keys (replicate JOINED 0) (omega (arith, c.requires.0)))
+
+pub overflow_sub-j : goal.overflow_sub-j
+overflow_sub-j c = omega arith
+
+pub join_one-n-requires : goal.join_one-n-requires
+join_one-n-requires c = (omega (arith, c.loop-j.invariant.few, c.loop-j-test.true, c.requires, associations_few (body c.args.kind c.args.s.now) c.requires.1), c.loop-j.invariant.room)
+
+pub loop-j-smaller : goal.loop-j-smaller
+loop-j-smaller c = omega (arith, c.loop-j-test.true)
+
+pub loop-j-preserved : goal.loop-j-preserved
+loop-j-preserved c = joins_more _ _ _ c.loop-j.invariant c.loop-j-test.true (ap (λ (a : Association). a.track) (c.association-a.ensures.1 c.requires.1)) c.join_one-n.ensures.0 c.join_one-n.ensures.1 c.join_one-n.ensures.2
+
+pub returns : goal.returns
+returns c = joins_all _ _ _ c.loop-j.invariant c.loop-j-test.false

@@ -1,0 +1,55 @@
+use Prim.Native.Nat.{◌-◌, ◌<◌}
+use native.Mathlib.Omega.{arith}
+use mathlib.Core.Path.{◌∙◌}
+use mathlib.Core.Logic.{⊎_elim}
+use Rattle.engine.specs.Body.{body, associations_in}
+use Rattle.fgo_state.proofs.GatheringScan.{numbers_none, numbers-room, numbers-held, numbers-clutter, numbers-all}
+use Rattle.fgo_state.proofs.gather.dot_scan.Goals as goal
+
+pub loop-j-init : goal.loop-j-init
+loop-j-init c = numbers_none _ _ _ _ _ _
+
+pub put_dot-requires : goal.put_dot-requires
+put_dot-requires c =
+    let v = c.loop-j in
+    let e = c.association_count.ensures in
+    let l = c.loop-j-test.true in
+    let i = c.id_at.ensures in
+    let h = c.if-id_at-gt0.true in
+    let r = numbers-room _ _ _ _ _ _ c.requires.1 v.invariant (omega arith) (omega arith) in
+    (c.requires.0, omega (arith, v.invariant.numbers.long))
+
+pub overflow_add-p : goal.overflow_add-p
+overflow_add-p c =
+    let v = c.loop-j in
+    let e = c.association_count.ensures in
+    let l = c.loop-j-test.true in
+    let i = c.id_at.ensures in
+    let h = c.if-id_at-gt0.true in
+    let r = numbers-room _ _ _ _ _ _ c.requires.1 v.invariant (omega arith) (omega arith) in
+    omega (arith, v.invariant.numbers.long)
+
+pub overflow_add-j : goal.overflow_add-j
+overflow_add-j c = omega (arith, c.loop-j-test.true)
+
+pub loop-j-smaller : goal.loop-j-smaller
+loop-j-smaller c = omega (arith, c.loop-j-test.true, c.association_count.ensures)
+
+pub loop-j-preserved : goal.loop-j-preserved
+loop-j-preserved c =
+    let a = c.args in
+    let v = c.loop-j in
+    let e = c.association_count.ensures in
+    let l = c.loop-j-test.true in
+    let few : v.j < associations_in (body a.kind a.s.now) = omega arith in
+    let i = c.id_at.ensures in
+    ⊎_elim
+    (λ w. numbers-held _ _ _ _ _ _ c.requires.1 v.invariant few i w.0.taken (w.5 ∙ w.2.ensures) w.6)
+    (λ w. numbers-clutter _ _ _ _ _ _ c.requires.1 v.invariant few i (omega (arith, w.0.left)) w.1 w.2)
+    c.if-id_at-gt0.branch
+
+pub shape_of-dots : goal.shape_of-dots
+shape_of-dots c = c.loop-j.invariant.numbers.long
+
+pub returns : goal.returns
+returns c = let e = c.association_count.ensures in numbers-all _ _ _ _ _ _ c.requires.1 c.loop-j.invariant (omega (arith, c.loop-j-test.false))

@@ -1,0 +1,46 @@
+use Prim.Native.Nat.{ℕ, suc, ◌+◌, ◌-◌, ◌≤◌, ◌<◌}
+use native.Mathlib.Numerals.{add-one}
+use native.Mathlib.Omega.{arith}
+use mathlib.Core.Path.{◌≡◌, refl, sym, ap, ◌∙◌}
+use mathlib.Core.Logic.{⊎_elim}
+use mathlib.Core.List.{List}
+use borrow.Author.Tests.{lt-ltb, le-ltb}
+use Rattle.engine.specs.Body.{rows}
+use Rattle.fgo_spec.specs.Lists.{keep}
+use Rattle.fgo_spec.proofs.Counting.{bump}
+use Rattle.fgo_state.specs.Memory.{id_at}
+use Rattle.fgo_state.specs.Gathering.{count_in}
+use Rattle.fgo_state.proofs.Detections.{count-more}
+use Rattle.fgo_state.proofs.state.count_in.Goals as goal
+
+module _ (columns : List ℕ) (n j : ℕ) {x w : ℕ} (e : x ≡ id_at columns n j) (h : w ≡ count_in columns n j) where
+  one_more_lem : 0 < x → w + 1 ≡ count_in columns n (j + 1)
+  one_more_lem p = add-one w ∙ ap suc h ∙ sym (count-more columns n j ∙ ap (λ b. bump b (count_in columns n j)) (lt-ltb 0 (id_at columns n j) (omega arith)))
+
+  none_more : x ≤ 0 → w ≡ count_in columns n (j + 1)
+  none_more p = h ∙ sym (count-more columns n j ∙ ap (λ b. bump b (count_in columns n j)) (le-ltb 0 (id_at columns n j) (omega arith)))
+
+pub loop-j-init : goal.loop-j-init
+unfolding rows keep
+loop-j-init c = (omega arith, refl, omega arith)
+
+pub overflow_add-w : goal.overflow_add-w
+overflow_add-w c = omega arith
+
+pub overflow_add-j : goal.overflow_add-j
+overflow_add-j c = omega arith
+
+pub loop-j-smaller : goal.loop-j-smaller
+loop-j-smaller c = omega arith
+
+pub loop-j-preserved : goal.loop-j-preserved
+loop-j-preserved c =
+    let i = c.id_at.ensures in
+    let h = c.loop-j.invariant.1 in
+    ⊎_elim
+    (λ p. (omega arith, p.1 ∙ one_more_lem _ _ _ i h p.0.taken, omega (arith, p.1)))
+    (λ p. (omega arith, p.1 ∙ none_more _ _ _ i h p.0.left, omega (arith, p.1)))
+    c.if-id_at-gt0.branch
+
+pub returns : goal.returns
+returns c = let e : c.loop-j.j ≡ c.args.m = omega arith in (rw e at c.loop-j.invariant.1, omega arith)

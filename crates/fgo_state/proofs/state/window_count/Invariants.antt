@@ -1,0 +1,11 @@
+use Prim.Native.Nat.{◌-◌, ◌≤◌}
+use mathlib.Core.Path.{◌≡◌}
+use Rattle.fgo_spec.specs.Windows.{window_count}
+use Rattle.fgo_state.specs.Memory.{scans_in}
+use Rattle.fgo_state.proofs.state.window_count.Given as goal
+
+abbrev pub invariant-loop-i : goal.invariant-loop-i
+invariant-loop-i l = (l.i ≤ l.held) × (l.w ≡ window_count (scans_in l.bodies l.columns l.first.0 l.i))
+
+abbrev pub decreases-loop-i : goal.decreases-loop-i
+decreases-loop-i l = l.held - l.i

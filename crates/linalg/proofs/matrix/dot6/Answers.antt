@@ -1,0 +1,5 @@
+use mathlib.Core.Path.{refl}
+use Rattle.linalg.proofs.matrix.dot6.Goals as goal
+
+pub returns : goal.returns
+returns c = refl

@@ -1,0 +1,11 @@
+use Prim.Native.Nat.{◌-◌}
+use Rattle.scalar.specs.F64.{f64}
+use Rattle.linalg.proofs.Fill.{ByRows}
+use Rattle.linalg.specs.Matrix.{entry}
+use Rattle.models.proofs.mul_cv_f6t.Given as goal
+
+abbrev pub invariant-loop-i : goal.invariant-loop-i
+invariant-loop-i l = ByRows f64 (cell l.m l.dt) (λ l.i j. entry f64 l.initial.out l.i j) l.out l.i
+
+abbrev pub decreases-loop-i : goal.decreases-loop-i
+decreases-loop-i l = 6 - l.i

@@ -1,0 +1,10 @@
+use Rattle.print.proofs.Showing.{shown}
+use Rattle.smoother.specs.Promise.{state_in}
+use Rattle.playback.proofs.Serving.{tells}
+use Rattle.playback.proofs.sink.take_smoothed.Goals as goal
+
+pub put_full-end-requires : goal.put_full-end-requires
+put_full-end-requires c = shown (λ f. f) state_in c.take-t.ensures.ends
+
+pub returns : goal.returns
+returns c = tells c.take-t.ensures c.requires c.put_full-end.ensures

@@ -1,0 +1,48 @@
+use Prim.Native.Nat.{◌-◌}
+use native.Mathlib.Omega.{arith}
+use Rattle.playback.proofs.Playing.{carries_none, carries_room, carries_text, carries_on, pushing_none, pushing-one, pushing_done}
+use Rattle.playback.proofs.steps.push_all.Goals as goal
+
+pub loop-i-init : goal.loop-i-init
+loop-i-init c = (carries_none c.requires.2, pushing_none _ _ _ _)
+
+pub push_one-t-requires : goal.push_one-t-requires
+push_one-t-requires c = carries_room c.loop-i.invariant.0 c.requires.1
+
+pub print_step-p-requires : goal.print_step-p-requires
+print_step-p-requires c =
+    let h = c.loop-i.invariant.0 in
+    let t = c.push_one-t.ensures in
+    ((carries_text h c.requires.0, t.shown, t.counted), h.serves)
+
+pub overflow_add-i : goal.overflow_add-i
+overflow_add-i c = record { fits = omega (arith, c.loop-i-test.true, c.ranges.n.fits) }
+
+pub loop-i-smaller : goal.loop-i-smaller
+loop-i-smaller c = omega (arith, c.loop-i-test.true)
+
+pub loop-i-preserved : goal.loop-i-preserved
+loop-i-preserved c =
+    let h = c.loop-i.invariant in
+    let q = c.print_step-p.ensures in (
+      carries_on h.0 c.fw-1.given c.fx-1.given c.window-1.given c.values-1.given c.out-1.given q.1,
+      pushing-one _ _ _ _ h.1 c.loop-i-test.true c.push_one-t.ensures.leads q.0,
+    )
+
+pub shape_of-fw : goal.shape_of-fw
+shape_of-fw c = c.loop-i.invariant.0.words
+
+pub shape_of-fx : goal.shape_of-fx
+shape_of-fx c = c.loop-i.invariant.0.numbers
+
+pub shape_of-window : goal.shape_of-window
+shape_of-window c = c.loop-i.invariant.0.window
+
+pub shape_of-values : goal.shape_of-values
+shape_of-values c = c.loop-i.invariant.0.values
+
+pub shape_of-out : goal.shape_of-out
+shape_of-out c = c.loop-i.invariant.0.text
+
+pub returns : goal.returns
+returns c = (c.loop-i.invariant.0.serves, pushing_done _ _ _ _ c.loop-i.invariant.1 c.loop-i-test.false)

@@ -1,0 +1,11 @@
+use mathlib.Core.Path.{◌≡◌}
+use lib.ListN.{length}
+use Rattle.smoother.specs.Promise.{window as windowOf}
+use Rattle.playback.specs.Played.{Smoothed}
+use Rattle.playback.proofs.steps.smooth_rest.Given as goal
+
+abbrev pub invariant-loop-r : goal.invariant-loop-r
+invariant-loop-r l = (length l.out ≡ length l.initial.out) × Smoothed l.r.smoother (windowOf l.window l.values)
+
+abbrev pub decreases-loop-r : goal.decreases-loop-r
+decreases-loop-r l = l.r.smoother.held

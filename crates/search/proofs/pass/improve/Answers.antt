@@ -1,0 +1,14 @@
+use Rattle.search.specs.Pass.{scene_of}
+use Rattle.search.proofs.GatheredStanding.{gathered_now, gathered-standing}
+use Rattle.search.proofs.PassLawsHold.{laws_hold}
+use Rattle.search.proofs.PassFinds.{finds}
+use Rattle.search.proofs.pass.improve.Goals as goal
+
+pub returns : goal.returns
+returns c =
+    let s = c.args in
+    let e = scene_of s.hall s.starts.now s.dots.now s.tracks.now s.filters.now in
+    let able = c.requires.0 in (
+      c.run_passes.ensures.ids_len,
+      λ ps ss g. finds e s.next.0 s.counters s.ids.now ps ss (laws_hold e ps ss g.parts) (gathered-standing g able.starts) (gathered_now g) g able _ c.run_passes.ensures.result_after,
+    )

@@ -1,0 +1,77 @@
+use Rattle.std.proofs.Common.{ℕ, ◌-◌, ◌≤◌, List, get_or, arith}
+use Rattle.bounds.specs.Bounds.{SCANS}
+use Rattle.search_merge.specs.Merge.{both_have, only_has}
+use Rattle.search_merge.proofs.Merged.{both_le, only_le, Counting, counts, counted}
+use Rattle.search_merge.proofs.overlap_of.Goals as goal
+
+record Overlaps (a b : List ℕ) (shared mine theirs k : ℕ) : Type 0 where
+  within : k ≤ SCANS
+  both : Counting both_have a b shared k
+  first : Counting only_has a b mine k
+  second : Counting only_has b a theirs k
+
+pub loop-k-init : goal.loop-k-init
+loop-k-init c =
+    record {
+      within = omega arith;
+      both = record { few = omega arith; rest = omega arith };
+      first = record { few = omega arith; rest = omega arith };
+      second = record { few = omega arith; rest = omega arith };
+    }
+
+pub offset_bounds-a-k : goal.offset_bounds-a-k
+offset_bounds-a-k c = omega arith
+
+pub bounds-a-k : goal.bounds-a-k
+bounds-a-k c = omega arith
+
+pub offset_bounds-b-k : goal.offset_bounds-b-k
+offset_bounds-b-k c = omega arith
+
+pub bounds-b-k : goal.bounds-b-k
+bounds-b-k c = omega arith
+
+pub overflow_add-shared : goal.overflow_add-shared
+overflow_add-shared c =
+    let s = c.args in
+    let o = c.loop-k in
+    let e = c.both_have-shared.ensures in
+    omega (arith, both_le (get_or s.a.now o.k 0) (get_or s.b.now o.k 0), o.invariant.both.few)
+
+pub overflow_add-mine : goal.overflow_add-mine
+overflow_add-mine c =
+    let s = c.args in
+    let o = c.loop-k in
+    let e = c.only_has-mine.ensures in
+    omega (arith, only_le (get_or s.a.now o.k 0) (get_or s.b.now o.k 0), o.invariant.first.few)
+
+pub overflow_add-theirs : goal.overflow_add-theirs
+overflow_add-theirs c =
+    let s = c.args in
+    let o = c.loop-k in
+    let e = c.only_has-theirs.ensures in
+    omega (arith, only_le (get_or s.b.now o.k 0) (get_or s.a.now o.k 0), o.invariant.second.few)
+
+pub overflow_add-k : goal.overflow_add-k
+overflow_add-k c = omega arith
+
+pub loop-k-smaller : goal.loop-k-smaller
+loop-k-smaller c = omega arith
+
+pub loop-k-preserved : goal.loop-k-preserved
+loop-k-preserved c =
+    let s = c.args in
+    let o = c.loop-k in
+    let x = get_or s.a.now o.k 0 in
+    let y = get_or s.b.now o.k 0 in
+    record {
+      within = omega arith;
+      both = counts o.invariant.both (omega arith) (omega arith) _ c.both_have-shared.ensures (both_le x y);
+      first = counts o.invariant.first (omega arith) (omega arith) _ c.only_has-mine.ensures (only_le x y);
+      second = counts o.invariant.second (omega arith) (omega arith) _ c.only_has-theirs.ensures (only_le y x);
+    }
+
+pub returns : goal.returns
+returns c =
+    let i = c.loop-k.invariant in
+    λ j. record { shared = counted i.both (omega arith) j; mine = counted i.first (omega arith) j; theirs = counted i.second (omega arith) j }

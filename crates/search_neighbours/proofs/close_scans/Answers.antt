@@ -1,0 +1,144 @@
+use mathlib.Core.Path.{◌≡◌, refl, sym, ap, ◌∙◌}
+use mathlib.Core.Bool.{Bool, true, false, cond, ◌||◌, or-true}
+use mathlib.Core.List.{List, [], ◌∷◌}
+use mathlib.Core.Logic.{⊎_elim}
+use Prim.Native.Nat.{ℕ, zero, suc, ◌+◌, ◌-◌, ◌≤◌, ◌<◌}
+use native.Mathlib.Nat.{zero-add}
+use native.Mathlib.Decide.{dec_lt}
+use native.Mathlib.Omega.{arith}
+use lib.ListN.{length, get_or, set, replicate, length-set}
+use lib.Seq.{ext_get_or, get_or-set_same, get_or-set_other}
+use lib.Dec.{eqb-suc-zero}
+use lib.Ieee.{Float, nan, inf, fin, binary64, add, sub, mul, neg, lt}
+use borrow.Author.Count.{below_more}
+use Rattle.bounds.specs.Bounds.{SCANS}
+use Rattle.cost.specs.Cost.{dot_at}
+use Rattle.fgo_spec.specs.Lists.{any}
+use Rattle.fgo_spec.specs.Searching.{square}
+use Rattle.search_neighbours.specs.declared.Point.{Point}
+use Rattle.search_neighbours.specs.Near.{near_slots, close_slots, close_at, close_scans, any_close, point_at, near_points, close_points, CloseWithin}
+use Rattle.search_rows.proofs.Filled.{map_up_length, map_up_at}
+use Rattle.search_neighbours.proofs.close_scans.Goals as goal
+
+-- nothing is near what lies at NaN
+none_near : (q v w : Float) → lt (add binary64 (square (sub binary64 v nan)) w) q ≡ false
+unfolding sub neg mul add lt
+none_near q nan w = refl
+none_near q (inf s) w = refl
+none_near q (fin s m e) w = refl
+
+-- two points are near where their entries are
+near_same : (q : Float) (dots : List Float) (i j : ℕ) → near_points q (point_at dots i) (point_at dots j) ≡ near_slots q dots i j
+unfolding near_points near_slots point_at sub mul add lt
+near_same q dots zero j = refl
+near_same q dots (suc i) zero = rw (eqb-suc-zero i) (none_near q (dot_at dots (suc i - 1)).x _)
+near_same q dots (suc i) (suc j) = rw (eqb-suc-zero i, eqb-suc-zero j)
+
+close_same : (q : Float) (dots : List Float) (x y nx ny : ℕ) → close_points q (point_at dots x) (point_at dots y) (point_at dots nx) (point_at dots ny) ≡ close_slots q dots x y nx ny
+close_same q dots x y nx ny = λ i. cond (near_same q dots x y i) true (cond (near_same q dots x ny i) true (near_same q dots nx y i))
+
+-- up to scan k the scans are noted, from there on none; x and y are where the detections of the rows in scan k lie
+record Noting (q : Float) (dots : List Float) (a b : List ℕ) (close : List Bool) (found : Bool) (k : ℕ) (x y : Point) : Type 0 where
+  long : length close ≡ SCANS
+  noted : (m : ℕ) → m < k → get_or close m false ≡ close_at q dots a b m
+  left : (m : ℕ) → k ≤ m → get_or close m false ≡ false
+  any : found ≡ any_close close
+  mine : x ≡ point_at dots (get_or a k 0)
+  theirs : y ≡ point_at dots (get_or b k 0)
+
+none_noted : (n m : ℕ) → get_or (replicate n false) m false ≡ false
+none_noted zero m = refl
+none_noted (suc n) zero = refl
+none_noted (suc n) (suc m) = none_noted n m
+
+any-set : (l : List Bool) (k : ℕ) → k < length l → any_close (set l k true) ≡ true
+unfolding any
+any-set [] k h = absurd (omega arith)
+any-set (b ∷ l) zero h = refl
+any-set (b ∷ l) (suc k) h = ap (λ (d : Bool). b || d) (any-set l k (omega arith)) ∙ or-true b
+
+module _ {q : Float} {dots : List Float} {a b : List ℕ} {from to : ℕ} (w : CloseWithin q dots a b from to) where
+  noting-start : {close : List Bool} {x y : Point} → close ≡ replicate SCANS false → x ≡ point_at dots (get_or a from 0) → y ≡ point_at dots (get_or b from 0) → Noting q dots a b close false from x y
+  unfolding any
+  noting-start {close} e x y =
+      let none : (m : ℕ) → get_or close m false ≡ false = λ m. ap (λ (l : List Bool). get_or l m false) e ∙ none_noted SCANS m in
+      record { long = ap length e; noted = λ m h. none m ∙ sym (w.before m h); left = λ m h. none m; any = sym (ap any_close e); mine = x; theirs = y }
+
+  module _ {close : List Bool} {found : Bool} {k : ℕ} {x y nx ny : Point} (o : Noting q dots a b close found k x y) (h : k < to) (n : nx ≡ point_at dots (get_or a (k + 1) 0)) (m : ny ≡ point_at dots (get_or b (k + 1) 0)) {r : Bool} (e : r ≡ close_points q x y nx ny) where
+    at-scan : r ≡ close_at q dots a b k
+    unfolding close_at
+    at-scan = e ∙ (λ i. close_points q (o.mine i) (o.theirs i) (n i) (m i)) ∙ close_same q dots (get_or a k 0) (get_or b k 0) (get_or a (k + 1) 0) (get_or b (k + 1) 0)
+
+    -- the rows are close in scan k
+    noting-close : r ≡ true → Noting q dots a b (set close k true) true (k + 1) nx ny
+    noting-close c =
+        record {
+          long = length-set close k true ∙ o.long;
+          noted =
+              below_more (λ (j : ℕ). get_or (set close k true) j false ≡ close_at q dots a b j) k
+              (λ j g. get_or-set_other close k j true false (λ (z : j ≡ k). omega arith) ∙ o.noted j g)
+              (get_or-set_same close k true false (omega (arith, o.long, w.few)) ∙ sym c ∙ at-scan);
+          left = λ j g. get_or-set_other close k j true false (λ (z : j ≡ k). omega arith) ∙ o.left j (omega arith);
+          any = sym (any-set close k (omega (arith, o.long, w.few)));
+          mine = n;
+          theirs = m;
+        }
+
+    noting-apart : r ≡ false → Noting q dots a b close found (k + 1) nx ny
+    noting-apart c =
+        record {
+          long = o.long;
+          noted = below_more (λ (j : ℕ). get_or close j false ≡ close_at q dots a b j) k o.noted (o.left k (omega arith) ∙ sym c ∙ at-scan);
+          left = λ j g. o.left j (omega arith);
+          any = o.any;
+          mine = n;
+          theirs = m;
+        }
+
+  noting-done : {close : List Bool} {found : Bool} {k : ℕ} {x y : Point} → Noting q dots a b close found k x y → to ≤ k → close ≡ close_scans q dots a b
+  unfolding close_scans
+  noting-done {close} {found} {k} o h =
+      ext_get_or false close (close_scans q dots a b) (o.long ∙ sym (map_up_length (close_at q dots a b) 0 SCANS))
+      (λ m g. each m (dec_lt m k) ∙ sym (map_up_at (close_at q dots a b) 0 SCANS m false (omega (arith, o.long)) ∙ ap (close_at q dots a b) (zero-add m)))
+    where
+      each : (m : ℕ) → Dec (m < k) → get_or close m false ≡ close_at q dots a b m
+      each m (yes l) = o.noted m l
+      each m (no l) = o.left m (omega arith) ∙ sym (w.after m (omega arith))
+
+pub loop-k-init : goal.loop-k-init
+loop-k-init c =
+    let p = c.requires in
+    noting-start p.0 p.1 (c.point_at-x.ensures ∙ ap (point_at _) c.slot.ensures) (c.point_at-y.ensures ∙ ap (point_at _) c.slot-2.ensures)
+
+pub overflow_add-k : goal.overflow_add-k
+overflow_add-k c = omega arith
+
+pub overflow_add-k-in-loop-k : goal.overflow_add-k-in-loop-k
+overflow_add-k-in-loop-k c = omega arith
+
+pub bounds-close-k : goal.bounds-close-k
+bounds-close-k c = omega (arith, c.requires.0.few)
+
+pub overflow_add-k-in-loop-k-2 : goal.overflow_add-k-in-loop-k-2
+overflow_add-k-in-loop-k-2 c = omega (arith, c.requires.0.few)
+
+pub loop-k-smaller : goal.loop-k-smaller
+loop-k-smaller c = omega arith
+
+pub loop-k-preserved : goal.loop-k-preserved
+loop-k-preserved c =
+    let p = c.requires in
+    let o = c.loop-k in
+    let t = c.loop-k-test.true in
+    let r = c.close_points.ensures in
+    let n = c.point_at-nx.ensures ∙ ap (point_at _) c.slot-in-loop-k.ensures in
+    let m = c.point_at-ny.ensures ∙ ap (point_at _) c.slot-in-loop-k-2.ensures in
+    ⊎_elim
+    (λ w. rw (w.1, w.2) (noting-close p.0 o.invariant t n m r w.0.taken))
+    (λ w. rw (w.1, w.2) (noting-apart p.0 o.invariant t n m r w.0.left))
+    c.if-close_points.branch
+
+pub returns : goal.returns
+returns c =
+    let o = c.loop-k.invariant in
+    (noting-done c.requires.0 o c.loop-k-test.false, o.any)

@@ -1,0 +1,153 @@
+use mathlib.Core.Path.{◌≡◌, refl, sym, ap, ◌∙◌}
+use mathlib.Core.Bool.{Bool, true, false}
+use mathlib.Core.List.{List}
+use mathlib.Core.Logic.{⊎_elim}
+use Prim.Native.Nat.{ℕ, ◌+◌, ◌-◌, ◌≤◌}
+use native.Mathlib.Nat.{le_trans, add-zero}
+use native.Mathlib.Omega.{arith}
+use lib.ListN.{length, drop}
+use lib.Ieee.{Float, binary64, add, sub, le}
+use Rattle.bounds.specs.Bounds.{SCANS, STARTS}
+use Rattle.engine.specs.declared.config.FgoConfig.{FgoConfig}
+use Rattle.engine.specs.declared.types.ScanIndex.{ScanIndex}
+use Rattle.cost.specs.declared.Fold.{Fold}
+use Rattle.cost.specs.Cost.{View, measurements, fold_over, cost}
+use Rattle.fgo_spec.specs.declared.moves.PairMove.{PairMove}
+use Rattle.fgo_spec.specs.declared.moves.PairMove.TheVariants.{Stay, Swap}
+use Rattle.fgo_spec.specs.Searching.{◌⊕◌, ◌⊖◌, pair_gain, better_pair}
+use Rattle.fgo_spec.proofs.NoGain.{nought, nothing_wins, best_below, start}
+use Rattle.search_pair.specs.Pair.{cut_at, cuts_of, try_swap_row, first_swap, best_swap_row}
+use Rattle.cost_row.specs.Price.{row_cost, on_to, scan_at, view_in, EndsBy}
+use Rattle.cost_row.proofs.Left.{best_from, best_yes, best_no, best_stays}
+use Rattle.cost_row.proofs.Heads.{Along, begins, passes, on_to_lem, taken_on, until, crossed-cost, few_on, ends_same}
+use Rattle.search_pair.proofs.best_swap.Goals as goal
+
+-- the folds stand at the last cut, and what is left from k on gives the best of all
+record Tried (c : FgoConfig) (v : View) (pa pb : Fold) (close : List Bool) (ra rb : List ℕ) (base : Float) (best : PairMove) (fa fb : Fold) (done k : ℕ) : Type 0 where
+  within : k ≤ STARTS
+  a : Along c v pa ra k done fa
+  b : Along c v pb rb k done fb
+  left : best_from better_pair (try_swap_row c v pa pb ra rb base) (cut_at close) STARTS k best ≡ best_swap_row c v pa pb close ra rb base
+  low : le (pair_gain best) nought ≡ true
+
+module _ {c : FgoConfig} {v : View} {pa pb : Fold} {close : List Bool} {ra rb : List ℕ} {base : Float} {best : PairMove} {fa fb : Fold} {done k : ℕ} (s : Tried c v pa pb close ra rb base best fa fb done k) where
+  tries : k ≤ SCANS → length ra ≡ SCANS → length rb ≡ SCANS → cut_at close k ≡ true → {ga gb : Fold} {gain : Float} → ga ≡ on_to c v done k ra fa → gb ≡ on_to c v done k rb fb →
+      gain ≡ cost c ga (measurements v k (drop k rb)) ⊕ cost c gb (measurements v k (drop k ra)) ⊖ base →
+      Tried c v pa pb close ra rb base (better_pair best (Swap (scan_at v k) gain)) ga gb k (k + 1)
+  unfolding try_swap_row
+  tries g la lb t {ga} {gb} {gain} ea eb eg =
+      let x = ap (λ (f : Fold). cost c f (measurements v k (drop k rb))) (ea ∙ on_to_lem s.a (omega arith)) ∙ crossed-cost c v pa ra k rb (omega arith) in
+      let y = ap (λ (f : Fold). cost c f (measurements v k (drop k ra))) (eb ∙ on_to_lem s.b (omega arith)) ∙ crossed-cost c v pb rb k ra (omega arith) in
+      record {
+        within = omega arith;
+        a = rw ea (taken_on s.a (omega arith));
+        b = rw eb (taken_on s.b (omega arith));
+        left =
+            ap (best_from better_pair (try_swap_row c v pa pb ra rb base) (cut_at close) STARTS (k + 1)) (ap (λ d. better_pair best (Swap (scan_at v k) d)) (eg ∙ (λ i. sub binary64 (add binary64 (x i) (y i)) base)))
+            ∙ best_yes better_pair (try_swap_row c v pa pb ra rb base) (cut_at close) STARTS k best (omega arith) t
+            ∙ s.left;
+        low = best_below best (Swap (scan_at v k) gain) s.low;
+      }
+
+  skips : k ≤ SCANS → cut_at close k ≡ false → Tried c v pa pb close ra rb base best fa fb done (k + 1)
+  skips g t =
+      record {
+        within = omega arith;
+        a = passes s.a;
+        b = passes s.b;
+        left = best_no better_pair (try_swap_row c v pa pb ra rb base) (cut_at close) STARTS k best (omega arith) t ∙ s.left;
+        low = s.low;
+      }
+
+  -- from the end of both rows on a swap leaves them as they are, and gains nothing
+  idle : {end : ℕ} → EndsBy end ra → EndsBy end rb → base ≡ row_cost c v pa ra ⊕ row_cost c v pb rb → (g : ℕ) → end ≤ g → better_pair best (try_swap_row c v pa pb ra rb base g) ≡ best
+  unfolding try_swap_row
+  idle ea eb q g h =
+      let x = ap (row_cost c v pa) (ends_same ea eb g h) in
+      let y = ap (row_cost c v pb) (ends_same eb ea g h) in
+      let z = (λ i. sub binary64 (add binary64 (x i) (y i)) base) ∙ ap (λ (d : Float). sub binary64 d base) (sym q) in
+      rw (z, nothing_wins base (pair_gain best) s.low)
+
+  ends : {end : ℕ} → EndsBy end ra → EndsBy end rb → base ≡ row_cost c v pa ra ⊕ row_cost c v pb rb → end ≤ k → best ≡ best_swap_row c v pa pb close ra rb base
+  ends ea eb q g = sym (best_stays better_pair (try_swap_row c v pa pb ra rb base) (cut_at close) STARTS k best (λ j l. idle ea eb q j (le_trans g l))) ∙ s.left
+
+-- nothing is tried yet, and then the swap before all scans
+module _ (c : FgoConfig) (v : View) (pa pb : Fold) (close : List Bool) (ra rb : List ℕ) (base : Float) where
+  begun : Tried c v pa pb close ra rb base Stay pa pb 0 0
+  unfolding best_swap_row cuts_of
+  begun = record { within = omega arith; a = begins c v pa ra; b = begins c v pb rb; left = refl; low = start }
+
+  first-tried : (cut : Bool) {xa xb : Float} {first : ScanIndex} → cut ≡ cut_at close 0 → first ≡ scan_at v 0 → length ra ≡ SCANS → length rb ≡ SCANS →
+      (cut_at close 0 ≡ true → xa ≡ row_cost c v pa rb) → (cut_at close 0 ≡ true → xb ≡ row_cost c v pb ra) → Tried c v pa pb close ra rb base (first_swap cut first xa xb base) pa pb 0 1
+  unfolding fold_over measurements
+  first-tried true e f la lb x y = rw f (tries begun (omega arith) la lb (sym e) refl refl (λ i. sub binary64 (add binary64 (x (sym e) i) (y (sym e) i)) base))
+  first-tried false e f la lb x y = skips begun (omega arith) (sym e)
+
+pub is_cut-requires : goal.is_cut-requires
+is_cut-requires c = (omega arith, c.requires.noted)
+
+pub loop-k-init : goal.loop-k-init
+loop-k-init c =
+    let s = c.args in
+    let p = c.requires in
+    let v = view_in s.hall s.dots.now in
+    let first : s.hall.first ≡ scan_at v 0 = λ i. record { 0 = sym (add-zero s.hall.first.0) i } in (
+      rw (c.first_swap-best.ensures, c.lend-sa.ensures, c.lend-sb.ensures)
+          (first-tried s.hall.config v s.pa s.pb s.close.now s.a.now s.b.now s.base _ c.is_cut.ensures first p.fit_a.long p.fit_b.long p.exchanged_a p.exchanged_b),
+      rw (c.lend-sa.ensures, c.lend-sb.ensures) p,
+      p.priced.kept,
+    )
+
+pub is_cut-requires-in-loop-k : goal.is_cut-requires-in-loop-k
+is_cut-requires-in-loop-k c = (omega (arith, c.requires.over_a.within), c.requires.noted)
+
+pub fold_to-sa-requires : goal.fold_to-sa-requires
+fold_to-sa-requires c =
+    let i = c.loop-k.invariant in
+    let p = i.1 in
+    (record { early = p.priced.early; kept = i.2 }, omega (arith, p.over_a.within), until i.0.a p.priced.early p.fit_a)
+
+pub fold_to-sb-requires : goal.fold_to-sb-requires
+fold_to-sb-requires c =
+    let i = c.loop-k.invariant in
+    let p = i.1 in
+    (record { early = p.priced.early; kept = c.fold_to-sa.ensures.logs_kept }, omega (arith, p.over_a.within), until i.0.b p.priced.early p.fit_b)
+
+pub swap_gain-gain-requires : goal.swap_gain-gain-requires
+swap_gain-gain-requires c =
+    let i = c.loop-k.invariant in
+    let p = i.1 in
+    let t : c.loop-k.k ≤ SCANS = omega (arith, p.over_a.within, c.loop-k-test.true) in (
+      record { early = p.priced.early; kept = c.fold_to-sb.ensures.logs_kept },
+      p.end_a,
+      p.end_b,
+      few_on i.0.a (omega (arith, p.fit_a.long)) p.priced.early p.fit_a c.fold_to-sa.ensures.numbers_after,
+      few_on i.0.b (omega (arith, p.fit_b.long)) p.priced.early p.fit_b c.fold_to-sb.ensures.numbers_after,
+    )
+
+pub overflow_add-cut : goal.overflow_add-cut
+overflow_add-cut c = let p = c.requires in omega (arith, p.priced.early, p.over_a.within, c.loop-k-test.true)
+
+pub overflow_add-k : goal.overflow_add-k
+overflow_add-k c = omega (arith, c.requires.over_a.within, c.loop-k-test.true)
+
+pub loop-k-smaller : goal.loop-k-smaller
+loop-k-smaller c = omega arith
+
+pub loop-k-preserved : goal.loop-k-preserved
+loop-k-preserved c =
+    let i = c.loop-k.invariant in
+    let p = i.1 in
+    let e = c.is_cut-in-loop-k.ensures in
+    let t : c.loop-k.k ≤ SCANS = omega (arith, p.over_a.within, c.loop-k-test.true) in
+    ⊎_elim
+    (λ w. rw (w.13, w.14, w.15, w.16, w.17, w.18, w.19, w.12.ensures) (tries i.0 t p.fit_a.long p.fit_b.long (sym e ∙ w.0.taken) w.3.ensures.0 w.6.ensures.0 w.10.ensures.0, p, w.10.ensures.1))
+    (λ w. rw (w.1, w.2, w.3, w.4, w.5, w.6, w.7) (skips i.0 t (sym e ∙ w.0.left), p, i.2))
+    c.if-is_cut.branch
+
+pub returns : goal.returns
+returns c =
+    let i = c.loop-k.invariant in
+    let p = c.requires in
+    let s = c.args in
+    (ends i.0 p.over_a p.over_b i.1.paid c.loop-k-test.false ∙ (λ j. best_swap_row s.hall.config (view_in s.hall s.dots.now) (c.lend-sa.ensures j) (c.lend-sb.ensures j) s.close.now s.a.now s.b.now s.base), i.2)

@@ -1,0 +1,64 @@
+use Rattle.search_rows.proofs.Segments.{over_none, over_turn, over_skip}
+use mathlib.Core.Path.{◌≡◌, sym, ◌∙◌}
+use Prim.Native.Nat.{◌-◌}
+use native.Mathlib.Omega.{arith}
+use mathlib.Core.Bool.{false}
+use mathlib.Core.Logic.{⊎_elim}
+use lib.Dec.{eqb}
+use lib.ListN.{get_or}
+use borrow.Author.Tests.{eq-eqb, ne_eqb}
+use Rattle.search_rows.specs.Moves.{retarget}
+use Rattle.search_rows.proofs.moves.rename_scan.Goals as goal
+
+pub loop-i-init : goal.loop-i-init
+loop-i-init c = (omega arith, omega arith, omega arith, omega arith, sym (over_none (retarget c.args.a.0 c.args.b.0 c.args.t) c.args.from c.args.ids.now))
+
+pub offset_bounds-ids-i : goal.offset_bounds-ids-i
+offset_bounds-ids-i c = omega arith
+
+pub bounds-ids-i : goal.bounds-ids-i
+bounds-ids-i c = omega arith
+
+pub offset_bounds-ids-i-then-x-a : goal.offset_bounds-ids-i-then-x-a
+offset_bounds-ids-i-then-x-a c = omega arith
+
+pub bounds-ids-i-then-x-a : goal.bounds-ids-i-then-x-a
+bounds-ids-i-then-x-a c = omega arith
+
+pub offset_bounds-ids-i-then-x-b : goal.offset_bounds-ids-i-then-x-b
+offset_bounds-ids-i-then-x-b c = omega arith
+
+pub bounds-ids-i-then-x-b : goal.bounds-ids-i-then-x-b
+bounds-ids-i-then-x-b c = omega arith
+
+pub overflow_add-i : goal.overflow_add-i
+overflow_add-i c = omega arith
+
+pub loop-i-smaller : goal.loop-i-smaller
+loop-i-smaller c = omega arith
+
+pub loop-i-preserved : goal.loop-i-preserved
+loop-i-preserved c =
+    let s = c.args in
+    let l = c.loop-i in
+    let a = s.a.0 in
+    let b = s.b.0 in
+    let x = get_or l.ids l.i 0 in
+    let f = retarget a b s.t in
+    let turn = over_turn f s.from l.i s.ids.now (omega arith) (omega arith) l.ids in
+    let skip = over_skip f s.from l.i s.ids.now (omega arith) (omega arith) l.ids l.invariant.4 in
+    let other : (x ≡ a → ⊥) → eqb a x ≡ false = λ n. ne_eqb a x (λ e. n (sym e)) in (
+      omega arith,
+      omega arith,
+      omega arith,
+      omega arith,
+      ⊎_elim
+          (λ w. w.1 ∙ turn s.t.a.0 l.invariant.4 (rw (eq-eqb a x (sym w.0.taken))))
+          (⊎_elim
+          (λ w. w.3 ∙ turn s.t.b.0 l.invariant.4 (rw (other w.0.left, eq-eqb b x (sym w.2.taken))))
+          (λ w. w.3 ∙ skip (rw (other w.0.left, ne_eqb b x (λ e. w.2.left (sym e))))))
+          c.if-x-a.branch,
+    )
+
+pub returns : goal.returns
+returns c = let e : c.loop-i.i ≡ c.args.to = omega arith in rw (sym e) c.loop-i.invariant.4

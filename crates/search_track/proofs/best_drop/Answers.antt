@@ -1,0 +1,74 @@
+use borrow.Author.Tests.{lt-ltb, le-ltb}
+use mathlib.Core.Path.{◌≡◌, refl, sym, ◌∙◌}
+use mathlib.Core.Bool.{true, false}
+use mathlib.Core.List.{List}
+use mathlib.Core.Logic.{⊎_elim}
+use Prim.Native.Nat.{ℕ, ◌+◌, ◌-◌, ◌≤◌, ◌<◌}
+use native.Mathlib.Omega.{arith}
+use lib.ListN.{get_or}
+use lib.Ieee.{Float, nan}
+use Rattle.bounds.specs.Bounds.{SCANS}
+use Rattle.fgo_spec.specs.declared.moves.TrackMove.{TrackMove}
+use Rattle.fgo_spec.specs.declared.moves.TrackMove.TheVariants.{Drop}
+use Rattle.fgo_spec.specs.Searching.{better_track}
+use Rattle.search_rows.specs.Moves.{has_slot}
+use Rattle.search_track.specs.Track.{marks, best_drop_by}
+use Rattle.cost_row.specs.Price.{EndsBy}
+use Rattle.cost_row.proofs.Left.{best_from, best_yes, best_no, best_over}
+use Rattle.search_track.proofs.best_drop.Goals as goal
+
+abbrev by : ℕ → List Float → ℕ → TrackMove
+by first gains k = Drop (record { 0 = first + k }) (get_or gains k nan)
+
+-- what is left from k on gives the best of all
+record Drops (first : ℕ) (gains : List Float) (r : List ℕ) (end : ℕ) (start best : TrackMove) (k : ℕ) : Type 0 where
+  within : k ≤ end
+  left : best_from better_track (by first gains) (has_slot r) SCANS k best ≡ best_drop_by first gains r start
+
+module _ {first : ℕ} {gains : List Float} {r : List ℕ} {end : ℕ} {start best : TrackMove} {k : ℕ} (e : EndsBy end r) (s : Drops first gains r end start best k) where
+  tries : k < end → has_slot r k ≡ true → Drops first gains r end start (better_track best (by first gains k)) (k + 1)
+  tries g t = record { within = omega arith; left = best_yes better_track (by first gains) (has_slot r) SCANS k best (omega (arith, e.within)) t ∙ s.left }
+
+  skips : k < end → has_slot r k ≡ false → Drops first gains r end start best (k + 1)
+  skips g t = record { within = omega arith; left = best_no better_track (by first gains) (has_slot r) SCANS k best (omega (arith, e.within)) t ∙ s.left }
+
+  ends : end ≤ k → best ≡ best_drop_by first gains r start
+  ends g = sym (best_over better_track (by first gains) (has_slot r) SCANS k best (λ j h. le-ltb 0 (get_or r j 0) (omega (arith, e.empty j (omega arith))))) ∙ s.left
+
+pub loop-k-init : goal.loop-k-init
+unfolding best_drop_by marks
+loop-k-init c = record { within = omega arith; left = refl }
+
+pub offset_bounds-row-k : goal.offset_bounds-row-k
+offset_bounds-row-k c = omega (arith, c.requires.1.within)
+
+pub bounds-row-k : goal.bounds-row-k
+bounds-row-k c = let e = c.requires.1 in omega (arith, e.within, e.long)
+
+pub overflow_add-scan : goal.overflow_add-scan
+overflow_add-scan c = let p = c.requires in omega (arith, p.0, p.1.within)
+
+pub offset_bounds-gains-k : goal.offset_bounds-gains-k
+offset_bounds-gains-k c = omega (arith, c.requires.1.within)
+
+pub bounds-gains-k : goal.bounds-gains-k
+bounds-gains-k c = let p = c.requires in omega (arith, p.1.within, p.2)
+
+pub overflow_add-k : goal.overflow_add-k
+overflow_add-k c = omega (arith, c.requires.1.within)
+
+pub loop-k-smaller : goal.loop-k-smaller
+loop-k-smaller c = omega arith
+
+pub loop-k-preserved : goal.loop-k-preserved
+loop-k-preserved c =
+    let i = c.loop-k.invariant in
+    let e = c.requires.1 in
+    let g = c.loop-k-test.true in
+    ⊎_elim
+    (λ w. rw (w.4, w.3.ensures) (tries e i g (lt-ltb _ _ w.0.taken)))
+    (λ w. rw w.1 (skips e i g (le-ltb _ _ w.0.left)))
+    c.if-row-k-gt0.branch
+
+pub returns : goal.returns
+returns c = ends c.requires.1 c.loop-k.invariant c.loop-k-test.false

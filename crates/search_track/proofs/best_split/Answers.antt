@@ -1,0 +1,178 @@
+use borrow.Author.Tests.{lt-ltb, le-ltb}
+use borrow.Author.Count.{below_more}
+use mathlib.Core.Path.{◌≡◌, refl, sym, ap, subst, ◌∙◌}
+use mathlib.Core.Bool.{Bool, true, false, cond}
+use mathlib.Core.List.{List, [], ◌∷◌, map, foldl}
+use mathlib.Core.Logic.{⊎_elim}
+use Prim.Native.Nat.{ℕ, ◌+◌, ◌-◌, ◌≤◌, ◌<◌}
+use native.Mathlib.Omega.{arith}
+use lib.ListN.{get_or, set, drop, length-set}
+use lib.Seq.{get_or-set_same, get_or-set_other}
+use lib.Ieee.{Float, nan, binary64, add, sub}
+use Rattle.bounds.specs.Bounds.{SCANS}
+use Rattle.engine.specs.declared.config.FgoConfig.{FgoConfig}
+use Rattle.cost.specs.declared.Fold.{Fold}
+use Rattle.cost.specs.declared.Fold.TheVariants.{Fresh}
+use Rattle.cost.specs.Cost.{View, measurements, cost, closed}
+use Rattle.fgo_spec.specs.declared.moves.TrackMove.{TrackMove}
+use Rattle.fgo_spec.specs.declared.moves.TrackMove.TheVariants.{Split}
+use Rattle.fgo_spec.specs.Searching.{better_track}
+use Rattle.search_rows.specs.Moves.{has_slot}
+use Rattle.search_track.specs.Track.{marks, try_split_row, best_split_row, better_split, drop_gain, DropGains}
+use Rattle.cost_row.specs.Price.{head_of, on_to, scan_at, view_in, EndsBy}
+use Rattle.cost_row.proofs.Left.{left, left_yes, left_no, left_over}
+use Rattle.cost_row.proofs.Heads.{Along, begins, passes, on_to_lem, taken_on, until, few_on}
+use Rattle.search_track.proofs.best_split.Goals as goal
+
+-- the detections left after the first, of which k on are left
+abbrev after : Bool → List ℕ → List ℕ
+after seen l = drop (cond seen 0 1) l
+
+abbrev best_after : FgoConfig → View → Fold → List ℕ → Float → Bool → ℕ → TrackMove → TrackMove
+best_after c v p r base seen k b = foldl better_track b (map (try_split_row c v p r base) (after seen (left (has_slot r) SCANS k)))
+
+-- the fold stands at the last detection, and what is left from k on gives the best of all; the drops before k are noted
+record Splits (c : FgoConfig) (v : View) (p : Fold) (r : List ℕ) (base : Float) (end : ℕ) (gains : List Float) (best : TrackMove) (fold : Fold) (done : ℕ) (seen : Bool) (k : ℕ) : Type 0 where
+  within : k ≤ end
+  along : Along c v p r k done fold
+  rest : best_after c v p r base seen k best ≡ best_split_row c v p r base
+  drops : DropGains c v p r base k gains
+
+-- the drop of the detection in scan k is noted
+module _ {c : FgoConfig} {v : View} {p : Fold} {r : List ℕ} {base : Float} {k : ℕ} {gains : List Float} (d : DropGains c v p r base k gains) where
+  notes : k < SCANS → {g : Float} → g ≡ drop_gain c v (head_of c v p r k) r k base → DropGains c v p r base (k + 1) (set gains k g)
+  notes h {g} e =
+      record {
+        long = length-set gains k g ∙ d.long;
+        each =
+            below_more (λ j. has_slot r j ≡ true → get_or (set gains k g) j nan ≡ drop_gain c v (head_of c v p r j) r j base) k
+            (λ j l t. get_or-set_other gains k j g nan (λ (q : j ≡ k). omega arith) ∙ d.each j l t)
+            (λ t. get_or-set_same gains k g nan (omega (arith, d.long)) ∙ e);
+      }
+
+  -- there is none
+  passes_on : has_slot r k ≡ false → DropGains c v p r base (k + 1) gains
+  passes_on t =
+      record {
+        long = d.long;
+        each = below_more (λ j. has_slot r j ≡ true → get_or gains j nan ≡ drop_gain c v (head_of c v p r j) r j base) k d.each (λ u. let n : ◌≡◌ {A = ℕ} 0 1 = cc in absurd (omega arith));
+      }
+
+module _ {c : FgoConfig} {v : View} {p : Fold} {r : List ℕ} {base : Float} {end : ℕ} {gains : List Float} {best : TrackMove} {fold : Fold} {done : ℕ} {seen : Bool} {k : ℕ} (e : EndsBy end r) (s : Splits c v p r base end gains best fold done seen k) where
+  at : (l : List ℕ) → left (has_slot r) SCANS k ≡ l → foldl better_track best (map (try_split_row c v p r base) (after seen l)) ≡ best_after c v p r base seen k best
+  at l q = ap (λ (m : List ℕ). foldl better_track best (map (try_split_row c v p r base) (after seen m))) (sym q)
+
+  -- a detection; there is no split before the first
+  tries : k < end → has_slot r k ≡ true → {f : Fold} {b : TrackMove} {g : Float} → f ≡ on_to c v done k r fold → b ≡ better_split c v best seen f r k base → g ≡ drop_gain c v f r k base →
+      Splits c v p r base end (set gains k g) b f k true (k + 1)
+  tries g t {f} ef eb eg =
+      let h : k < SCANS = omega (arith, e.within) in
+      let q = ef ∙ on_to_lem s.along (omega (arith, e.long)) in
+      record {
+        within = omega arith;
+        along = rw ef (taken_on s.along (omega (arith, e.long)));
+        rest = ap (best_after c v p r base true (k + 1)) eb ∙ split seen q ∙ at (k ∷ left (has_slot r) SCANS (k + 1)) (left_yes (has_slot r) SCANS k h t) ∙ s.rest;
+        drops = notes s.drops h (eg ∙ ap (λ (x : Fold). drop_gain c v x r k base) q);
+      }
+    where
+      split : (b : Bool) → f ≡ head_of c v p r k →
+          best_after c v p r base true (k + 1) (better_split c v best b f r k base) ≡ foldl better_track best (map (try_split_row c v p r base) (after b (k ∷ left (has_slot r) SCANS (k + 1))))
+      split true q =
+          unfold try_split_row in
+          ap (λ (x : Fold). best_after c v p r base true (k + 1) (better_track best (Split (scan_at v k) (sub binary64 (add binary64 (closed c x) (cost c Fresh (measurements v k (drop k r)))) base)))) q
+      split false q = refl
+
+  skips : k < end → has_slot r k ≡ false → Splits c v p r base end gains best fold done seen (k + 1)
+  skips g t =
+      record {
+        within = omega arith;
+        along = passes s.along;
+        rest = at (left (has_slot r) SCANS (k + 1)) (left_no (has_slot r) SCANS k (omega (arith, e.within)) t) ∙ s.rest;
+        drops = passes_on s.drops t;
+      }
+
+  ends : end ≤ k → best ≡ best_split_row c v p r base
+  ends g = none seen ∙ at [] (left_over (has_slot r) SCANS k (λ j h. le-ltb 0 (get_or r j 0) (omega (arith, e.empty j (omega arith))))) ∙ s.rest
+    where
+      none : (b : Bool) → best ≡ foldl better_track best (map (try_split_row c v p r base) (after b []))
+      none true = refl
+      none false = refl
+
+  noted : end ≤ k → DropGains c v p r base end gains
+  noted g = record { long = s.drops.long; each = λ j l. s.drops.each j (omega arith) }
+
+pub loop-k-init : goal.loop-k-init
+unfolding best_split_row marks
+loop-k-init c =
+    let s = c.args in
+    let p = c.requires in (
+      record {
+        within = omega arith;
+        along = begins s.hall.config (view_in s.hall s.dots.now) _ s.row.now;
+        rest = refl;
+        drops = record { long = p.3; each = λ j h. absurd (omega arith) };
+      },
+      rw c.lend-fold.ensures p.1,
+      p.0.kept,
+    )
+
+pub offset_bounds-row-k : goal.offset_bounds-row-k
+offset_bounds-row-k c = omega (arith, c.requires.2.within)
+
+pub bounds-row-k : goal.bounds-row-k
+bounds-row-k c = let e = c.requires.2 in omega (arith, e.within, e.long)
+
+pub fold_to-fold-requires : goal.fold_to-fold-requires
+fold_to-fold-requires c =
+    let p = c.requires in
+    let i = c.loop-k.invariant in
+    (record { early = p.0.early; kept = i.2 }, omega (arith, p.2.within), until i.0.along p.0.early i.1)
+
+pub better_split-best-requires : goal.better_split-best-requires
+better_split-best-requires c = let p = c.requires in (record { early = p.0.early; kept = c.fold_to-fold.ensures.logs_kept }, p.2, omega (arith, p.2.within))
+
+pub drop_gain-requires : goal.drop_gain-requires
+drop_gain-requires c =
+    let p = c.requires in
+    let i = c.loop-k.invariant in
+    let h = c.loop-k-test.true in (
+      record { early = p.0.early; kept = c.better_split-best.ensures.logs_kept },
+      p.2,
+      few_on i.0.along (omega (arith, p.2.within, p.2.long)) p.0.early i.1 c.fold_to-fold.ensures.numbers_after,
+      omega (arith, p.2.within),
+    )
+
+pub offset_bounds-gains-k : goal.offset_bounds-gains-k
+offset_bounds-gains-k c = omega (arith, c.requires.2.within)
+
+pub bounds-gains-k : goal.bounds-gains-k
+bounds-gains-k c = omega (arith, c.requires.2.within, c.loop-k.invariant.0.drops.long)
+
+pub overflow_add-k : goal.overflow_add-k
+overflow_add-k c = omega (arith, c.requires.2.within)
+
+pub loop-k-smaller : goal.loop-k-smaller
+loop-k-smaller c = omega arith
+
+pub loop-k-preserved : goal.loop-k-preserved
+loop-k-preserved c =
+    let i = c.loop-k.invariant in
+    let e = c.requires.2 in
+    let g = c.loop-k-test.true in
+    ⊎_elim
+    (λ w. rw (w.10, w.11, w.12, w.13, w.14, w.15, w.16) (tries e i.0 g (lt-ltb _ _ w.0.taken) w.3.ensures.0 w.6.ensures.0 w.9.ensures.0, i.1, w.9.ensures.1))
+    (λ w. rw (w.1, w.2, w.3, w.4, w.5, w.6, w.7) (skips e i.0 g (le-ltb _ _ w.0.left), i.1, i.2))
+    c.if-row-k-gt0.branch
+
+pub returns : goal.returns
+returns c =
+    let i = c.loop-k.invariant in
+    let s = c.args in
+    let e = c.requires.2 in
+    let v = view_in s.hall s.dots.now in (
+      ends e i.0 c.loop-k-test.false ∙ ap (λ (p : Fold). best_split_row s.hall.config v p s.row.now s.base) c.lend-fold.ensures,
+      (
+        subst (λ (p : Fold). DropGains s.hall.config v p s.row.now s.base s.end c.loop-k.gains) c.lend-fold.ensures (noted e i.0 c.loop-k-test.false),
+        i.2,
+      ),
+    )

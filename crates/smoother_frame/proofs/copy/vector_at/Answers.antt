@@ -1,0 +1,16 @@
+use Prim.Native.Nat.{◌-◌}
+use mathlib.Core.Path.{refl, ◌∙◌}
+use lib.Ieee.{nan}
+use Rattle.bounds.specs.Bounds.{VECTOR}
+use Rattle.linalg.proofs.Fill.{begun, next, done}
+use Rattle.smoother_frame.proofs.Copying as Copying
+use Rattle.smoother_frame.proofs.copy.vector_at.Goals as goal
+
+pub loop-n-init : goal.loop-n-init
+loop-n-init c = begun refl
+
+pub loop-n-preserved : goal.loop-n-preserved
+loop-n-preserved c = next c.loop-n.invariant c.loop-n-test.true refl
+
+pub returns : goal.returns
+returns c = done c.loop-n.invariant c.loop-n-test.false ∙ Copying.read c.args.x.now nan c.args.at VECTOR c.requires

@@ -1,0 +1,13 @@
+use Prim.Native.Nat.{◌+◌, ◌-◌}
+use lib.ListN.{get_or}
+use lib.Ieee.{nan}
+use Rattle.bounds.specs.Bounds.{VECTOR}
+use Rattle.linalg.proofs.Fill.{Filled}
+use Rattle.smoother_frame.proofs.Copying as Copying
+use Rattle.smoother_frame.proofs.copy.vector_at.Given as goal
+
+abbrev pub invariant-loop-n : goal.invariant-loop-n
+invariant-loop-n l = Filled (λ k. get_or l.x (l.at + k) nan) VECTOR l.out l.n
+
+abbrev pub decreases-loop-n : goal.decreases-loop-n
+decreases-loop-n l = VECTOR - l.n

@@ -1,0 +1,34 @@
+use Prim.Native.Nat.{ℕ, suc, ◌-◌, ◌≤◌, ◌<◌}
+use mathlib.Core.Path.{◌≡◌, sym, ap, ◌∙◌}
+use mathlib.Core.List.{List}
+use mathlib.Core.Bool.{Bool, true, false, cond}
+use mathlib.Core.Option.{none, some}
+use native.Mathlib.Omega.{arith}
+use lib.Dec.{eqb}
+use borrow.Author.Tests.{eq-eqb, ne_eqb}
+use Rattle.smoother_frame.specs.Frame.{id_word}
+use Rattle.smoother_pass.specs.Pass.{last_at}
+use Rattle.smoother_pass.proofs.pass.find.Goals as goal
+
+step : (id : ℕ) (w : List ℕ) (k : ℕ) → 0 < k → (b : Bool) → eqb (id_word w (k - 1)) id ≡ b → last_at id w k ≡ cond b (some (k - 1)) (last_at id w (k - 1))
+unfolding last_at
+step id w k h b e =
+    let n : k ≡ suc (k - 1) = omega arith in
+    let r : last_at id w (suc (k - 1)) ≡ cond b (some (k - 1)) (last_at id w (k - 1)) = rw e in
+    ap (last_at id w) n ∙ r
+
+ended : (id : ℕ) (w : List ℕ) (k : ℕ) → k ≤ 0 → last_at id w k ≡ none
+unfolding last_at
+ended id w k h = let n : k ≡ 0 = omega arith in rw n
+
+pub loop-k-init : goal.loop-k-init
+loop-k-init c = (omega arith, ap (last_at c.args.id.0 c.args.w.now) c.track_count-k.ensures)
+
+pub returns-then-x-id : goal.returns-then-x-id
+returns-then-x-id c = sym (step _ _ c.loop-k.k (omega arith) true (eq-eqb _ _ (sym c.track_id-x.ensures ∙ c.if-x-id.true))) ∙ c.loop-k.invariant.1
+
+pub loop-k-preserved : goal.loop-k-preserved
+loop-k-preserved c = (omega arith, sym (step _ _ c.loop-k.k (omega arith) false (ne_eqb _ _ (λ e. c.if-x-id.false (c.track_id-x.ensures ∙ e)))) ∙ c.loop-k.invariant.1)
+
+pub returns : goal.returns
+returns c = sym (ended _ _ c.loop-k.k c.loop-k-test.false) ∙ c.loop-k.invariant.1
