@@ -161,8 +161,13 @@ def main():
     changed = 0
     for p in files(root):
         old = open(p, encoding="utf-8").read()
+        # functions of src/ keep their names: there only names that antt alone can spell are turned
+        if p.endswith(".rt"):
+            table_of = {a: b for a, b in turn.items() if "-" in a or a != a.lower()}
+        else:
+            table_of = turn
         comment = "--" if p.endswith(".antt") else "//" if p.endswith(".rt") else ""
-        new = turned(old, turn, comment)
+        new = turned(old, table_of, comment)
         if new != old:
             changed += 1
             open(p, "w", encoding="utf-8").write(new)

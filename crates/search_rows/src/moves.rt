@@ -178,7 +178,7 @@ pub fn apply_track<'a>(
 }
 
 // One more; a number that is counted no further stays.
-fn one_more_lem(n: u64) -> u64
+fn one_more(n: u64) -> u64
     ensures { result ≡ one_more n }
 {
     if n < FULL {
@@ -217,7 +217,7 @@ fn pair_counters(m: PairMove, k: FgoCounters) -> FgoCounters
     match m {
         PairMove::Stay => k,
         PairMove::Swap { cut: _, gain: _ } => FgoCounters {
-            swaps: one_more_lem(k.swaps),
+            swaps: one_more(k.swaps),
             merges: k.merges,
             splits: k.splits,
             drops: k.drops,
@@ -228,7 +228,7 @@ fn pair_counters(m: PairMove, k: FgoCounters) -> FgoCounters
             gain: _,
         } => FgoCounters {
             swaps: k.swaps,
-            merges: one_more_lem(k.merges),
+            merges: one_more(k.merges),
             splits: k.splits,
             drops: k.drops,
         },
@@ -243,14 +243,14 @@ fn track_counters(m: TrackMove, k: FgoCounters) -> FgoCounters
         TrackMove::Split { cut: _, gain: _ } => FgoCounters {
             swaps: k.swaps,
             merges: k.merges,
-            splits: one_more_lem(k.splits),
+            splits: one_more(k.splits),
             drops: k.drops,
         },
         TrackMove::Drop { scan: _, gain: _ } => FgoCounters {
             swaps: k.swaps,
             merges: k.merges,
             splits: k.splits,
-            drops: one_more_lem(k.drops),
+            drops: one_more(k.drops),
         },
     }
 }
@@ -260,7 +260,7 @@ fn next_id(m: TrackMove, n: RefinedId) -> RefinedId
 {
     match m {
         TrackMove::Stay => n,
-        TrackMove::Split { cut: _, gain: _ } => RefinedId(one_more_lem(n.0)),
+        TrackMove::Split { cut: _, gain: _ } => RefinedId(one_more(n.0)),
         TrackMove::Drop { scan: _, gain: _ } => n,
     }
 }
@@ -275,7 +275,7 @@ impl Tally {
         Tally {
             next_id,
             counters,
-            passes: one_more_lem(self.passes),
+            passes: one_more(self.passes),
             moved: false,
         }
     }

@@ -83,7 +83,7 @@ pub fn costs_from(w: &[u64]) -> usize
 }
 
 // How many words the counts ask for.
-pub fn words_long_lem(w: &[u64]) -> usize
+pub fn words_long(w: &[u64]) -> usize
     requires { Counts w.now }
     ensures { result ≡ words_long w.now }
 {
@@ -221,7 +221,7 @@ fn is_exact<'a>(w: &'a [u64], x: &'a [f64]) -> bool
     requires { Counts w.now }
     ensures { result ≡ exact w.now x.now }
 {
-    if w.len() != words_long_lem(w) {
+    if w.len() != words_long(w) {
         return false;
     }
     x.len() == numbers_long(w)

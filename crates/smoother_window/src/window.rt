@@ -77,7 +77,7 @@ fn exact_words(w: &[u64]) -> &[u64]
     requires { Counts w.now × (words_long w.now ≤ length w.now) }
     ensures { (result.now ≡ take (words_long w.now) w.now) × (length result.now ≡ words_long w.now) }
 {
-    let end = frame::words_long_lem(w);
+    let end = frame::words_long(w);
     &w[..end]
 }
 

@@ -1,4 +1,4 @@
 use Rattle.search_rows.proofs.moves.Tally.begin.Goals as goal
 
 pub returns : goal.returns
-returns c = rw c.one_more_lem.ensures
+returns c = rw c.one_more.ensures
