@@ -63,4 +63,4 @@ pub returns : goal.returns
 returns c =
     let v = c.loop-i.invariant in
     let s = c.args in
-    (c.lend.ensures ∙ ends v.0 c.loop-i-test.false ∙ ap (λ (r : Sums). foldl (added s.q) r (measurements (view_of s.first s.dots.now) (s.k + s.begin) (drop s.begin s.slots.now))) c.with-r.ensures, v.2)
+    record { numbers_after = c.lend.ensures ∙ ends v.0 c.loop-i-test.false ∙ ap (λ (r : Sums). foldl (added s.q) r (measurements (view_of s.first s.dots.now) (s.k + s.begin) (drop s.begin s.slots.now))) c.with-r.ensures; logs_kept = v.2 }
