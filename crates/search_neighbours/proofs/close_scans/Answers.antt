@@ -18,6 +18,7 @@ use Rattle.fgo_spec.specs.Searching.{square}
 use Rattle.search_neighbours.specs.declared.Point.{Point}
 use Rattle.search_neighbours.specs.Near.{near_slots, close_slots, close_at, close_scans, any_close, point_at, near_points, close_points, CloseWithin}
 use Rattle.search_rows.proofs.Filled.{map_up_length, map_up_at}
+use Rattle.search_neighbours.proofs.close_scans.Invariants.{Noting}
 use Rattle.search_neighbours.proofs.close_scans.Goals as goal
 
 -- nothing is near what lies at NaN
@@ -36,15 +37,6 @@ near_same q dots (suc i) (suc j) = rw (eqb-suc-zero i, eqb-suc-zero j)
 
 close_same : (q : Float) (dots : List Float) (x y nx ny : ℕ) → close_points q (point_at dots x) (point_at dots y) (point_at dots nx) (point_at dots ny) ≡ close_slots q dots x y nx ny
 close_same q dots x y nx ny = λ i. cond (near_same q dots x y i) true (cond (near_same q dots x ny i) true (near_same q dots nx y i))
-
--- up to scan k the scans are noted, from there on none; x and y are where the detections of the rows in scan k lie
-record Noting (q : Float) (dots : List Float) (a b : List ℕ) (close : List Bool) (found : Bool) (k : ℕ) (x y : Point) : Type 0 where
-  long : length close ≡ SCANS
-  noted : (m : ℕ) → m < k → get_or close m false ≡ close_at q dots a b m
-  left : (m : ℕ) → k ≤ m → get_or close m false ≡ false
-  any : found ≡ any_close close
-  mine : x ≡ point_at dots (get_or a k 0)
-  theirs : y ≡ point_at dots (get_or b k 0)
 
 none_noted : (n m : ℕ) → get_or (replicate n false) m false ≡ false
 none_noted zero m = refl

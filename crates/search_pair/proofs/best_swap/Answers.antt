@@ -20,15 +20,8 @@ use Rattle.search_pair.specs.Pair.{cut_at, cuts_of, try_swap_row, first_swap, be
 use Rattle.cost_row.specs.Price.{row_cost, on_to, scan_at, view_in, EndsBy}
 use Rattle.cost_row.proofs.Left.{best_from, best_yes, best_no, best_stays}
 use Rattle.cost_row.proofs.Heads.{Along, begins, passes, on_to_lem, taken_on, until, crossed-cost, few_on, ends_same}
+use Rattle.search_pair.proofs.best_swap.Invariants.{Tried}
 use Rattle.search_pair.proofs.best_swap.Goals as goal
-
--- the folds stand at the last cut, and what is left from k on gives the best of all
-record Tried (c : FgoConfig) (v : View) (pa pb : Fold) (close : List Bool) (ra rb : List ℕ) (base : Float) (best : PairMove) (fa fb : Fold) (done k : ℕ) : Type 0 where
-  within : k ≤ STARTS
-  a : Along c v pa ra k done fa
-  b : Along c v pb rb k done fb
-  left : best_from better_pair (try_swap_row c v pa pb ra rb base) (cut_at close) STARTS k best ≡ best_swap_row c v pa pb close ra rb base
-  low : le (pair_gain best) nought ≡ true
 
 module _ {c : FgoConfig} {v : View} {pa pb : Fold} {close : List Bool} {ra rb : List ℕ} {base : Float} {best : PairMove} {fa fb : Fold} {done k : ℕ} (s : Tried c v pa pb close ra rb base best fa fb done k) where
   tries : k ≤ SCANS → length ra ≡ SCANS → length rb ≡ SCANS → cut_at close k ≡ true → {ga gb : Fold} {gain : Float} → ga ≡ on_to c v done k ra fa → gb ≡ on_to c v done k rb fb →

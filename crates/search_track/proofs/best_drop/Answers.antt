@@ -15,15 +15,8 @@ use Rattle.search_rows.specs.Moves.{has_slot}
 use Rattle.search_track.specs.Track.{marks, best_drop_by}
 use Rattle.cost_row.specs.Price.{EndsBy}
 use Rattle.cost_row.proofs.Left.{best_from, best_yes, best_no, best_over}
+use Rattle.search_track.proofs.best_drop.Invariants.{Drops, by}
 use Rattle.search_track.proofs.best_drop.Goals as goal
-
-abbrev by : ℕ → List Float → ℕ → TrackMove
-by first gains k = Drop (record { 0 = first + k }) (get_or gains k nan)
-
--- what is left from k on gives the best of all
-record Drops (first : ℕ) (gains : List Float) (r : List ℕ) (end : ℕ) (start best : TrackMove) (k : ℕ) : Type 0 where
-  within : k ≤ end
-  left : best_from better_track (by first gains) (has_slot r) SCANS k best ≡ best_drop_by first gains r start
 
 module _ {first : ℕ} {gains : List Float} {r : List ℕ} {end : ℕ} {start best : TrackMove} {k : ℕ} (e : EndsBy end r) (s : Drops first gains r end start best k) where
   tries : k < end → has_slot r k ≡ true → Drops first gains r end start (better_track best (by first gains k)) (k + 1)

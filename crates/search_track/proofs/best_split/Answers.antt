@@ -22,21 +22,8 @@ use Rattle.search_track.specs.Track.{marks, try_split_row, best_split_row, bette
 use Rattle.cost_row.specs.Price.{head_of, on_to, scan_at, view_in, EndsBy}
 use Rattle.cost_row.proofs.Left.{left, left_yes, left_no, left_over}
 use Rattle.cost_row.proofs.Heads.{Along, begins, passes, on_to_lem, taken_on, until, few_on}
+use Rattle.search_track.proofs.best_split.Invariants.{Splits, after, best_after}
 use Rattle.search_track.proofs.best_split.Goals as goal
-
--- the detections left after the first, of which k on are left
-abbrev after : Bool → List ℕ → List ℕ
-after seen l = drop (cond seen 0 1) l
-
-abbrev best_after : FgoConfig → View → Fold → List ℕ → Float → Bool → ℕ → TrackMove → TrackMove
-best_after c v p r base seen k b = foldl better_track b (map (try_split_row c v p r base) (after seen (left (has_slot r) SCANS k)))
-
--- the fold stands at the last detection, and what is left from k on gives the best of all; the drops before k are noted
-record Splits (c : FgoConfig) (v : View) (p : Fold) (r : List ℕ) (base : Float) (end : ℕ) (gains : List Float) (best : TrackMove) (fold : Fold) (done : ℕ) (seen : Bool) (k : ℕ) : Type 0 where
-  within : k ≤ end
-  along : Along c v p r k done fold
-  rest : best_after c v p r base seen k best ≡ best_split_row c v p r base
-  drops : DropGains c v p r base k gains
 
 -- the drop of the detection in scan k is noted
 module _ {c : FgoConfig} {v : View} {p : Fold} {r : List ℕ} {base : Float} {k : ℕ} {gains : List Float} (d : DropGains c v p r base k gains) where
