@@ -1,7 +1,6 @@
 use mathlib.Core.Path.{◌≡◌, refl, sym, ap, ◌∙◌}
 use mathlib.Core.Bool.{Bool, true, false, cond, ◌||◌, or-true}
 use mathlib.Core.List.{List, [], ◌∷◌}
-use mathlib.Core.Logic.{⊎_elim}
 use Prim.Native.Nat.{ℕ, zero, suc, ◌+◌, ◌-◌, ◌≤◌, ◌<◌}
 use native.Mathlib.Nat.{zero-add}
 use native.Mathlib.Decide.{dec_lt}
@@ -20,6 +19,7 @@ use Rattle.search_neighbours.specs.Near.{near_slots, close_slots, close_at, clos
 use Rattle.search_rows.proofs.Filled.{map_up_length, map_up_at}
 use Rattle.search_neighbours.proofs.close_scans.Invariants.{Noting}
 use Rattle.search_neighbours.proofs.close_scans.Goals as goal
+use Rattle.search_neighbours.proofs.close_scans.Goals.{else-close_points, then-close_points}
 
 -- nothing is near what lies at NaN
 none_near : (q v w : Float) → lt (add binary64 (square (sub binary64 v nan)) w) q ≡ false
@@ -125,10 +125,10 @@ loop-k-preserved c =
     let r = c.close_points.ensures in
     let n = c.point_at-nx.ensures ∙ ap (point_at _) c.slot-in-loop-k.ensures in
     let m = c.point_at-ny.ensures ∙ ap (point_at _) c.slot-in-loop-k-2.ensures in
-    ⊎_elim
-    (λ w. rw (w.1, w.2) (noting-close p.0 o.invariant t n m r w.0.taken))
-    (λ w. rw (w.1, w.2) (noting-apart p.0 o.invariant t n m r w.0.left))
-    c.if-close_points.branch
+    elim c.if-close_points.branch [
+      then-close_points w ↦ rw (w.close-is, w.found-is) (noting-close p.0 o.invariant t n m r w.if-close_points.true)
+    | else-close_points w ↦ rw (w.close-is, w.found-is) (noting-apart p.0 o.invariant t n m r w.if-close_points.false)
+    ]
 
 pub returns : goal.returns
 returns c =
