@@ -15,7 +15,7 @@ use Rattle.fgo_part.proofs.prefix_at.Goals as goal
 pub returns : goal.returns
 unfolding prefix_in
 returns c = let a = c.args in
-    let time : to_z w64 (of_z w64 c.part_last_ns.result) ≡ part_last_ns a.tracks.now a.k = to_z-of_z (record { sfits = c.part_last_ns.type_inv }) ∙ c.part_last_ns.ensures in
+    let time : to_z w64 (of_z w64 c.part_last_ns.result) ≡ part_last_ns a.tracks.now a.k = to_z-of_z {w = w64} (record { sfits = c.part_last_ns.type_inv }) ∙ c.part_last_ns.ensures in
     let same : (i : ℕ) → i < HEIGHTS → get_or c.part_heights.result (0 + i) nan ≡ get_or a.filters.now (part_heights_at a.k + i) nan =
     λ i h. ap (λ (n : ℕ). get_or c.part_heights.result n nan) (zero-add i) ∙ ap (λ (l : List Float). get_or l i nan) c.part_heights.ensures ∙ segment-at a.filters.now (part_heights_at a.k) HEIGHTS nan i h in
     rw (c.part_kf-kf.ensures, c.part_last_frame-last_frame.ensures, time, c.part_count.ensures, c.part_class-class.ensures, c.part_height_count.ensures, heights_same c.part_heights.result a.filters.now 0 (part_heights_at a.k) same (part_height_count a.tracks.now a.k))

@@ -15,15 +15,12 @@ use Rattle.fgo_part.proofs.Parts.{two-over, part_put}
 use borrow.Author.Rules.{rules, length_unmapped}
 use Rattle.fgo_part.proofs.put_prefix.Goals as goal
 
-pub slice_bounds-put_numbers-end-4 : goal.slice_bounds-put_numbers-end-4
-slice_bounds-put_numbers-end-4 c = let h = c.type_inv.p.1.1.1.1.0.1.0.1 in search rules
-
 pub put_numbers-requires-2 : goal.put_numbers-requires-2
 put_numbers-requires-2 c =
     let a = c.args in
     let d : length a.filters.now ≡ FILTERS = search rules in
     let k : a.k < FROZEN = c.requires in
-    let h : length a.p.heights ≡ HEIGHTS = length_unmapped Float a.p.heights HEIGHTS c.type_inv.p.1.1.1.1.0.1.0.1 in
+    let h : length a.p.heights ≡ HEIGHTS = search rules in
     let e = c.put_numbers.ensures in
     let l : length c.put_numbers.new.out ≡ length a.filters.now = ap length e ∙ length_over (FILTER * a.k) _ a.filters.now (omega (arith, ap length c.numbers-ns.ensures)) in
     omega arith
@@ -32,8 +29,8 @@ pub returns : goal.returns
 returns c = let a = c.args in
     let w : length a.tracks.now ≡ PARTS = search rules in
     let d : length a.filters.now ≡ FILTERS = search rules in
-    let high : length a.p.heights ≡ HEIGHTS = length_unmapped Float a.p.heights HEIGHTS c.type_inv.p.1.1.1.1.0.1.0.1 in
-    let f : SFits w64 a.p.last_ns = record { sfits = c.type_inv.p.1.1.0.1 } in
+    let high : length a.p.heights ≡ HEIGHTS = search rules in
+    let f : SFits w64 a.p.last_ns = record { sfits = search rules } in
     let t : c.to_word.result ≡ word a.p.last_ns = c.to_word.ensures ∙ ap (of_z w64) (to_z-of_z f) in
     part_put a.tracks.now a.filters.now a.k c.requires w d a.id.0 a.p high (to_z-of_z f) (rw c.class_word.ensures.0 at c.class_word.ensures.1)
     (c.put_words.ensures ∙ rw (t, c.class_word.ensures.0)) (two-over a.filters.now (FILTER * a.k) (kf_numbers a.p.kf) a.p.heights (search rules) (c.put_numbers.ensures ∙ ap (λ g. over (FILTER * a.k) g a.filters.now) c.numbers-ns.ensures) c.put_numbers-2.ensures)
