@@ -4,7 +4,8 @@
 ghost use Rattle.std.specs.Prelude.{◌≤◌, length};
 ghost use Rattle.console.specs.Input.{Within};
 
-use libc::{STDIN_FILENO, STDOUT_FILENO};
+use std::io;
+use std::io::{Input as StandardInput, Read, Write};
 
 // What reading gives: so many bytes at the front of the buffer, which is full where there may be more; or that the input cannot be read.
 #[derive(Clone, Copy)]
@@ -13,25 +14,44 @@ pub enum Input {
     Unreadable,
 }
 
+// What failed, and the system's words for why, without the error's number.
+fn fail(rt: &impl Eprint, what: &str, error: io::Error) {
+    let mut text = [0u8; 96];
+    let mut rest: &mut [u8] = &mut text;
+    let _ = write!(rest, "{error}");
+    let n = 96usize.saturating_sub(rest.len());
+    let words = match std::str::from_utf8(&text[..n]) {
+        Ok(t) => t,
+        Err(_) => "",
+    };
+    let reason = match words.split_once(" (os error ") {
+        Some((front, _)) => front,
+        None => words,
+    };
+    let _ = eprintln!(rt; "{what}: {reason}");
+}
+
 // One read of standard input, to the front of the buffer: no bytes where it has ended. What fails is said.
-fn read_some(buf: &mut [u8]) -> Input
+fn read_some<R: Read>(rt: &impl Eprint, input: &mut R, buf: &mut [u8]) -> Input
     ensures { Within result buf.new }
 {
-    let got = libc::read(STDIN_FILENO, buf);
-    if got < 0 {
-        os::fail(b"standard input");
-        return Input::Unreadable;
+    match input.read(buf) {
+        Ok(n) => Input::Bytes(n),
+        Err(e) => {
+            fail(rt, "standard input", e);
+            Input::Unreadable
+        }
     }
-    Input::Bytes(io::count(got, buf))
 }
 
 // Standard input, until it ends or the buffer is full.
-pub fn read_all(buf: &mut [u8]) -> Input
+pub fn read_all(rt: &(impl StandardInput + Eprint), buf: &mut [u8]) -> Input
     ensures { Within result buf.new }
 {
+    let mut input = rt.reader();
     let mut n: usize = 0;
     while n < buf.len() {
-        let Input::Bytes(more) = read_some(&mut buf[n..]) else {
+        let Input::Bytes(more) = read_some(rt, &mut input, &mut buf[n..]) else {
             return Input::Unreadable;
         };
         if more == 0 {
@@ -43,15 +63,17 @@ pub fn read_all(buf: &mut [u8]) -> Input
 }
 
 // The first n bytes, written to standard output; whether they were. Nothing is written where a write before has failed, so a failure is said once.
-pub fn write(out: &[u8], n: usize, well: bool) -> bool
+pub fn write(rt: &(impl Print + Eprint), out: &[u8], n: usize, well: bool) -> bool
     requires { n ≤ length out.now }
 {
     if !well {
         return false;
     }
-    if io::write_all(STDOUT_FILENO, &out[..n]) {
-        return true;
+    match rt.write_all(&out[..n]) {
+        Ok(()) => true,
+        Err(e) => {
+            fail(rt, "standard output", e);
+            false
+        }
     }
-    os::fail(b"standard output");
-    false
 }
