@@ -2,7 +2,7 @@
 #![tactic(auto)]
 
 ghost use Rattle.std.specs.Prelude.{◌≤◌, length};
-ghost use Rattle.console.specs.Input.{Within};
+ghost use Rattle.console.specs.Input.{Within, Gives, Exhausts};
 
 use std::io;
 use std::io::{Input as StandardInput, Read, Write};
@@ -31,9 +31,10 @@ fn fail(rt: &impl Eprint, what: &str, error: io::Error) {
     let _ = eprintln!(rt; "{what}: {reason}");
 }
 
-// One read of standard input, to the front of the buffer: no bytes where it has ended. What fails is said.
+// One read, to the front of the buffer: no bytes where the input has ended. What fails is said.
 fn read_some<R: Read>(rt: &impl Eprint, input: &mut R, buf: &mut [u8]) -> Input
-    ensures { Within result buf.new }
+    ensures within { Within result buf.new }
+    ensures gives { Gives (R.remaining input.old) (R.remaining input.new) result buf.new }
 {
     match input.read(buf) {
         Ok(n) => Input::Bytes(n),
@@ -44,14 +45,14 @@ fn read_some<R: Read>(rt: &impl Eprint, input: &mut R, buf: &mut [u8]) -> Input
     }
 }
 
-// Standard input, until it ends or the buffer is full.
-pub fn read_all(rt: &(impl StandardInput + Eprint), buf: &mut [u8]) -> Input
-    ensures { Within result buf.new }
+// What is read until the input ends or the buffer is full.
+pub fn read_from<R: Read>(rt: &impl Eprint, input: &mut R, buf: &mut [u8]) -> Input
+    ensures within { Within result buf.new }
+    ensures exhausts { Exhausts (R.remaining input.old) (R.remaining input.new) result buf.new }
 {
-    let mut input = rt.reader();
     let mut n: usize = 0;
     while n < buf.len() {
-        let Input::Bytes(more) = read_some(rt, &mut input, &mut buf[n..]) else {
+        let Input::Bytes(more) = read_some(rt, input, &mut buf[n..]) else {
             return Input::Unreadable;
         };
         if more == 0 {
@@ -60,6 +61,13 @@ pub fn read_all(rt: &(impl StandardInput + Eprint), buf: &mut [u8]) -> Input
         n += more;
     }
     Input::Bytes(n)
+}
+
+// Standard input, until it ends or the buffer is full.
+pub fn read_all(rt: &(impl StandardInput + Eprint), buf: &mut [u8]) -> Input
+    ensures { Within result buf.new }
+{
+    read_from(rt, &mut rt.reader(), buf)
 }
 
 // The first n bytes, written to standard output; whether they were. Nothing is written where a write before has failed, so a failure is said once.
