@@ -1,19 +1,16 @@
 use Rattle.std.proofs.Common.{◌≡◌, ℕ, suc, ◌+◌, ◌-◌, ◌<◌, ◌≤◌, List, ◌∷◌, length, get_or, pos, sym, refl, ap, ◌∙◌, zero-add, arith}
-use mathlib.Core.List.{foldl, foldl-append}
+use mathlib.Core.List.{[], foldl, foldl-append}
 use lib.Ieee.{Float, nan, binary64, add, div, of_int}
 use Rattle.engine.specs.Body.{rows}
 use Rattle.fgo_spec.specs.Freezing as freezing
 use Rattle.fgo_part.specs.Parts.{cells}
 use Rattle.engine.proofs.Passing.{length-rows}
 use Rattle.fgo_spec.proofs.Rows.{rows-first, rows_more}
+use Rattle.fgo_emit.proofs.mean.Invariants.{summed}
 use Rattle.fgo_emit.proofs.mean.Goals as goal
 
 abbrev height : List Float → ℕ → Float
 height hs i = get_or hs (0 + i) nan
-
--- the sum of the first i heights, oldest first
-abbrev summed : List Float → ℕ → Float
-summed hs i = foldl (add binary64) (height hs 0) (rows (height hs) 1 (i - 1))
 
 more : (hs : List Float) (i : ℕ) → 1 ≤ i → add binary64 (summed hs i) (get_or hs i nan) ≡ summed hs (i + 1)
 more hs i h =

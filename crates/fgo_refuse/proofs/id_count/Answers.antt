@@ -15,11 +15,8 @@ use Rattle.fgo_spec.specs.Refiner.{has_id}
 use Rattle.fgo_spec.proofs.Counting.{bump, count_snoc}
 use Rattle.fgo_state.proofs.Counts.{associations_long, associations_few}
 use Rattle.fgo_state.specs.Memory.{association_in}
+use Rattle.fgo_refuse.proofs.id_count.Invariants.{counted}
 use Rattle.fgo_refuse.proofs.id_count.Goals as goal
-
--- how many of the first j associations have an id
-abbrev counted : Body → ℕ → ℕ
-counted s j = length (keep (λ (a : Association). has_id a.track) (take j (frame_in s).associations))
 
 more : (s : Body) (j : ℕ) (b : Bool) → j < associations_in s → has_id (association_in s j).track ≡ b → counted s (j + 1) ≡ bump b (counted s j)
 more s j b h e =

@@ -9,10 +9,8 @@ use borrow.Author.Tests.{eq-eqb, ne_eqb}
 use Rattle.engine.specs.Body.{rows}
 use Rattle.fgo_spec.specs.Lists.{has}
 use Rattle.fgo_spec.proofs.Rows.{any_here, any_next, any-end}
+use Rattle.fgo_refuse.proofs.is_in.Invariants.{cell}
 use Rattle.fgo_refuse.proofs.is_in.Goals as goal
-
-abbrev cell : List ℕ → ℕ → ℕ
-cell all i = get_or all (0 + i) 0
 
 cell_at : (all : List ℕ) (i : ℕ) → cell all i ≡ get_or all i 0
 cell_at all i = ap (λ (k : ℕ). get_or all k 0) (zero-add i)

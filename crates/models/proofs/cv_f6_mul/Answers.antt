@@ -8,10 +8,8 @@ use Rattle.linalg.proofs.Fill.{next_column, all-columns}
 use Rattle.linalg.specs.Grown.{tabulate}
 use Rattle.linalg.specs.Matrix.{entry, dot, mul, mul_vec}
 use Rattle.models.specs.Motion.{cv_f}
+use Rattle.models.proofs.cv_f6_mul.Invariants.{cell}
 use Rattle.models.proofs.cv_f6_mul.Goals as goal
-
-abbrev cell : Float → List Float → ℕ → ℕ → Float
-cell dt m i j = dot f64 (λ k. entry f64 (cv_f f64 dt) i k) (λ k. entry f64 m k j)
 
 pub loop-j-init : goal.loop-j-init
 unfolding tabulate

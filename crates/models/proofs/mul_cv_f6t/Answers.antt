@@ -9,10 +9,8 @@ use Rattle.linalg.specs.Matrix.{at, entry, vector, dot, mul, mul_vec, transpose}
 use Rattle.linalg.specs.Rows.{row}
 use Rattle.models.proofs.Commute.{dot_comm}
 use Rattle.models.specs.Motion.{cv_f}
+use Rattle.models.proofs.mul_cv_f6t.Invariants.{cell}
 use Rattle.models.proofs.mul_cv_f6t.Goals as goal
-
-abbrev cell : List Float → Float → ℕ → ℕ → Float
-cell m dt i j = dot f64 (λ k. entry f64 m i k) (λ k. entry f64 (transpose f64 (cv_f f64 dt)) k j)
 
 -- row i of the product, as the motion's product with row i
 turned : (m : List Float) (dt : Float) (i : ℕ) → mul_vec f64 (cv_f f64 dt) (row f64 m i) ≡ vector f64 (cell m dt i)

@@ -2,9 +2,9 @@ use Prim.Native.Nat.{◌-◌}
 use native.Mathlib.Omega.{arith}
 use native.Mathlib.Nat.{lt_of_lt_of_le}
 use lib.Pow.{pow_mono}
-use mathlib.Core.Logic.{⊎_elim}
 use Rattle.scalar.proofs.RootDigits.{under, next_one, next_zero, done}
 use Rattle.sqrt.proofs.root_digits.Goals as goal
+use Rattle.sqrt.proofs.root_digits.Goals.{then-d-t, else-d-t}
 
 pub overflow_mul-left : goal.overflow_mul-left
 overflow_mul-left c = omega arith
@@ -46,7 +46,10 @@ pub loop-i-preserved : goal.loop-i-preserved
 loop-i-preserved c =
     let v = c.loop-i.invariant in
     let h = c.loop-i-test.true in
-    ⊎_elim (λ w. rw (w.1, w.2) (next_one v h w.0.taken)) (λ w. rw (w.1, w.2) (next_zero v h w.0.left)) c.if-d-t.branch
+    elim c.if-d-t.branch [
+      then-d-t w ↦ rw (w.root-is, w.rest-is) (next_one v h w.if-d-t.true)
+    | else-d-t w ↦ rw (w.root-is, w.rest-is) (next_zero v h w.if-d-t.false)
+    ]
 
 pub returns : goal.returns
 returns c = let v = c.loop-i.invariant in (done v (omega arith), v.small, lt_of_lt_of_le v.short (pow_mono {j = 53} v.within))

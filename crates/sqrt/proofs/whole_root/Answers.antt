@@ -1,21 +1,18 @@
 use native.Mathlib.Omega.{arith}
-use Rattle.scalar.proofs.RootGuess.{Parts, parts, rest_is, next_is, next_lt}
+use Rattle.scalar.proofs.RootGuess.{parts, rest_is, next_is, next_lt}
 use Rattle.sqrt.proofs.whole_root.Goals as goal
 
-products : (c : tie.After-root-guess) → Parts c.root-guess.result
-products c = parts c.root-guess.result c.root-guess.ensures
-
 pub overflow_mul-high : goal.overflow_mul-high
-overflow_mul-high c = omega (arith, (products c).first)
+overflow_mul-high c = omega (arith, (parts c.root_guess-guess.result c.root_guess-guess.ensures).first)
 
 pub overflow_mul-high-2 : goal.overflow_mul-high-2
-overflow_mul-high-2 c = omega (arith, (products c).first)
+overflow_mul-high-2 c = omega (arith, (parts c.root_guess-guess.result c.root_guess-guess.ensures).first)
 
 pub overflow_mul-middle : goal.overflow_mul-middle
-overflow_mul-middle c = omega (arith, (products c).middle)
+overflow_mul-middle c = omega (arith, (parts c.root_guess-guess.result c.root_guess-guess.ensures).middle)
 
 pub overflow_mul-low : goal.overflow_mul-low
-overflow_mul-low c = omega (arith, (products c).last)
+overflow_mul-low c = omega (arith, (parts c.root_guess-guess.result c.root_guess-guess.ensures).last)
 
 pub returns-then-rest-guess : goal.returns-then-rest-guess
 returns-then-rest-guess c = (rest_is _ _ c.if-high-m.true c.if-middle-d.true c.if-low-e.true, c.if-rest-guess.true, c.root_guess-guess.ensures)

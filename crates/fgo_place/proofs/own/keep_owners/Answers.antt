@@ -10,11 +10,8 @@ use Rattle.fgo_state.specs.Memory.{engine_at, live_in}
 use Rattle.fgo_place.specs.Owning.{kept_owners}
 use Rattle.fgo_place.proofs.Owners.{owning}
 use Rattle.fgo_place.proofs.Compacting.{compacts_none, compacts_more, compacts_same, compacts_all}
+use Rattle.fgo_place.proofs.own.keep_owners.Invariants.{lives}
 use Rattle.fgo_place.proofs.own.keep_owners.Goals as goal
-
--- whether an entry has a live owner
-abbrev lives : List ℕ → List ℕ → ℕ → ℕ → List ℕ → ℕ → ℕ × ℕ → Bool
-lives bodies columns first held tracks frozen o = live_in bodies columns first held tracks frozen o.1
 
 pub loop-k-init : goal.loop-k-init
 loop-k-init c = compacts_none _ _ _

@@ -4,11 +4,12 @@ use Prim.Native.Nat.{ℕ, ◌-◌}
 use lib.Ieee.{Float}
 use Rattle.scalar.specs.F64.{f64}
 use Rattle.linalg.specs.Matrix as Matrix
-use Rattle.linalg.proofs.Fill.{next, done}
+use Rattle.linalg.proofs.Fill.{begun, next, done}
+use Rattle.linalg.proofs.matrix.add6.Invariants.{cell}
 use Rattle.linalg.proofs.matrix.add6.Goals as goal
 
-abbrev cell : List Float → List Float → ℕ → Float
-cell a b k = f64.add (Matrix.at f64 a k) (Matrix.at f64 b k)
+pub loop-n-init : goal.loop-n-init
+loop-n-init c = begun refl
 
 pub loop-n-preserved : goal.loop-n-preserved
 loop-n-preserved c = next c.loop-n.invariant c.loop-n-test.true refl

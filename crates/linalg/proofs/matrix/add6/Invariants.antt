@@ -1,7 +1,14 @@
 use Prim.Native.Nat.{◌-◌}
 use Rattle.linalg.specs.Matrix as Matrix
 use Rattle.linalg.proofs.Fill.{Filled}
+use mathlib.Core.List.{List}
+use Prim.Native.Nat.{ℕ}
+use lib.Ieee.{Float}
+use Rattle.scalar.specs.F64.{f64}
 use Rattle.linalg.proofs.matrix.add6.Given as goal
+
+abbrev pub cell : List Float → List Float → ℕ → Float
+cell a b k = f64.add (Matrix.at f64 a k) (Matrix.at f64 b k)
 
 abbrev pub invariant-loop-n : goal.invariant-loop-n
 invariant-loop-n l = Filled (cell l.a l.b) 36 l.out l.n

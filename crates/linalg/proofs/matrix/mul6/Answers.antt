@@ -4,10 +4,8 @@ use lib.Ieee.{Float}
 use Rattle.scalar.specs.F64.{f64}
 use Rattle.linalg.proofs.Fill.{no_row, next_row, all-rows}
 use Rattle.linalg.specs.Matrix.{entry, dot, mul}
+use Rattle.linalg.proofs.matrix.mul6.Invariants.{cell}
 use Rattle.linalg.proofs.matrix.mul6.Goals as goal
-
-abbrev cell : List Float → List Float → ℕ → ℕ → Float
-cell a b i j = dot f64 (λ k. entry f64 a i k) (λ k. entry f64 b k j)
 
 pub loop-i-init : goal.loop-i-init
 loop-i-init c = no_row f64 _ _ c.sized.ensures

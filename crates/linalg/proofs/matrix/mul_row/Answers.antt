@@ -1,4 +1,4 @@
-use mathlib.Core.List.{◌∷◌}
+use mathlib.Core.List.{[], ◌∷◌}
 use mathlib.Core.Path.{ap, ◌∙◌}
 use Rattle.scalar.specs.F64.{f64}
 use Rattle.linalg.specs.Matrix.{vector}

@@ -1,11 +1,14 @@
-use mathlib.Core.Path.{ap, ◌∙◌}
+use mathlib.Core.Path.{refl, ap, ◌∙◌}
 use Prim.Native.Nat.{◌-◌}
 use Rattle.scalar.specs.F64.{f64}
-use Rattle.linalg.proofs.Fill.{next, done}
+use Rattle.linalg.proofs.Fill.{begun, next, done}
 use Rattle.linalg.specs.Grown.{tabulate}
 use Rattle.linalg.specs.Matrix.{mul_vec}
 use Rattle.linalg.specs.Rows.{dot_of}
 use Rattle.linalg.proofs.matrix.mul_vec6.Goals as goal
+
+pub loop-i-init : goal.loop-i-init
+loop-i-init c = begun refl
 
 pub loop-i-preserved : goal.loop-i-preserved
 loop-i-preserved c =
