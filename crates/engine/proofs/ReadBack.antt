@@ -7,7 +7,7 @@ use native.Mathlib.Omega.{arith}
 use native.Mathlib.Nat.{add-zero, zero-add, one-le-pow}
 use lib.Dec.{T, eqb, lit<}
 use lib.IntN.{ℤ, pos, negsuc}
-use lib.Ieee.{Float, binary64, of_bits, fits}
+use lib.Ieee.{Float, binary64, of_bits}
 use lib.Ieee.Bits.{of_bits-to_bits, to_bits-lt}
 use lib.ListN.{length, get_or, length-append}
 use borrow.Author.Tests.{leb-true, lt-ltb, le-leb, eq-eqb, ne_eqb}

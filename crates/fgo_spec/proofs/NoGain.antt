@@ -82,12 +82,18 @@ less (fin false m e) h =
 -- nothing that is 0 or NaN is below a negative number, and what is below one is 0.0 or below
 no_lower : (y : Float) → Negative y → (lt nan y ≡ false) × (lt (fin false 0 (pos 0)) y ≡ false)
 unfolding lt
+no_lower nan n = elim n [ ]
 no_lower (inf true) infinite = (refl, refl)
+no_lower (inf false) n = elim n [ ]
 no_lower (fin true m e) finite = (refl, refl)
+no_lower (fin false m e) n = elim n [ ]
 
 below_nought : (y : Float) → Negative y → le y nought ≡ true
 unfolding le lt eq of_bits of_fields odd
+below_nought nan n = elim n [ ]
 below_nought (inf true) infinite = refl
+below_nought (inf false) n = elim n [ ]
+below_nought (fin false m e) n = elim n [ ]
 below_nought (fin true m e) finite = go (m * up e * 1) (0 * down e) (zero-mul (down e))
   where
     go : (a b : ℕ) → b ≡ 0 → (ltb 0 (a + b) || (eqb a b && (false || eqb a 0))) ≡ true
@@ -98,10 +104,16 @@ lower : (d y : Float) → Negative y → lt d y ≡ true → le d nought ≡ tru
 unfolding lt
 lower nan y n h = absurd (false≢true h)
 lower (inf true) y n h = below_nought (inf true) infinite
+lower (inf false) nan n h = elim n [ ]
 lower (inf false) (inf true) infinite h = absurd (false≢true h)
+lower (inf false) (inf false) n h = elim n [ ]
+lower (inf false) (fin false m e) n h = elim n [ ]
 lower (inf false) (fin true m e) finite h = absurd (false≢true h)
 lower (fin true m e) y n h = below_nought (fin true m e) finite
+lower (fin false m e) nan n h = elim n [ ]
 lower (fin false m e) (inf true) infinite h = absurd (false≢true h)
+lower (fin false m e) (inf false) n h = elim n [ ]
+lower (fin false m e) (fin false k g) n h = elim n [ ]
 lower (fin false m e) (fin true k g) finite h = absurd (false≢true h)
 
 -- a number less itself is 0.0, or NaN where it is not finite
@@ -120,6 +132,9 @@ itself (fin false m e) = rw (le-ltb (m * up e * down e) (m * up e * down e) (le_
 -- no gain wins against a best of 0.0 or below
 gains_nothing : (d best : Float) → Nothing d → le best nought ≡ true → wins d best ≡ false
 gains_nothing (fin false zero e) best zero_is h = (no_lower (sub binary64 best tiny) (less best h)).1
+gains_nothing (inf s) best n h = elim n [ ]
+gains_nothing (fin false (suc m) e) best n h = elim n [ ]
+gains_nothing (fin true m e) best n h = elim n [ ]
 gains_nothing nan best nan_is h = (no_lower (sub binary64 best tiny) (less best h)).0
 
 -- a number less itself does not

@@ -7,4 +7,4 @@ pub tell-requires : goal.tell-requires
 tell-requires c = (c.requires.0, shown written state_of c.take-t.ensures.ends, c.requires.1)
 
 pub returns : goal.returns
-returns c = (c.tell.ensures.kept, record { given = c.take-t.result; promised = c.take-t.ensures; refiner_is = c.tell.ensures.refiner_is; frame = c.tell.ensures.frame; text_is = c.tell.ensures.text_is })
+returns c = record { kept = c.tell.ensures.kept; answers = record { given = c.take-t.result; promised = c.take-t.ensures; refiner_is = c.tell.ensures.refiner_is; frame = c.tell.ensures.frame; text_is = c.tell.ensures.text_is } }

@@ -10,7 +10,7 @@ pub write_field-requires : goal.write_field-requires
 write_field-requires c = index_in c.args.cell 0 c.in-0.is c.requires
 
 pub returns-in-0 : goal.returns-in-0
-returns-in-0 c = let g = c.args in (c.write_field.ensures ∙ refiner_at g.cell 0 c.in-0.is g.r, memory-at g.cell 0 c.in-0.is (memory g.bodies.now g.columns.now g.owners.now g.tracks.now g.filters.now))
+returns-in-0 c = let g = c.args in record { value = c.write_field.ensures ∙ refiner_at g.cell 0 c.in-0.is g.r; filters_after = memory-at g.cell 0 c.in-0.is (memory g.bodies.now g.columns.now g.owners.now g.tracks.now g.filters.now) }
 
 pub overflow_cast-bodies : goal.overflow_cast-bodies
 overflow_cast-bodies c = let h = byte c.args.cell c.in-1.is c.requires in omega arith
@@ -43,16 +43,16 @@ pub bounds-filters-i : goal.bounds-filters-i
 bounds-filters-i c = index_in c.args.cell 5 (is_five c.args.cell c.in_default.rest.0.0.0.0.1 c.in_default.rest.0.0.0.1 c.in_default.rest.0.0.1 c.in_default.rest.0.1 c.in_default.rest.1 c.requires) c.requires
 
 pub returns-in-1 : goal.returns-in-1
-returns-in-1 c = let g = c.args in let e = c.in-1.is in (refiner_at g.cell 1 e g.r, memory-at g.cell 1 e (memory g.bodies.now g.columns.now g.owners.now g.tracks.now g.filters.now))
+returns-in-1 c = let g = c.args in let e = c.in-1.is in record { value = refiner_at g.cell 1 e g.r; filters_after = memory-at g.cell 1 e (memory g.bodies.now g.columns.now g.owners.now g.tracks.now g.filters.now) }
 
 pub returns-in-2 : goal.returns-in-2
-returns-in-2 c = let g = c.args in let e = c.in-2.is in (refiner_at g.cell 2 e g.r, memory-at g.cell 2 e (memory g.bodies.now g.columns.now g.owners.now g.tracks.now g.filters.now))
+returns-in-2 c = let g = c.args in let e = c.in-2.is in record { value = refiner_at g.cell 2 e g.r; filters_after = memory-at g.cell 2 e (memory g.bodies.now g.columns.now g.owners.now g.tracks.now g.filters.now) }
 
 pub returns-in-3 : goal.returns-in-3
-returns-in-3 c = let g = c.args in let e = c.in-3.is in (refiner_at g.cell 3 e g.r, memory-at g.cell 3 e (memory g.bodies.now g.columns.now g.owners.now g.tracks.now g.filters.now))
+returns-in-3 c = let g = c.args in let e = c.in-3.is in record { value = refiner_at g.cell 3 e g.r; filters_after = memory-at g.cell 3 e (memory g.bodies.now g.columns.now g.owners.now g.tracks.now g.filters.now) }
 
 pub returns-in-4 : goal.returns-in-4
-returns-in-4 c = let g = c.args in let e = c.in-4.is in (refiner_at g.cell 4 e g.r, memory-at g.cell 4 e (memory g.bodies.now g.columns.now g.owners.now g.tracks.now g.filters.now))
+returns-in-4 c = let g = c.args in let e = c.in-4.is in record { value = refiner_at g.cell 4 e g.r; filters_after = memory-at g.cell 4 e (memory g.bodies.now g.columns.now g.owners.now g.tracks.now g.filters.now) }
 
 pub returns-in_default : goal.returns-in_default
-returns-in_default c = let g = c.args in let e = (is_five c.args.cell c.in_default.rest.0.0.0.0.1 c.in_default.rest.0.0.0.1 c.in_default.rest.0.0.1 c.in_default.rest.0.1 c.in_default.rest.1 c.requires) in (refiner_at g.cell 5 e g.r, ap (λ (x : Float). memory g.bodies.now g.columns.now g.owners.now g.tracks.now (set g.filters.now g.cell.index x)) c.from_bits.ensures ∙ memory-at g.cell 5 e (memory g.bodies.now g.columns.now g.owners.now g.tracks.now g.filters.now))
+returns-in_default c = let g = c.args in let e = (is_five c.args.cell c.in_default.rest.0.0.0.0.1 c.in_default.rest.0.0.0.1 c.in_default.rest.0.0.1 c.in_default.rest.0.1 c.in_default.rest.1 c.requires) in record { value = refiner_at g.cell 5 e g.r; filters_after = ap (λ (x : Float). memory g.bodies.now g.columns.now g.owners.now g.tracks.now (set g.filters.now g.cell.index x)) c.from_bits.ensures ∙ memory-at g.cell 5 e (memory g.bodies.now g.columns.now g.owners.now g.tracks.now g.filters.now) }

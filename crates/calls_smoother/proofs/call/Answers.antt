@@ -50,16 +50,16 @@ pub write-smoother-requires : goal.write-smoother-requires
 write-smoother-requires c = (c.requires.0, sane_as c.args.s.now c.in-Write.is c.requires.5)
 
 pub returns-in-Open : goal.returns-in-Open
-returns-in-Open c = (c.open.ensures.fits, opens_by _ _ c.in-Open.is (c.open.ensures.by_index c.args.words.now c.args.numbers.now))
+returns-in-Open c = record { fits = c.open.ensures.fits; smooths = opens_by _ _ c.in-Open.is (c.open.ensures.by_index c.args.words.now c.args.numbers.now) }
 
 pub returns-in-PushLast : goal.returns-in-PushLast
-returns-in-PushLast c = (c.push.ensures.fits, last_by _ _ c.in-PushLast.is c.push.ensures.answers)
+returns-in-PushLast c = record { fits = c.push.ensures.fits; smooths = last_by _ _ c.in-PushLast.is c.push.ensures.answers }
 
 pub returns-in-Push : goal.returns-in-Push
-returns-in-Push c = (c.push-in-Push.ensures.fits, push_by_lem _ _ c.in-Push.is (answers_as (frame_is c.args.s.now c.requires.4 (sane_as c.args.s.now c.in-Push.is c.requires.5) c.read_words.ensures c.read_numbers.ensures) c.push-in-Push.ensures.answers))
+returns-in-Push c = record { fits = c.push-in-Push.ensures.fits; smooths = push_by_lem _ _ c.in-Push.is (answers_as (frame_is c.args.s.now c.requires.4 (sane_as c.args.s.now c.in-Push.is c.requires.5) c.read_words.ensures c.read_numbers.ensures) c.push-in-Push.ensures.answers) }
 
 pub returns-in-Take : goal.returns-in-Take
-returns-in-Take c = (c.take.ensures.fits, take_by _ _ c.in-Take.is c.take.ensures.answers)
+returns-in-Take c = record { fits = c.take.ensures.fits; smooths = take_by _ _ c.in-Take.is c.take.ensures.answers }
 
 pub returns-in-Write : goal.returns-in-Write
-returns-in-Write c = (c.requires.1, write_by _ _ c.in-Write.is (wrote c.in-Write.cell c.write-smoother.ensures.value c.write-smoother.ensures.values_after))
+returns-in-Write c = record { fits = c.requires.1; smooths = write_by _ _ c.in-Write.is (wrote c.in-Write.cell c.write-smoother.ensures.value c.write-smoother.ensures.values_after) }

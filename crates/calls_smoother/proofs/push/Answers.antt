@@ -13,4 +13,4 @@ pub tell-requires : goal.tell-requires
 tell-requires c = (shows c.push-t.ensures, c.requires.2)
 
 pub returns : goal.returns
-returns c = answers_over c.push-t.new.window c.push-t.new.values c.requires.1 c.requires.0 c.push-t.ensures c.tell.ensures
+returns c = let both = answers_over c.push-t.new.window c.push-t.new.values c.requires.1 c.requires.0 c.push-t.ensures c.tell.ensures in record { fits = both.0; answers = both.1 }

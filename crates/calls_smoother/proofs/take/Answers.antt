@@ -13,4 +13,4 @@ pub tell-requires : goal.tell-requires
 tell-requires c = (shows c.take-t.ensures, c.requires.2)
 
 pub returns : goal.returns
-returns c = answers c.requires.1 c.take-t.ensures c.tell.ensures
+returns c = let both = answers c.requires.1 c.take-t.ensures c.tell.ensures in record { fits = both.0; answers = both.1 }

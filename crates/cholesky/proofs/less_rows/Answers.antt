@@ -21,10 +21,8 @@ module _ (l w : List Float) (i p s q : ℕ) where
   more k r r' e f = rw (add-one k) (f ∙ ap (λ r. less_row f64 r (at f64 l (p + k * s)) w (q + k)) e)
 
 -- the number that is read lies in l
-within : (c : tie.After-r invariant-loop decreases-loop) → c.before.before.before.before.args.p + c.before.before.loop.k * c.before.before.before.before.args.s < 36
-within c =
-    let g = c.before.before.before.before.args in
-    omega (arith, suc-mul c.before.before.loop.k g.s, mul-le-mul_right g.s c.before.loop-test.true)
+within : (p k s n : ℕ) → k < n → p + n * s < 36 + s → p + k * s < 36
+within p k s n h r = omega (arith, suc-mul k s, mul-le-mul_right s h)
 
 pub loop-k-init : goal.loop-k-init
 loop-k-init c =
@@ -42,3 +40,15 @@ returns c =
     let g = c.args in
     let e : c.loop-k.k ≡ g.n = omega (arith, c.loop-k.invariant.0) in
     c.loop-k.invariant.1 ∙ ap (less_rows f64 g.l.now g.w.now g.i g.p g.s g.q) e
+
+pub overflow_mul-k : goal.overflow_mul-k
+overflow_mul-k c = omega (arith, within c.args.p c.loop-k.k c.args.s c.args.n c.loop-k-test.true c.requires.1)
+
+pub overflow_add-p : goal.overflow_add-p
+overflow_add-p c = omega (arith, within c.args.p c.loop-k.k c.args.s c.args.n c.loop-k-test.true c.requires.1)
+
+pub offset_bounds-l-p : goal.offset_bounds-l-p
+offset_bounds-l-p c = omega (arith, within c.args.p c.loop-k.k c.args.s c.args.n c.loop-k-test.true c.requires.1)
+
+pub bounds-l-p : goal.bounds-l-p
+bounds-l-p c = omega (arith, within c.args.p c.loop-k.k c.args.s c.args.n c.loop-k-test.true c.requires.1)

@@ -3,4 +3,4 @@ use Rattle.cost.specs.Cost.{closed}
 use Rattle.cost_fold.proofs.cost_of.Goals as goal
 
 pub returns : goal.returns
-returns c = (c.close.ensures ∙ ap (closed _) c.fold_window-s.ensures.numbers_after, c.fold_window-s.ensures.logs_kept)
+returns c = record { value = c.close.ensures ∙ ap (closed _) c.fold_window-s.ensures.numbers_after; logs_kept = c.fold_window-s.ensures.logs_kept }

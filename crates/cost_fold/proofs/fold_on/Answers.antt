@@ -1,6 +1,5 @@
 use mathlib.Core.Path.{refl, ap, ◌∙◌}
 use mathlib.Core.List.{foldl}
-use mathlib.Core.Logic.{⊎_elim}
 use Prim.Native.Nat.{◌+◌, ◌-◌, ◌^◌, ◌<◌}
 use native.Mathlib.Omega.{arith}
 use lib.ListN.{drop}
@@ -8,6 +7,7 @@ use Rattle.cost.specs.declared.Sums.{Sums}
 use Rattle.cost.specs.Cost.{added, measurements, view_of}
 use Rattle.cost_fold.proofs.Steps.{skips, takes, ends, none_skipped}
 use Rattle.cost_fold.proofs.fold_on.Goals as goal
+use Rattle.cost_fold.proofs.fold_on.Goals.{then-code-gt0, else-code-gt0}
 
 pub overflow_add-k : goal.overflow_add-k
 overflow_add-k c = let p = c.requires in omega (arith, p.0.short, p.1)
@@ -54,13 +54,17 @@ loop-i-preserved c =
     let p = c.requires in
     let v = c.loop-i.invariant in
     let t = c.loop-i-test.true in
-    ⊎_elim
-    (λ w. rw (w.4, w.5, w.6, w.3.ensures.0, w.1.ensures) (takes v.0 t w.0.taken (omega (arith, p.0.short, p.0.early)), none_skipped _ _ _ _ (omega arith), w.3.ensures.1))
-    (λ w. rw (w.4, w.5, w.6) (skips v.0 t w.0.left, w.3.ensures ∙ omega arith, v.2))
-    c.if-code-gt0.branch
+    elim c.if-code-gt0.branch [
+      then-code-gt0 w ↦
+        rw (w.logs-is, w.r-is, w.skips-is, w.add-r.ensures.0, w.dot_at.ensures)
+        (takes v.0 t w.if-code-gt0.true (omega (arith, p.0.short, p.0.early)), none_skipped _ _ _ _ (omega arith), w.add-r.ensures.1)
+    | else-code-gt0 w ↦
+        rw (w.logs-is, w.r-is, w.skips-is)
+        (skips v.0 t w.if-code-gt0.false, w.skipped-skips-else-code-gt0.ensures ∙ omega arith, v.2)
+    ]
 
 pub returns : goal.returns
 returns c =
     let v = c.loop-i.invariant in
     let s = c.args in
-    (c.lend.ensures ∙ ends v.0 c.loop-i-test.false ∙ ap (λ (r : Sums). foldl (added s.q) r (measurements (view_of s.first s.dots.now) (s.k + s.begin) (drop s.begin s.slots.now))) c.with-r.ensures, v.2)
+    record { numbers_after = c.lend.ensures ∙ ends v.0 c.loop-i-test.false ∙ ap (λ (r : Sums). foldl (added s.q) r (measurements (view_of s.first s.dots.now) (s.k + s.begin) (drop s.begin s.slots.now))) c.with-r.ensures; logs_kept = v.2 }

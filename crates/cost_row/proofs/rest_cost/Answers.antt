@@ -9,11 +9,11 @@ pub returns-then-end-k : goal.returns-then-end-k
 returns-then-end-k c =
     let s = c.args in
     let p = c.requires in
-    (c.close.ensures ∙ rest_gone p.1 s.hall.config (view_in s.hall s.dots.now) (fold_in s.f s.numbers.now) s.k c.if-end-k.true, p.0.kept)
+    record { value = c.close.ensures ∙ rest_gone p.1 s.hall.config (view_in s.hall s.dots.now) (fold_in s.f s.numbers.now) s.k c.if-end-k.true; logs_kept = p.0.kept }
 
 pub returns : goal.returns
 returns c =
     let s = c.args in
     let p = c.requires in
     let h = c.if-end-k.false in
-    (c.cost_of.ensures.value ∙ rest-held p.1 s.hall.config (view_in s.hall s.dots.now) (fold_in s.f s.numbers.now) s.k (omega arith), c.cost_of.ensures.logs_kept)
+    record { value = c.cost_of.ensures.value ∙ rest-held p.1 s.hall.config (view_in s.hall s.dots.now) (fold_in s.f s.numbers.now) s.k (omega arith); logs_kept = c.cost_of.ensures.logs_kept }

@@ -1,4 +1,4 @@
-use Rattle.std.proofs.Common.{◌-◌, ◌∷◌, ap, ◌∙◌, arith}
+use Rattle.std.proofs.Common.{[], ◌-◌, ◌∷◌, ap, ◌∙◌, arith}
 use Rattle.digest.specs.Digest.{fnv1a}
 use Rattle.digest.proofs.Mixing.{hashed_none, hashed_next, hashed_all, bytes_are}
 use Rattle.digest.proofs.hash_bytes.Goals as goal

@@ -1,4 +1,4 @@
-use Rattle.std.proofs.Common.{◌-◌, ◌∷◌, length}
+use Rattle.std.proofs.Common.{[], ◌-◌, ◌∷◌, length}
 use Rattle.digest.proofs.Mixing.{Hashed}
 use Rattle.digest.proofs.hash_bytes.Given as goal
 

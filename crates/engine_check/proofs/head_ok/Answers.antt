@@ -2,7 +2,7 @@ use mathlib.Core.Path.{sym, ◌∙◌}
 use mathlib.Core.Bool.{true≢false}
 use native.Mathlib.Omega.{arith}
 use lib.ListN.{length}
-use borrow.Author.Tests.{eq-eqb, ne_eqb, le-leb, not-true, not-false}
+use borrow.Author.Tests.{eq-eqb, ne_eqb, le-leb}
 use Rattle.bounds.specs.Bounds.{ENGINES}
 use Rattle.engine.specs.Body.{layout_of, track_count, observation_count, association_count, head_ok}
 use Rattle.engine.proofs.Bytes.{signed_passed}
@@ -36,14 +36,14 @@ pub zeros_ok-requires : goal.zeros_ok-requires
 zeros_ok-requires c = omega (arith, c.header_size.ensures, c.if-s-header_size.false)
 
 pub returns-then-not-zeros_ok : goal.returns-then-not-zeros_ok
-returns-then-not-zeros_ok c = never _ (λ h. true≢false (sym (sized (layout_of c.args.kind) c.args.s.now h).zeros ∙ sym c.zeros_ok.ensures ∙ not-true _ c.if-not-zeros_ok.true))
+returns-then-not-zeros_ok c = never _ (λ h. true≢false (sym (sized (layout_of c.args.kind) c.args.s.now h).zeros ∙ sym c.zeros_ok.ensures ∙ c.if-not-zeros_ok.true))
 
 pub i64_at-requires : goal.i64_at-requires
 i64_at-requires c = omega (arith, head_long c.args.kind, c.header_size.ensures, c.if-s-header_size.false)
 
 pub returns-then-not-time_ok : goal.returns-then-not-time_ok
-returns-then-not-time_ok c = never _ (λ h. true≢false (sym (sized (layout_of c.args.kind) c.args.s.now h).time ∙ sym (rw (c.i64_at.ensures, signed_passed c.args.s.now 8 c.type_inv.s) at c.time_ok.ensures) ∙ not-true _ c.if-not-time_ok.true))
+returns-then-not-time_ok c = never _ (λ h. true≢false (sym (sized (layout_of c.args.kind) c.args.s.now h).time ∙ sym (rw (c.i64_at.ensures, signed_passed c.args.s.now 8 c.type_inv.s) at c.time_ok.ensures) ∙ c.if-not-time_ok.true))
 
 pub returns : goal.returns
 unfolding head_ok
-returns c = rw (le-leb (layout_of c.args.kind).head (length c.args.s.now) (omega (arith, c.header_size.ensures, c.if-s-header_size.false)), code_tested _ c.code_refusal.ensures ∙ eq-eqb _ 0 c.if-code_refusal-ne0.false, le-leb (track_count (layout_of c.args.kind) c.args.s.now) ENGINES (omega (arith, c.track_count-tracks.ensures, c.if-tracks-gt-ENGINES.false)), le-leb (observation_count (layout_of c.args.kind) c.args.s.now) (layout_of c.args.kind).observations (omega (arith, c.observations_most.ensures, c.observation_count.ensures, c.if-observations_most-observation_count.false)), le-leb (association_count (layout_of c.args.kind) c.args.s.now) (layout_of c.args.kind).associations (omega (arith, c.associations_most.ensures, c.association_count.ensures, c.if-associations_most-association_count.false)), le-leb _ _ (rw (c.sensors_most.ensures, c.track_count-tracks.ensures, c.sensor_count.ensures) at c.if-sensors_most-sensor_count.false), sym c.zeros_ok.ensures ∙ not-false _ c.if-not-zeros_ok.false, sym (rw (c.i64_at.ensures, signed_passed c.args.s.now 8 c.type_inv.s) at c.time_ok.ensures) ∙ not-false _ c.if-not-time_ok.false, c.size_of.ensures)
+returns c = rw (le-leb (layout_of c.args.kind).head (length c.args.s.now) (omega (arith, c.header_size.ensures, c.if-s-header_size.false)), code_tested _ c.code_refusal.ensures ∙ eq-eqb _ 0 c.if-code_refusal-ne0.false, le-leb (track_count (layout_of c.args.kind) c.args.s.now) ENGINES (omega (arith, c.track_count-tracks.ensures, c.if-tracks-gt-ENGINES.false)), le-leb (observation_count (layout_of c.args.kind) c.args.s.now) (layout_of c.args.kind).observations (omega (arith, c.observations_most.ensures, c.observation_count.ensures, c.if-observations_most-observation_count.false)), le-leb (association_count (layout_of c.args.kind) c.args.s.now) (layout_of c.args.kind).associations (omega (arith, c.associations_most.ensures, c.association_count.ensures, c.if-associations_most-association_count.false)), le-leb _ _ (rw (c.sensors_most.ensures, c.track_count-tracks.ensures, c.sensor_count.ensures) at c.if-sensors_most-sensor_count.false), sym c.zeros_ok.ensures ∙ c.if-not-zeros_ok.false, sym (rw (c.i64_at.ensures, signed_passed c.args.s.now 8 c.type_inv.s) at c.time_ok.ensures) ∙ c.if-not-time_ok.false, c.size_of.ensures)

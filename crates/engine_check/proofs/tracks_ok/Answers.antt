@@ -2,7 +2,6 @@ use Prim.Native.Nat.{◌-◌}
 use mathlib.Core.Path.{◌≡◌, sym, ◌∙◌}
 use mathlib.Core.Bool.{true}
 use native.Mathlib.Omega.{arith}
-use borrow.Author.Tests.{not-true, not-false}
 use Rattle.engine.specs.Body.{track_ok}
 use Rattle.engine.proofs.Every.{all_none, all_more, all-less}
 use Rattle.engine_check.proofs.tracks_ok.Goals as goal
@@ -20,7 +19,7 @@ pub track_ok-requires : goal.track_ok-requires
 track_ok-requires c = omega arith
 
 pub returns-then-not-track_ok : goal.returns-then-not-track_ok
-returns-then-not-track_ok c = sym (all-less _ c.loop-i.i c.args.n (omega arith) (sym c.track_ok.ensures ∙ not-true _ c.if-not-track_ok.true))
+returns-then-not-track_ok c = sym (all-less _ c.loop-i.i c.args.n (omega arith) (sym c.track_ok.ensures ∙ c.if-not-track_ok.true))
 
 pub overflow_add-i : goal.overflow_add-i
 overflow_add-i c = omega arith
@@ -29,7 +28,7 @@ pub loop-i-smaller : goal.loop-i-smaller
 loop-i-smaller c = omega arith
 
 pub loop-i-preserved : goal.loop-i-preserved
-loop-i-preserved c = (omega arith, all_more _ c.loop-i.i c.loop-i.invariant.1 (sym c.track_ok.ensures ∙ not-false _ c.if-not-track_ok.false))
+loop-i-preserved c = (omega arith, all_more _ c.loop-i.i c.loop-i.invariant.1 (sym c.track_ok.ensures ∙ c.if-not-track_ok.false))
 
 pub returns : goal.returns
 returns c = let e : c.loop-i.i ≡ c.args.n = omega arith in sym (rw e at c.loop-i.invariant.1)

@@ -2,7 +2,6 @@ use Prim.Native.Nat.{◌-◌}
 use native.Mathlib.Omega.{arith}
 use mathlib.Core.Path.{◌≡◌, sym, ◌∙◌}
 use mathlib.Core.Bool.{true}
-use borrow.Author.Tests.{not-true, not-false}
 use Rattle.engine.specs.Body.{body, associations_in}
 use Rattle.engine.proofs.Every.{all_none, all_more, all-less}
 use Rattle.fgo_rule.specs.Tests.{id_ok, column_in}
@@ -16,7 +15,7 @@ id_ok-requires c = (c.requires, omega (arith, c.loop-j-test.true, c.association_
 
 pub returns-then-not-id_ok : goal.returns-then-not-id_ok
 unfolding column_in
-returns-then-not-id_ok c = sym (all-less _ c.loop-j.j _ (omega (arith, c.loop-j-test.true, c.association_count.ensures)) (sym c.id_ok.ensures ∙ not-true _ c.if-not-id_ok.true))
+returns-then-not-id_ok c = sym (all-less _ c.loop-j.j _ (omega (arith, c.loop-j-test.true, c.association_count.ensures)) (sym c.id_ok.ensures ∙ c.if-not-id_ok.true))
 
 pub overflow_add-j : goal.overflow_add-j
 overflow_add-j c = omega (arith, c.loop-j-test.true, c.association_count.ensures)
@@ -25,7 +24,7 @@ pub loop-j-smaller : goal.loop-j-smaller
 loop-j-smaller c = omega (arith, c.loop-j-test.true, c.association_count.ensures)
 
 pub loop-j-preserved : goal.loop-j-preserved
-loop-j-preserved c = (omega (arith, c.loop-j-test.true, c.association_count.ensures), all_more _ c.loop-j.j c.loop-j.invariant.1 (sym c.id_ok.ensures ∙ not-false _ c.if-not-id_ok.false))
+loop-j-preserved c = (omega (arith, c.loop-j-test.true, c.association_count.ensures), all_more _ c.loop-j.j c.loop-j.invariant.1 (sym c.id_ok.ensures ∙ c.if-not-id_ok.false))
 
 pub returns : goal.returns
 unfolding column_in

@@ -2,7 +2,6 @@ use Prim.Native.Nat.{◌-◌}
 use native.Mathlib.Omega.{arith}
 use mathlib.Core.Path.{◌≡◌, sym, ap, ◌∙◌}
 use mathlib.Core.Bool.{true}
-use borrow.Author.Tests.{not-true, not-false}
 use Rattle.engine.proofs.Every.{all_none, all_more, all-less}
 use Rattle.fgo_state.specs.Memory.{live_in}
 use Rattle.fgo_rule.specs.Tests.{entry_ok, entries_ok}
@@ -17,7 +16,7 @@ is_distinct-requires c = (c.requires.2, c.loop-k-test.true)
 
 pub returns-then-not-is_distinct : goal.returns-then-not-is_distinct
 unfolding entry_ok entries_ok
-returns-then-not-is_distinct c = sym (all-less _ c.loop-k.k c.args.r.owned c.loop-k-test.true (sym (failed _ _ (sym c.is_distinct.ensures ∙ not-true _ c.if-not-is_distinct.true))))
+returns-then-not-is_distinct c = sym (all-less _ c.loop-k.k c.args.r.owned c.loop-k-test.true (sym (failed _ _ (sym c.is_distinct.ensures ∙ c.if-not-is_distinct.true))))
 
 pub owner_at-x-requires : goal.owner_at-x-requires
 owner_at-x-requires c = omega (arith, c.loop-k-test.true, c.requires.2)
@@ -27,7 +26,7 @@ is_live-requires c = (c.requires.0, c.requires.1)
 
 pub returns-then-not-is_live : goal.returns-then-not-is_live
 unfolding entry_ok entries_ok
-returns-then-not-is_live c = sym (all-less _ c.loop-k.k c.args.r.owned c.loop-k-test.true (sym (passed _ (sym c.is_distinct.ensures ∙ not-false _ c.if-not-is_distinct.false) (sym (sym (c.is_live.ensures ∙ ap (live_in _ _ _ _ _ _) c.owner_at-x.ensures) ∙ not-true _ c.if-not-is_live.true)))))
+returns-then-not-is_live c = sym (all-less _ c.loop-k.k c.args.r.owned c.loop-k-test.true (sym (passed _ (sym c.is_distinct.ensures ∙ c.if-not-is_distinct.false) (sym (sym (c.is_live.ensures ∙ ap (live_in _ _ _ _ _ _) c.owner_at-x.ensures) ∙ c.if-not-is_live.true)))))
 
 pub overflow_add-k : goal.overflow_add-k
 overflow_add-k c = omega (arith, c.loop-k-test.true, c.requires.2)
@@ -37,7 +36,7 @@ loop-k-smaller c = omega (arith, c.loop-k-test.true)
 
 pub loop-k-preserved : goal.loop-k-preserved
 unfolding entry_ok
-loop-k-preserved c = (omega (arith, c.loop-k-test.true), all_more _ c.loop-k.k c.loop-k.invariant.1 (sym (passed _ (sym c.is_distinct.ensures ∙ not-false _ c.if-not-is_distinct.false) (sym (sym (c.is_live.ensures ∙ ap (live_in _ _ _ _ _ _) c.owner_at-x.ensures) ∙ not-false _ c.if-not-is_live.false)))))
+loop-k-preserved c = (omega (arith, c.loop-k-test.true), all_more _ c.loop-k.k c.loop-k.invariant.1 (sym (passed _ (sym c.is_distinct.ensures ∙ c.if-not-is_distinct.false) (sym (sym (c.is_live.ensures ∙ ap (live_in _ _ _ _ _ _) c.owner_at-x.ensures) ∙ c.if-not-is_live.false)))))
 
 pub returns : goal.returns
 unfolding entries_ok

@@ -3,7 +3,6 @@ use native.Mathlib.Numerals.{add-one}
 use native.Mathlib.Omega.{arith}
 use mathlib.Core.Path.{◌≡◌, refl, sym, ap, ◌∙◌}
 use mathlib.Core.Bool.{true}
-use borrow.Author.Tests.{not-true, not-false}
 use Rattle.engine.proofs.Every.{all_none, all_more, all-less}
 use Rattle.fgo_rule.specs.Tests.{id_before, parts_ok}
 use Rattle.fgo_rule.proofs.parts_ok.Goals as goal
@@ -17,7 +16,7 @@ part_ok-requires c = (omega arith, c.loop-k.invariant.1)
 
 pub returns-then-not-part_ok : goal.returns-then-not-part_ok
 unfolding parts_ok
-returns-then-not-part_ok c = sym (all-less _ c.loop-k.k c.args.frozen (omega arith) (sym c.part_ok.ensures ∙ not-true _ c.if-not-part_ok.true))
+returns-then-not-part_ok c = sym (all-less _ c.loop-k.k c.args.frozen (omega arith) (sym c.part_ok.ensures ∙ c.if-not-part_ok.true))
 
 pub part_id-before-requires : goal.part_id-before-requires
 part_id-before-requires c = omega arith
@@ -30,7 +29,7 @@ loop-k-smaller c = omega arith
 
 pub loop-k-preserved : goal.loop-k-preserved
 unfolding parts_ok
-loop-k-preserved c = (omega arith, c.part_id-before.ensures ∙ sym (ap (id_before c.args.tracks.now) (add-one c.loop-k.k)), all_more _ c.loop-k.k c.loop-k.invariant.2 (sym c.part_ok.ensures ∙ not-false _ c.if-not-part_ok.false))
+loop-k-preserved c = (omega arith, c.part_id-before.ensures ∙ sym (ap (id_before c.args.tracks.now) (add-one c.loop-k.k)), all_more _ c.loop-k.k c.loop-k.invariant.2 (sym c.part_ok.ensures ∙ c.if-not-part_ok.false))
 
 pub returns : goal.returns
 returns c = let e : c.loop-k.k ≡ c.args.frozen = omega arith in sym (rw e at c.loop-k.invariant.2)

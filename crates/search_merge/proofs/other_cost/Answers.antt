@@ -10,4 +10,4 @@ returns-then-o-eq0 c =
     let p = c.requires in
     let none = sym (ap (λ (o : Overlap). o.mine) p.0.lie) ∙ c.if-o-eq0.true in
     let row = merged_other s.a.now s.b.now (p.0.mine.long ∙ sym p.0.theirs.long) none in
-    (p.1 c.if-o-eq0.true ∙ sym (ap (row_cost s.hall.config (view_in s.hall s.dots.now) s.p) row), p.0.priced.kept)
+    record { value = p.1 c.if-o-eq0.true ∙ sym (ap (row_cost s.hall.config (view_in s.hall s.dots.now) s.p) row); logs_kept = p.0.priced.kept }

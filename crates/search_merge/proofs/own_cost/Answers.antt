@@ -9,4 +9,4 @@ returns-then-o-eq0 c =
     let s = c.args in
     let p = c.requires in
     let none = sym (ap (λ (o : Overlap). o.theirs) p.0.lie) ∙ c.if-o-eq0.true in
-    (p.1 ∙ sym (ap (row_cost s.hall.config (view_in s.hall s.dots.now) s.p) (merged_own s.a.now s.b.now none)), p.0.priced.kept)
+    record { value = p.1 ∙ sym (ap (row_cost s.hall.config (view_in s.hall s.dots.now) s.p) (merged_own s.a.now s.b.now none)); logs_kept = p.0.priced.kept }

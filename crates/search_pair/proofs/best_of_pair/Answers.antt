@@ -80,4 +80,4 @@ returns c =
     let v = view_in s.hall s.dots.now in
     let base = s.ca ⊕ s.cb in
     let first = c.better_merge-best.ensures.value ∙ ap (better_merge s.hall.config v s.x s.pa s.a.now s.b.now base) c.best_swap-swap.ensures.value in
-    (c.better_merge.ensures.value ∙ ap (better_merge s.hall.config v s.y s.pb s.b.now s.a.now base) first, c.better_merge.ensures.logs_kept)
+    record { value = c.better_merge.ensures.value ∙ ap (better_merge s.hall.config v s.y s.pb s.b.now s.a.now base) first; logs_kept = c.better_merge.ensures.logs_kept }

@@ -150,4 +150,4 @@ returns c =
     let i = c.loop-k.invariant in
     let p = c.requires in
     let s = c.args in
-    (ends i.0 p.over_a p.over_b i.1.paid c.loop-k-test.false ∙ (λ j. best_swap_row s.hall.config (view_in s.hall s.dots.now) (c.lend-sa.ensures j) (c.lend-sb.ensures j) s.close.now s.a.now s.b.now s.base), i.2)
+    record { value = ends i.0 p.over_a p.over_b i.1.paid c.loop-k-test.false ∙ (λ j. best_swap_row s.hall.config (view_in s.hall s.dots.now) (c.lend-sa.ensures j) (c.lend-sb.ensures j) s.close.now s.a.now s.b.now s.base); logs_kept = i.2 }

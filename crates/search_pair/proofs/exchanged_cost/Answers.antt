@@ -3,4 +3,4 @@ use mathlib.Core.Bool.{false≢true}
 use Rattle.search_pair.proofs.exchanged_cost.Goals as goal
 
 pub returns : goal.returns
-returns c = ((λ t. absurd (false≢true (sym c.if-asked.false ∙ t))), c.requires.0.kept)
+returns c = record { value = (λ t. absurd (false≢true (sym c.if-asked.false ∙ t))); logs_kept = c.requires.0.kept }

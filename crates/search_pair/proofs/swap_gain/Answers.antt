@@ -5,4 +5,4 @@ pub returns : goal.returns
 returns c =
     let x = c.rest_cost-x.ensures.value in
     let y = c.rest_cost-y.ensures.value in
-    ((λ i. sub binary64 (add binary64 (x i) (y i)) c.args.base), c.rest_cost-y.ensures.logs_kept)
+    record { value = (λ i. sub binary64 (add binary64 (x i) (y i)) c.args.base); logs_kept = c.rest_cost-y.ensures.logs_kept }

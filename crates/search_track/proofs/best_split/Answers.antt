@@ -169,10 +169,10 @@ returns c =
     let i = c.loop-k.invariant in
     let s = c.args in
     let e = c.requires.2 in
-    let v = view_in s.hall s.dots.now in (
+    let v = view_in s.hall s.dots.now in let both = (
       ends e i.0 c.loop-k-test.false ∙ ap (λ (p : Fold). best_split_row s.hall.config v p s.row.now s.base) c.lend-fold.ensures,
       (
         subst (λ (p : Fold). DropGains s.hall.config v p s.row.now s.base s.end c.loop-k.gains) c.lend-fold.ensures (noted e i.0 c.loop-k-test.false),
         i.2,
       ),
-    )
+    ) in record { value = both.0; drop_gains = both.1; logs_kept = both.2 }

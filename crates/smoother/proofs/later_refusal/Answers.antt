@@ -1,31 +1,30 @@
 use mathlib.Core.Path.{sym, ◌∙◌}
-use borrow.Author.Tests.{not-true, not-false}
 use Rattle.smoother.specs.Promise.{later_refusal}
 use Rattle.smoother.proofs.Refusals.{bounds, fitting}
 use Rattle.smoother.proofs.later_refusal.Goals as goal
 
 pub returns-then-not-bounded : goal.returns-then-not-bounded
 unfolding later_refusal
-returns-then-not-bounded c = rw (sym c.bounded.ensures ∙ not-true _ c.if-not-bounded.true)
+returns-then-not-bounded c = rw (sym c.bounded.ensures ∙ c.if-not-bounded.true)
 
 pub window_fits-requires : goal.window_fits-requires
-window_fits-requires c = bounds c.args.s.config (sym c.bounded.ensures ∙ not-false _ c.if-not-bounded.false)
+window_fits-requires c = bounds c.args.s.config (sym c.bounded.ensures ∙ c.if-not-bounded.false)
 
 pub returns-then-not-window_fits : goal.returns-then-not-window_fits
 unfolding later_refusal
-returns-then-not-window_fits c = rw (sym c.bounded.ensures ∙ not-false _ c.if-not-bounded.false, sym c.window_fits.ensures ∙ not-true _ c.if-not-window_fits.true)
+returns-then-not-window_fits c = rw (sym c.bounded.ensures ∙ c.if-not-bounded.false, sym c.window_fits.ensures ∙ c.if-not-window_fits.true)
 
 pub rule_ok-requires : goal.rule_ok-requires
-rule_ok-requires c = let g = c.args in fitting g.s g.win.now g.nums.now (sym c.bounded.ensures ∙ not-false _ c.if-not-bounded.false) (sym c.window_fits.ensures ∙ not-false _ c.if-not-window_fits.false)
+rule_ok-requires c = let g = c.args in fitting g.s g.win.now g.nums.now (sym c.bounded.ensures ∙ c.if-not-bounded.false) (sym c.window_fits.ensures ∙ c.if-not-window_fits.false)
 
 pub returns-then-not-rule_ok : goal.returns-then-not-rule_ok
 unfolding later_refusal
-returns-then-not-rule_ok c = rw (sym c.bounded.ensures ∙ not-false _ c.if-not-bounded.false, sym c.window_fits.ensures ∙ not-false _ c.if-not-window_fits.false, sym c.rule_ok.ensures ∙ not-true _ c.if-not-rule_ok.true)
+returns-then-not-rule_ok c = rw (sym c.bounded.ensures ∙ c.if-not-bounded.false, sym c.window_fits.ensures ∙ c.if-not-window_fits.false, sym c.rule_ok.ensures ∙ c.if-not-rule_ok.true)
 
 pub returns-then-is_roomy : goal.returns-then-is_roomy
 unfolding later_refusal
-returns-then-is_roomy c = rw (sym c.bounded.ensures ∙ not-false _ c.if-not-bounded.false, sym c.window_fits.ensures ∙ not-false _ c.if-not-window_fits.false, sym c.rule_ok.ensures ∙ not-false _ c.if-not-rule_ok.false, sym c.is_roomy.ensures ∙ c.if-is_roomy.true)
+returns-then-is_roomy c = rw (sym c.bounded.ensures ∙ c.if-not-bounded.false, sym c.window_fits.ensures ∙ c.if-not-window_fits.false, sym c.rule_ok.ensures ∙ c.if-not-rule_ok.false, sym c.is_roomy.ensures ∙ c.if-is_roomy.true)
 
 pub returns-else-is_roomy : goal.returns-else-is_roomy
 unfolding later_refusal
-returns-else-is_roomy c = rw (sym c.bounded.ensures ∙ not-false _ c.if-not-bounded.false, sym c.window_fits.ensures ∙ not-false _ c.if-not-window_fits.false, sym c.rule_ok.ensures ∙ not-false _ c.if-not-rule_ok.false, sym c.is_roomy.ensures ∙ c.if-is_roomy.false)
+returns-else-is_roomy c = rw (sym c.bounded.ensures ∙ c.if-not-bounded.false, sym c.window_fits.ensures ∙ c.if-not-window_fits.false, sym c.rule_ok.ensures ∙ c.if-not-rule_ok.false, sym c.is_roomy.ensures ∙ c.if-is_roomy.false)

@@ -1,5 +1,4 @@
 use mathlib.Core.Path.{sym, ◌∙◌}
-use borrow.Author.Tests.{not-true, not-false}
 use Rattle.smoother_window.specs.Config.{legal}
 use Rattle.smoother.specs.Smoother.{open_refusal}
 use Rattle.smoother.proofs.Refusals.{bounds}
@@ -7,19 +6,19 @@ use Rattle.smoother.proofs.open_refusal.Goals as goal
 
 pub returns-then-not-bounded : goal.returns-then-not-bounded
 unfolding open_refusal legal
-returns-then-not-bounded c = rw (sym c.bounded.ensures ∙ not-true _ c.if-not-bounded.true)
+returns-then-not-bounded c = rw (sym c.bounded.ensures ∙ c.if-not-bounded.true)
 
 pub returns-then-not-is_finite : goal.returns-then-not-is_finite
 unfolding open_refusal legal
-returns-then-not-is_finite c = rw (sym c.bounded.ensures ∙ not-false _ c.if-not-bounded.false, sym c.is_finite.ensures ∙ not-true _ c.if-not-is_finite.true)
+returns-then-not-is_finite c = rw (sym c.bounded.ensures ∙ c.if-not-bounded.false, sym c.is_finite.ensures ∙ c.if-not-is_finite.true)
 
 pub window_fits-requires : goal.window_fits-requires
-window_fits-requires c = bounds c.args.c (sym c.bounded.ensures ∙ not-false _ c.if-not-bounded.false)
+window_fits-requires c = bounds c.args.c (sym c.bounded.ensures ∙ c.if-not-bounded.false)
 
 pub returns-then-window_fits : goal.returns-then-window_fits
 unfolding open_refusal legal
-returns-then-window_fits c = rw (sym c.bounded.ensures ∙ not-false _ c.if-not-bounded.false, sym c.is_finite.ensures ∙ not-false _ c.if-not-is_finite.false, sym c.window_fits.ensures ∙ c.if-window_fits.true)
+returns-then-window_fits c = rw (sym c.bounded.ensures ∙ c.if-not-bounded.false, sym c.is_finite.ensures ∙ c.if-not-is_finite.false, sym c.window_fits.ensures ∙ c.if-window_fits.true)
 
 pub returns-else-window_fits : goal.returns-else-window_fits
 unfolding open_refusal legal
-returns-else-window_fits c = rw (sym c.bounded.ensures ∙ not-false _ c.if-not-bounded.false, sym c.is_finite.ensures ∙ not-false _ c.if-not-is_finite.false, sym c.window_fits.ensures ∙ c.if-window_fits.false)
+returns-else-window_fits c = rw (sym c.bounded.ensures ∙ c.if-not-bounded.false, sym c.is_finite.ensures ∙ c.if-not-is_finite.false, sym c.window_fits.ensures ∙ c.if-window_fits.false)

@@ -16,4 +16,4 @@ pub returns : goal.returns
 returns c =
     let a : length c.call-t.new.words ≡ length (take c.args.d.words c.args.words.now) = search rules in
     let b : length c.call-t.new.numbers ≡ length (take c.args.d.numbers c.args.numbers.now) = search rules in
-    (c.call-t.ensures.fits, smoother_called c.args.d c.args.words.now c.args.numbers.now c.requires.lends.0 _ _ a b _ _ _ _ _ _ _ _ c.call-t.ensures.smooths)
+    record { fits = c.call-t.ensures.fits; calls_smoother = smoother_called c.args.d c.args.words.now c.args.numbers.now c.requires.lends.0 _ _ a b _ _ _ _ _ _ _ _ c.call-t.ensures.smooths }

@@ -13,7 +13,7 @@ pub print_step-p-requires : goal.print_step-p-requires
 print_step-p-requires c =
     let h = c.loop-i.invariant.0 in
     let t = c.push_one-t.ensures in
-    ((carries_text h c.requires.0, t.shown, t.counted), h.serves)
+    record { in_bounds = (carries_text h c.requires.0, t.shown, t.counted); serves = h.serves }
 
 pub overflow_add-i : goal.overflow_add-i
 overflow_add-i c = record { fits = omega (arith, c.loop-i-test.true, c.ranges.n.fits) }
@@ -45,4 +45,4 @@ pub shape_of-out : goal.shape_of-out
 shape_of-out c = c.loop-i.invariant.0.text
 
 pub returns : goal.returns
-returns c = (c.loop-i.invariant.0.serves, pushing_done _ _ _ _ c.loop-i.invariant.1 c.loop-i-test.false)
+returns c = record { serves = c.loop-i.invariant.0.serves; leads = pushing_done _ _ _ _ c.loop-i.invariant.1 c.loop-i-test.false }

@@ -13,7 +13,7 @@ pub print_step-p-requires : goal.print_step-p-requires
 print_step-p-requires c =
     let h = c.loop-p.invariant.0 in
     let t = c.take_one-t.ensures.steps in
-    ((carries_text h c.requires.in_bounds.0, t.shown, t.counted), h.serves)
+    record { in_bounds = (carries_text h c.requires.in_bounds.0, t.shown, t.counted); serves = h.serves }
 
 pub loop-p-smaller : goal.loop-p-smaller
 loop-p-smaller c =
@@ -46,4 +46,4 @@ pub shape_of-out : goal.shape_of-out
 shape_of-out c = c.loop-p.invariant.0.text
 
 pub returns : goal.returns
-returns c = (c.loop-p.invariant.0.serves, taking_done _ _ c.loop-p.invariant.1 (omega (arith, c.loop-p-test.false)))
+returns c = record { serves = c.loop-p.invariant.0.serves; takes_all = taking_done _ _ c.loop-p.invariant.1 (omega (arith, c.loop-p-test.false)) }

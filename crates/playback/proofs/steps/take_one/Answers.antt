@@ -8,4 +8,4 @@ returns c =
     let m = memory a.bodies.now a.columns.now a.owners.now a.tracks.now a.filters.now in
     let room = c.requires in
     let h = c.take.ensures in
-    (take_steps a.r m room h, fewer a.r m room h)
+    record { steps = take_steps a.r m room h; fewer = fewer a.r m room h }

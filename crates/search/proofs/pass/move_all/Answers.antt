@@ -8,7 +8,4 @@ pub returns : goal.returns
 returns c =
     let s = c.args in
     let e = scene_of s.hall s.starts.now s.dots.now s.tracks.now s.filters.now in
-    let v = c.visit_tracks-tally.ensures in (
-      (λ is b. let w = c.sweep_pairs-t.ensures.0 is b in (v.0 ∙ ap (visit e (take s.n s.table.now)) w.0, pass_leaves c.requires.1 w.1 v.1 v.2)),
-      v.1.kept,
-    )
+    let v = c.visit_tracks-tally.ensures in record { fact = (λ is b. let w = c.sweep_pairs-t.ensures.0 is b in (v.0 ∙ ap (visit e (take s.n s.table.now)) w.0, pass_leaves c.requires.1 w.1 v.1 v.2)); logs_kept = v.1.kept }

@@ -12,7 +12,7 @@ pub loop-left-init : goal.loop-left-init
 loop-left-init c = ran_none (record { left = left_none refl c.requires.1 refl refl; rows_long = length-replicate {A = ℕ} ROWS 0; due_long = refl; kept = kept_none })
 
 pub returns-then-not-t : goal.returns-then-not-t
-returns-then-not-t c = let o = c.loop-left in (ran_still o.invariant c.loop-left-test.true (not-true o.t.moved c.if-not-t.true), o.invariant.tables.left.all)
+returns-then-not-t c = let o = c.loop-left in record { result_after = ran_still o.invariant c.loop-left-test.true (not-true o.t.moved c.if-not-t.true); ids_len = o.invariant.tables.left.all }
 
 pub run_pass-p-requires : goal.run_pass-p-requires
 run_pass-p-requires c = (c.requires.0, c.loop-left.invariant.tables)
@@ -30,4 +30,4 @@ loop-left-preserved c =
     ran_more o.invariant c.loop-left-test.true (not-false o.t.moved c.if-not-t.false) r.0 r.1
 
 pub returns : goal.returns
-returns c = let o = c.loop-left.invariant in (ran_all o (omega arith), o.tables.left.all)
+returns c = let o = c.loop-left.invariant in record { result_after = ran_all o (omega arith); ids_len = o.tables.left.all }

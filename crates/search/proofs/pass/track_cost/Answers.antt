@@ -22,4 +22,4 @@ pub returns : goal.returns
 returns c =
     let s = c.args in
     let e = scene_of s.hall s.starts.now s.dots.now s.tracks.now s.filters.now in
-    (c.row_cost.ensures.value ∙ row_costs e s.ids.now s.x.0 c.fill_row.ensures c.fold_from-p.ensures, c.row_cost.ensures.logs_kept)
+    record { result_value = c.row_cost.ensures.value ∙ row_costs e s.ids.now s.x.0 c.fill_row.ensures c.fold_from-p.ensures; logs_kept = c.row_cost.ensures.logs_kept }

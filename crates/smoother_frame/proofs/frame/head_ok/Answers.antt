@@ -1,7 +1,6 @@
 use mathlib.Core.Path.{sym, ap, ◌∙◌}
 use mathlib.Core.Bool.{true≢false}
 use native.Mathlib.Omega.{arith}
-use borrow.Author.Tests.{not-true, not-false}
 use Rattle.engine.specs.Body.{time_ok}
 use Rattle.engine.proofs.Every.{never}
 use Rattle.smoother_frame.proofs.WellFormed.{headed, head_left, time_passed}
@@ -11,7 +10,7 @@ pub returns-then-w-lt-HEAD : goal.returns-then-w-lt-HEAD
 returns-then-w-lt-HEAD c = never _ (λ h. let d = headed _ _ h in omega arith)
 
 pub returns-then-not-time_ok : goal.returns-then-not-time_ok
-returns-then-not-time_ok c = never _ (λ h. true≢false (sym (headed _ _ h).timed ∙ sym (c.time_ok.ensures ∙ ap time_ok (time_passed c.args.w.now c.type_inv.w c.time_of.ensures)) ∙ not-true _ c.if-not-time_ok.true))
+returns-then-not-time_ok c = never _ (λ h. true≢false (sym (headed _ _ h).timed ∙ sym (c.time_ok.ensures ∙ ap time_ok (time_passed c.args.w.now c.type_inv.w c.time_of.ensures)) ∙ c.if-not-time_ok.true))
 
 pub returns-then-w-gt2 : goal.returns-then-w-gt2
 returns-then-w-gt2 c = never _ (λ h. let d = headed _ _ h in omega arith)
@@ -26,4 +25,4 @@ pub returns-then-sensor_count-gt-SENSORS : goal.returns-then-sensor_count-gt-SEN
 returns-then-sensor_count-gt-SENSORS c = never _ (λ h. let d = headed _ _ h in omega arith)
 
 pub returns : goal.returns
-returns c = let w = c.args.w.now in sym (head_left _ w (record { long = omega arith; timed = sym (c.time_ok.ensures ∙ ap time_ok (time_passed w c.type_inv.w c.time_of.ensures)) ∙ not-false _ c.if-not-time_ok.false; mode = omega arith; tracks = omega arith; associations = omega arith; sensors = omega arith }))
+returns c = let w = c.args.w.now in sym (head_left _ w (record { long = omega arith; timed = sym (c.time_ok.ensures ∙ ap time_ok (time_passed w c.type_inv.w c.time_of.ensures)) ∙ c.if-not-time_ok.false; mode = omega arith; tracks = omega arith; associations = omega arith; sensors = omega arith }))

@@ -1,7 +1,7 @@
 use mathlib.Core.Bool.{true}
 use mathlib.Core.Path.{◌≡◌, sym, ap, ◌∙◌}
 use lib.Ieee.{Float}
-use borrow.Author.Tests.{not-true, not-false}
+use borrow.Author.Tests.{not-true}
 use Rattle.scalar.specs.F64.{f64}
 use Rattle.rts.specs.declared.Step.{Step}
 use Rattle.rts.specs.declared.Step.TheVariants.{Smoothed, Skipped, Failed}
@@ -19,10 +19,10 @@ pub returns-then-not-ok : goal.returns-then-not-ok
 returns-then-not-ok c = rw (not-true c.args.later.ok c.if-not-ok.true)
 
 pub returns-in-Smoothed : goal.returns-in-Smoothed
-returns-in-Smoothed c = let g = c.args in taken g.q g.dt (estimate_of g.a) g.later Smoothed (not-false _ c.if-not-ok.false) c.in-Smoothed.is c.back-step.ensures
+returns-in-Smoothed c = let g = c.args in taken g.q g.dt (estimate_of g.a) g.later Smoothed (c.if-not-ok.false) c.in-Smoothed.is c.back-step.ensures
 
 pub returns-in-Skipped : goal.returns-in-Skipped
-returns-in-Skipped c = let g = c.args in taken g.q g.dt (estimate_of g.a) g.later Skipped (not-false _ c.if-not-ok.false) c.in-Skipped.is c.back-step.ensures
+returns-in-Skipped c = let g = c.args in taken g.q g.dt (estimate_of g.a) g.later Skipped (c.if-not-ok.false) c.in-Skipped.is c.back-step.ensures
 
 pub returns-in-Failed : goal.returns-in-Failed
-returns-in-Failed c = let g = c.args in taken g.q g.dt (estimate_of g.a) g.later Failed (not-false _ c.if-not-ok.false) c.in-Failed.is c.back-step.ensures
+returns-in-Failed c = let g = c.args in taken g.q g.dt (estimate_of g.a) g.later Failed (c.if-not-ok.false) c.in-Failed.is c.back-step.ensures

@@ -1,7 +1,6 @@
 use mathlib.Core.Path.{sym, ap, ◌∙◌}
 use native.Mathlib.Omega.{arith}
 use lib.ListN.{length, take}
-use borrow.Author.Tests.{not-true, not-false}
 use Rattle.smoother_frame.specs.Frame.{frame, words_long, numbers_long, head_ok, well_formed}
 use Rattle.smoother_frame.proofs.WellFormed.{headed, counts}
 use Rattle.smoother_window.specs.Config.{most}
@@ -10,13 +9,13 @@ use Rattle.smoother_window.proofs.Forms.{malformed}
 use Rattle.smoother_window.proofs.window.slot_formed.Goals as goal
 
 pub returns-then-not-head_ok : goal.returns-then-not-head_ok
-returns-then-not-head_ok c = let g = c.args in let e = c.slot_words-w.ensures.0 in sym (malformed g.s g.win.now g.nums.now g.k (omega (arith, ap length e, c.slot_words-w.ensures.1)) (ap (head_ok (most g.s.config)) (sym e) ∙ sym c.head_ok.ensures ∙ not-true _ c.if-not-head_ok.true))
+returns-then-not-head_ok c = let g = c.args in let e = c.slot_words-w.ensures.0 in sym (malformed g.s g.win.now g.nums.now g.k (omega (arith, ap length e, c.slot_words-w.ensures.1)) (ap (head_ok (most g.s.config)) (sym e) ∙ sym c.head_ok.ensures ∙ c.if-not-head_ok.true))
 
 pub exact_words-requires : goal.exact_words-requires
-exact_words-requires c = let d = headed _ _ (sym c.head_ok.ensures ∙ not-false _ c.if-not-head_ok.false) in (counts _ _ c.requires.0.tracks d, omega (arith, c.slot_words-w.ensures.1, c.requires.0.tracks, d))
+exact_words-requires c = let d = headed _ _ (sym c.head_ok.ensures ∙ c.if-not-head_ok.false) in (counts _ _ c.requires.0.tracks d, omega (arith, c.slot_words-w.ensures.1, c.requires.0.tracks, d))
 
 pub exact_numbers-requires : goal.exact_numbers-requires
-exact_numbers-requires c = let d = headed _ _ (sym c.head_ok.ensures ∙ not-false _ c.if-not-head_ok.false) in (counts _ _ c.requires.0.tracks d, omega (arith, c.slot_numbers-x.ensures.1, c.requires.0.tracks, d))
+exact_numbers-requires c = let d = headed _ _ (sym c.head_ok.ensures ∙ c.if-not-head_ok.false) in (counts _ _ c.requires.0.tracks d, omega (arith, c.slot_numbers-x.ensures.1, c.requires.0.tracks, d))
 
 pub returns : goal.returns
 unfolding words_in numbers_in
