@@ -1,10 +1,10 @@
-use Prim.Native.Nat.{◌-◌, ◌<◌}
+use Prim.Native.Nat.{◌<◌}
 use native.Mathlib.Omega.{arith}
 use mathlib.Core.Path.{◌∙◌}
-use mathlib.Core.Logic.{⊎_elim}
 use Rattle.engine.specs.Body.{body, associations_in}
 use Rattle.fgo_state.proofs.GatheringScan.{numbers_none, numbers-room, numbers-held, numbers-clutter, numbers-all}
 use Rattle.fgo_state.proofs.gather.dot_scan.Goals as goal
+use Rattle.fgo_state.proofs.gather.dot_scan.Goals.{then-id_at-gt0, else-id_at-gt0}
 
 pub loop-j-init : goal.loop-j-init
 loop-j-init c = numbers_none _ _ _ _ _ _
@@ -43,10 +43,10 @@ loop-j-preserved c =
     let l = c.loop-j-test.true in
     let few : v.j < associations_in (body a.kind a.s.now) = omega arith in
     let i = c.id_at.ensures in
-    ⊎_elim
-    (λ w. numbers-held _ _ _ _ _ _ c.requires.1 v.invariant few i w.0.taken (w.5 ∙ w.2.ensures) w.6)
-    (λ w. numbers-clutter _ _ _ _ _ _ c.requires.1 v.invariant few i (omega (arith, w.0.left)) w.1 w.2)
-    c.if-id_at-gt0.branch
+    elim c.if-id_at-gt0.branch [
+      | then-id_at-gt0 w ↦ numbers-held _ _ _ _ _ _ c.requires.1 v.invariant few i w.if-id_at-gt0.true (w.dots-is ∙ w.put_dot.ensures) w.p-is
+      | else-id_at-gt0 w ↦ numbers-clutter _ _ _ _ _ _ c.requires.1 v.invariant few i (omega (arith, w.if-id_at-gt0.false)) w.dots-is w.p-is
+    ]
 
 pub shape_of-dots : goal.shape_of-dots
 shape_of-dots c = c.loop-j.invariant.numbers.long

@@ -1,4 +1,4 @@
-use Prim.Native.Nat.{ℕ, ◌+◌, ◌-◌, ◌≤◌, ◌<◌}
+use Prim.Native.Nat.{ℕ, ◌+◌, ◌≤◌, ◌<◌}
 use native.Mathlib.Nat.{eq-or-lt_of_le}
 use native.Mathlib.Omega.{arith}
 use mathlib.Core.Path.{◌≡◌, refl, ap, ◌∙◌}
@@ -7,14 +7,8 @@ use mathlib.Core.Logic.{⊎_elim}
 use lib.ListN.{length, get_or, set, length-set}
 use lib.Seq.{get_or-set_same, get_or-set_other}
 use Rattle.bounds.specs.Bounds.{STARTS}
+use Rattle.fgo_state.proofs.gather.fill_starts.Invariants.{Fills}
 use Rattle.fgo_state.proofs.gather.fill_starts.Goals as goal
-
--- the places from o to before k are set
-record Fills (o k p : ℕ) (ts ts' : List ℕ) : Type 0 where
-  from : o ≤ k
-  long : length ts' ≡ STARTS
-  before : (i : ℕ) → i < o → get_or ts' i 0 ≡ get_or ts i 0
-  beyond : (i : ℕ) → o ≤ i → i < k → get_or ts' i 0 ≡ p
 
 fills-more : {o k p : ℕ} {ts ts' : List ℕ} → Fills o k p ts ts' → k < length ts' → Fills o (k + 1) p ts (set ts' k p)
 fills-more {o} {k} {p} {ts} {ts'} f h =

@@ -1,9 +1,9 @@
-use Prim.Native.Nat.{◌-◌, ◌<◌}
+use Prim.Native.Nat.{◌<◌}
 use native.Mathlib.Omega.{arith}
-use mathlib.Core.Logic.{⊎_elim}
 use Rattle.engine.specs.Body.{body, associations_in}
 use Rattle.fgo_state.proofs.GatheringScan.{gathers_none, gathers_room, gathers_held, gathers_clutter, gathers_all}
 use Rattle.fgo_state.proofs.gather.gather_scan.Goals as goal
+use Rattle.fgo_state.proofs.gather.gather_scan.Goals.{then-id-gt0, else-id-gt0}
 
 pub loop-j-init : goal.loop-j-init
 loop-j-init c = gathers_none _ _ _ _ _ _
@@ -72,10 +72,10 @@ loop-j-preserved c =
     let l = c.loop-j-test.true in
     let few : v.j < associations_in (body a.kind a.s.now) = omega arith in
     let i = c.id_at-id.ensures in
-    ⊎_elim
-    (λ w. gathers_held _ _ _ _ _ _ c.requires v.invariant few i w.0.taken (w.1.ensures c.requires.passes) w.2 w.3 w.4)
-    (λ w. gathers_clutter _ _ _ _ _ _ c.requires v.invariant few i (omega (arith, w.0.left)) w.1 w.2 w.3)
-    c.if-id-gt0.branch
+    elim c.if-id-gt0.branch [
+      | then-id-gt0 w ↦ gathers_held _ _ _ _ _ _ c.requires v.invariant few i w.if-id-gt0.true (w.engine_of.ensures c.requires.passes) w.ids-is w.engines-is w.p-is
+      | else-id-gt0 w ↦ gathers_clutter _ _ _ _ _ _ c.requires v.invariant few i (omega (arith, w.if-id-gt0.false)) w.ids-is w.engines-is w.p-is
+    ]
 
 pub shape_of-ids : goal.shape_of-ids
 shape_of-ids c = c.loop-j.invariant.ids.long

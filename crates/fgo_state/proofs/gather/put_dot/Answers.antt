@@ -1,5 +1,6 @@
 use mathlib.Core.Path.{◌≡◌, ap, ◌∙◌}
 use lib.ListN.{get_or}
+use mir.Syntax.{w64}
 use mir.Facts.{to_z-of_z}
 use Rattle.scalar.specs.Scalar.{seconds_of}
 use Rattle.engine.specs.declared.types.Association.{Association}
@@ -18,5 +19,5 @@ returns c =
     let h = c.requires.0 in
     let o : c.observation-d.result ≡ get_or f.observations (association_in b a.j).index.0 no_observation =
     c.observation-d.ensures.1 h ∙ ap (λ (x : Association). get_or f.observations x.index.0 no_observation) (c.association-a.ensures.1 h) in
-    let t : c.seconds-t.result ≡ seconds_of f.time = c.seconds-t.ensures ∙ ap seconds_of (to_z-of_z (record { sfits = c.time_of.type_inv }) ∙ c.time_of.ensures.1 h) in
+    let t : c.seconds-t.result ≡ seconds_of f.time = c.seconds-t.ensures ∙ ap seconds_of (to_z-of_z {w = w64} (record { sfits = c.time_of.type_inv }) ∙ c.time_of.ensures.1 h) in
     c.put_numbers.ensures ∙ rw (o, t, c.position_variance.ensures)

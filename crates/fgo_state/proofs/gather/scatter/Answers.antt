@@ -1,6 +1,6 @@
-use Prim.Native.Nat.{◌-◌}
 use native.Mathlib.Omega.{arith}
 use mathlib.Core.Path.{◌≡◌}
+use borrow.Author.Rules.{rules}
 use Rattle.fgo_state.proofs.ScatteringHeld.{scatters_held_none, scatters_held_fits, scatters_held_more, scatters_held_all}
 use Rattle.fgo_state.proofs.gather.scatter.Goals as goal
 
@@ -13,7 +13,7 @@ overflow_add-n c = omega (arith, c.requires.early, c.loop-k-test.true)
 pub scatter_scan-p-requires : goal.scatter_scan-p-requires
 scatter_scan-p-requires c =
     let f = scatters_held_fits _ _ _ _ c.requires c.loop-k.invariant.1 c.loop-k-test.true c.count_of-m.ensures in
-    (f.0, f.1, c.scatter_scan-arg-in-loop-k-1.given.0, c.scatter_scan-arg-1.given.0.1)
+    (f.0, f.1, search rules, search rules)
 
 pub overflow_add-k : goal.overflow_add-k
 overflow_add-k c = omega (arith, c.loop-k-test.true)

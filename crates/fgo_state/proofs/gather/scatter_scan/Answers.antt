@@ -1,10 +1,10 @@
-use Prim.Native.Nat.{◌+◌, ◌-◌, ◌*◌}
+use Prim.Native.Nat.{◌+◌, ◌*◌}
 use native.Mathlib.Omega.{arith}
 use mathlib.Core.Path.{◌≡◌, ap}
-use mathlib.Core.Logic.{⊎_elim}
 use Rattle.bounds.specs.Bounds.{COLUMN}
 use Rattle.fgo_state.proofs.ScatteringScan.{scatters_none, scatters_held, scatters_clutter, scatters_room, scatters_all}
 use Rattle.fgo_state.proofs.gather.scatter_scan.Goals as goal
+use Rattle.fgo_state.proofs.gather.scatter_scan.Goals.{then-columns-a-gt0, else-columns-a-gt0}
 
 pub loop-j-init : goal.loop-j-init
 loop-j-init c = (omega arith, scatters_none _ _ _ _)
@@ -111,10 +111,10 @@ loop-j-preserved c =
     let kept = v.invariant.1.long in
     let l = c.loop-j-test.true in (
       omega arith,
-      ⊎_elim
-          (λ w. scatters_held _ _ _ _ v.invariant.1 w.0.taken (omega arith) w.2 w.3)
-          (λ w. scatters_clutter _ _ _ _ v.invariant.1 (omega (arith, w.0.left)) w.1 w.2)
-          c.if-columns-a-gt0.branch,
+      elim c.if-columns-a-gt0.branch [
+        | then-columns-a-gt0 w ↦ scatters_held _ _ _ _ v.invariant.1 w.if-columns-a-gt0.true (omega arith) w.columns-is w.p-is
+        | else-columns-a-gt0 w ↦ scatters_clutter _ _ _ _ v.invariant.1 (omega (arith, w.if-columns-a-gt0.false)) w.columns-is w.p-is
+      ],
     )
 
 pub shape_of-columns : goal.shape_of-columns

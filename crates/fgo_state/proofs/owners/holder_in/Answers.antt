@@ -1,40 +1,30 @@
-use Prim.Native.Nat.{ℕ, ◌+◌, ◌-◌, ◌<◌, max}
+use Prim.Native.Nat.{ℕ, ◌+◌, ◌<◌, max}
 use native.Mathlib.Nat.{max-zero}
 use native.Mathlib.Omega.{arith}
 use mathlib.Core.Path.{◌≡◌, refl, sym, ap, ◌∙◌}
-use mathlib.Core.Logic.{⊎_elim}
-use mathlib.Core.Bool.{cond}
 use mathlib.Core.List.{List, foldr}
 use lib.ListN.{get_or}
-use lib.Dec.{eqb}
 use borrow.Author.Tests.{eq-eqb, ne_eqb}
-use Rattle.engine.specs.Body.{rows}
 use Rattle.fgo_state.specs.Gathering.{holder_of}
 use Rattle.fgo_spec.proofs.Rows.{rows_step, rows_end}
+use Rattle.fgo_state.proofs.owners.holder_in.Invariants.{holding, greatest}
 use Rattle.fgo_state.proofs.owners.holder_in.Goals as goal
+use Rattle.fgo_state.proofs.owners.holder_in.Goals.{then-engines-i+then-most-ids, then-engines-i+else-most-ids, else-engines-i}
 
 max_assoc : (a b c : ℕ) → max (max a b) c ≡ max a (max b c)
 max_assoc a b c = omega arith
 
 module _ (e : ℕ) (ids engines : List ℕ) where
-  -- the id of detection i where it has the engine id
-  abbrev holding : ℕ → ℕ
-  holding i = cond (eqb e (get_or engines i 0)) (get_or ids i 0) 0
-
-  -- the greatest of those from place i to before place b
-  abbrev greatest : ℕ → ℕ → ℕ
-  greatest i b = foldr max 0 (rows holding i (b - i))
-
-  holds : (i : ℕ) → get_or engines i 0 ≡ e → holding i ≡ get_or ids i 0
+  holds : (i : ℕ) → get_or engines i 0 ≡ e → holding e ids engines i ≡ get_or ids i 0
   holds i q = rw (eq-eqb e (get_or engines i 0) (sym q))
 
-  holds_not : (i : ℕ) → (get_or engines i 0 ≡ e → ⊥) → holding i ≡ 0
+  holds_not : (i : ℕ) → (get_or engines i 0 ≡ e → ⊥) → holding e ids engines i ≡ 0
   holds_not i q = rw (ne_eqb e (get_or engines i 0) (λ z. q (sym z)))
 
-  turn : (i b most next h : ℕ) → i < b → max most (greatest i b) ≡ h → next ≡ max most (holding i) → max next (greatest (i + 1) b) ≡ h
+  turn : (i b most next h : ℕ) → i < b → max most (greatest e ids engines i b) ≡ h → next ≡ max most (holding e ids engines i) → max next (greatest e ids engines (i + 1) b) ≡ h
   turn i b most next h l q n =
-      let s : greatest i b ≡ max (holding i) (greatest (i + 1) b) = ap (foldr max 0) (rows_step holding i b i l refl) in
-      ap (λ (x : ℕ). max x (greatest (i + 1) b)) n ∙ max_assoc most (holding i) (greatest (i + 1) b) ∙ ap (max most) (sym s) ∙ q
+      let s : greatest e ids engines i b ≡ max (holding e ids engines i) (greatest e ids engines (i + 1) b) = ap (foldr max 0) (rows_step (holding e ids engines) i b i l refl) in
+      ap (λ (x : ℕ). max x (greatest e ids engines (i + 1) b)) n ∙ max_assoc most (holding e ids engines i) (greatest e ids engines (i + 1) b) ∙ ap (max most) (sym s) ∙ q
 
 pub loop-i-init : goal.loop-i-init
 unfolding holder_of
@@ -71,10 +61,11 @@ loop-i-preserved c =
     let yes = holds f.e.0 f.ids.now f.engines.now v.i in
     let no = holds_not f.e.0 f.ids.now f.engines.now v.i in
     turn f.e.0 f.ids.now f.engines.now v.i f.b v.most _ _ c.loop-i-test.true v.invariant
-    (⊎_elim
-    (λ p. omega (arith, yes p.0.taken, p.2.taken, p.4))
-    (λ w. ⊎_elim (λ p. omega (arith, yes p.0.taken, p.2.left, p.3)) (λ p. omega (arith, no p.0.left, p.1)) w)
-    c.if-engines-i.branch)
+    (elim c.if-engines-i.branch [
+      | then-engines-i+then-most-ids w ↦ omega (arith, yes w.if-engines-i.true, w.if-most-ids.true, w.most-is)
+      | then-engines-i+else-most-ids w ↦ omega (arith, yes w.if-engines-i.true, w.if-most-ids.false, w.most-is)
+      | else-engines-i w ↦ omega (arith, no w.if-engines-i.false, w.most-is)
+    ])
 
 pub returns : goal.returns
 returns c =

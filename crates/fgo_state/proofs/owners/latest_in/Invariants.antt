@@ -1,4 +1,4 @@
-use Prim.Native.Nat.{◌-◌, ◌≤◌}
+use Prim.Native.Nat.{◌≤◌}
 use mathlib.Core.Path.{◌≡◌}
 use Rattle.fgo_state.specs.Gathering.{latest_of}
 use Rattle.fgo_state.proofs.owners.latest_in.Given as goal

@@ -1,8 +1,7 @@
-use Prim.Native.Nat.{ℕ, suc, ◌+◌, ◌-◌, ◌≤◌, ◌<◌}
+use Prim.Native.Nat.{ℕ, suc, ◌+◌, ◌≤◌, ◌<◌}
 use native.Mathlib.Numerals.{add-one}
 use native.Mathlib.Omega.{arith}
 use mathlib.Core.Path.{◌≡◌, refl, sym, ap, ◌∙◌}
-use mathlib.Core.Logic.{⊎_elim}
 use mathlib.Core.List.{List}
 use borrow.Author.Tests.{lt-ltb, le-ltb}
 use Rattle.engine.specs.Body.{rows}
@@ -12,6 +11,7 @@ use Rattle.fgo_state.specs.Memory.{id_at}
 use Rattle.fgo_state.specs.Gathering.{count_in}
 use Rattle.fgo_state.proofs.Detections.{count-more}
 use Rattle.fgo_state.proofs.state.count_in.Goals as goal
+use Rattle.fgo_state.proofs.state.count_in.Goals.{then-id_at-gt0, else-id_at-gt0}
 
 module _ (columns : List ℕ) (n j : ℕ) {x w : ℕ} (e : x ≡ id_at columns n j) (h : w ≡ count_in columns n j) where
   one_more_lem : 0 < x → w + 1 ≡ count_in columns n (j + 1)
@@ -37,10 +37,10 @@ pub loop-j-preserved : goal.loop-j-preserved
 loop-j-preserved c =
     let i = c.id_at.ensures in
     let h = c.loop-j.invariant.1 in
-    ⊎_elim
-    (λ p. (omega arith, p.1 ∙ one_more_lem _ _ _ i h p.0.taken, omega (arith, p.1)))
-    (λ p. (omega arith, p.1 ∙ none_more _ _ _ i h p.0.left, omega (arith, p.1)))
-    c.if-id_at-gt0.branch
+    elim c.if-id_at-gt0.branch [
+      | then-id_at-gt0 w ↦ (omega arith, w.w-is ∙ one_more_lem _ _ _ i h w.if-id_at-gt0.true, omega (arith, w.w-is))
+      | else-id_at-gt0 w ↦ (omega arith, w.w-is ∙ none_more _ _ _ i h w.if-id_at-gt0.false, omega (arith, w.w-is))
+    ]
 
 pub returns : goal.returns
 returns c = let e : c.loop-j.j ≡ c.args.m = omega arith in (rw e at c.loop-j.invariant.1, omega arith)

@@ -1,9 +1,7 @@
-use Prim.Native.Nat.{◌-◌}
 use native.Mathlib.Nat.{sub-zero}
 use native.Mathlib.Omega.{arith}
 use mathlib.Core.Path.{refl, sym, ◌∙◌}
 use borrow.Author.Tests.{eq-eqb, ne_eqb}
-use Rattle.fgo_part.specs.Parts.{part_id}
 use Rattle.fgo_spec.proofs.Rows.{any_here, any_next, any-end}
 use Rattle.fgo_state.proofs.state.is_frozen.Goals as goal
 

@@ -1,8 +1,6 @@
-use Prim.Native.Nat.{◌-◌}
 use mathlib.Core.Path.{refl, sym, ◌∙◌}
 use native.Mathlib.Omega.{arith}
 use borrow.Author.Tests.{eq-eqb, ne_eqb}
-use Rattle.fgo_state.specs.Memory.{id_at}
 use Rattle.fgo_spec.proofs.Rows.{any_here, any_next, any-end}
 use Rattle.fgo_state.proofs.state.stands_in.Goals as goal
 
