@@ -1,6 +1,4 @@
-use mathlib.Core.Path.{◌≡◌}
-use native.Mathlib.Omega.{arith}
-use borrow.Author.Tests.{ne_eqb}
+use borrow.Author.Rules.{rules}
 use Rattle.calls_input.specs.Input.{call_by}
 use Rattle.calls_input.proofs.called.Goals as goal
 
@@ -58,4 +56,4 @@ returns-in-17 c = rw (c.in-17.is, c.write_smoother.ensures)
 
 pub returns-in_default : goal.returns-in_default
 unfolding call_by
-returns-in_default c = rw (ne_eqb c.args.code 1 (λ (z : c.args.code ≡ 1). omega arith), ne_eqb c.args.code 2 (λ (z : c.args.code ≡ 2). omega arith), ne_eqb c.args.code 4 (λ (z : c.args.code ≡ 4). omega arith), ne_eqb c.args.code 5 (λ (z : c.args.code ≡ 5). omega arith), ne_eqb c.args.code 6 (λ (z : c.args.code ≡ 6). omega arith), ne_eqb c.args.code 7 (λ (z : c.args.code ≡ 7). omega arith), ne_eqb c.args.code 9 (λ (z : c.args.code ≡ 9). omega arith), ne_eqb c.args.code 11 (λ (z : c.args.code ≡ 11). omega arith), ne_eqb c.args.code 12 (λ (z : c.args.code ≡ 12). omega arith), ne_eqb c.args.code 13 (λ (z : c.args.code ≡ 13). omega arith), ne_eqb c.args.code 14 (λ (z : c.args.code ≡ 14). omega arith), ne_eqb c.args.code 16 (λ (z : c.args.code ≡ 16). omega arith), ne_eqb c.args.code 17 (λ (z : c.args.code ≡ 17). omega arith))
+returns-in_default c = search rules
