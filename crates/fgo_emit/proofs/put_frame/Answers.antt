@@ -1,4 +1,4 @@
-use Rattle.std.proofs.Common.{◌≡◌, ℕ, ◌≤◌, List, length, ℤ, ap, ◌∙◌, arith, w64, to_z, of_z}
+use Rattle.std.proofs.Common.{◌≡◌, ℕ, ◌≤◌, List, ℤ, ap, ◌∙◌, arith, w64, to_z, of_z}
 use lib.Ieee.{Float}
 use Rattle.bounds.specs.Bounds.{SENSORS, ASSOCIATIONS, FROZEN}
 use Rattle.engine.specs.declared.config.FgoConfig.{FgoConfig}
@@ -8,6 +8,7 @@ use Rattle.fgo_part.specs.Parts.{table_in}
 use Rattle.fgo_freeze.proofs.Times.{passed_on}
 use Rattle.fgo_state.proofs.Columns.{body_read, scan_frame}
 use Rattle.fgo_state.proofs.Counts.{associations_few, sensors_few}
+use Rattle.fgo_emit.specs.Writing.{PutTracks}
 use Rattle.fgo_emit.proofs.Listing.{listed_few}
 use Rattle.fgo_emit.proofs.Framing.{framed_all}
 use Rattle.fgo_emit.proofs.put_frame.Goals as goal
@@ -24,8 +25,8 @@ module _ {s b : Body} (read : s ≡ b) (ok : body_refusal b ≡ 0) where
   few_sensors = sensors_few s passes
 
 -- at most FROZEN tracks are listed
-few : (c : FgoConfig) (time : ℤ) (tracks : List ℕ) (filters : List Float) (frozen : ℕ) {t : ℕ} → t ≡ length (listing c time (table_in tracks filters frozen)) → frozen ≤ FROZEN → t ≤ FROZEN
-few c time tracks filters frozen e h = omega (arith, listed_few c time tracks filters frozen)
+few : (c : FgoConfig) (time : ℤ) (tracks : List ℕ) (filters : List Float) (frozen : ℕ) {t : ℕ} {ws ws' : List ℕ} {ns ns' : List Float} → PutTracks (listing c time (table_in tracks filters frozen)) t ws ns ws' ns' → frozen ≤ FROZEN → t ≤ FROZEN
+few c time tracks filters frozen p h = omega (arith, p.count, listed_few c time tracks filters frozen)
 
 pub put_tracks-t-requires : goal.put_tracks-t-requires
 put_tracks-t-requires c =
@@ -39,15 +40,15 @@ put_head-requires c =
     (passes e c.requires.passes, omega (arith, c.put_tracks-t.auto, c.requires.room.words))
 
 pub overflow_mul-a : goal.overflow_mul-a
-overflow_mul-a c = record { fits = omega (arith, few c.args.c (to_z w64 (of_z w64 c.time_of-time.result)) c.args.tracks.now c.args.filters.now c.args.frozen c.put_tracks-t.ensures.count c.requires.parts.few) }
+overflow_mul-a c = record { fits = omega (arith, few _ _ _ _ _ c.put_tracks-t.ensures c.requires.parts.few) }
 
 pub overflow_add-a : goal.overflow_add-a
-overflow_add-a c = record { fits = omega (arith, few c.args.c (to_z w64 (of_z w64 c.time_of-time.result)) c.args.tracks.now c.args.filters.now c.args.frozen c.put_tracks-t.ensures.count c.requires.parts.few) }
+overflow_add-a c = record { fits = omega (arith, few _ _ _ _ _ c.put_tracks-t.ensures c.requires.parts.few) }
 
 pub put_associations-requires : goal.put_associations-requires
 put_associations-requires c =
     let e = body_read c.args.bodies.now c.args.columns.now c.args.n.0 c.kind_of-kind.ensures c.body_in-s.ensures in
-    (passes e c.requires.passes, omega (arith, few c.args.c (to_z w64 (of_z w64 c.time_of-time.result)) c.args.tracks.now c.args.filters.now c.args.frozen c.put_tracks-t.ensures.count c.requires.parts.few, few_associations e c.requires.passes, c.put_tracks-t.auto, c.put_head.auto, c.requires.room.words))
+    (passes e c.requires.passes, omega (arith, few _ _ _ _ _ c.put_tracks-t.ensures c.requires.parts.few, few_associations e c.requires.passes, c.put_tracks-t.auto, c.put_head.auto, c.requires.room.words))
 
 pub overflow_mul-count : goal.overflow_mul-count
 overflow_mul-count c =
@@ -57,20 +58,20 @@ overflow_mul-count c =
 pub overflow_add-a-2 : goal.overflow_add-a-2
 overflow_add-a-2 c =
     let e = body_read c.args.bodies.now c.args.columns.now c.args.n.0 c.kind_of-kind.ensures c.body_in-s.ensures in
-    record { fits = omega (arith, few c.args.c (to_z w64 (of_z w64 c.time_of-time.result)) c.args.tracks.now c.args.filters.now c.args.frozen c.put_tracks-t.ensures.count c.requires.parts.few, few_associations e c.requires.passes, c.association_count-count.ensures) }
+    record { fits = omega (arith, few _ _ _ _ _ c.put_tracks-t.ensures c.requires.parts.few, few_associations e c.requires.passes, c.association_count-count.ensures) }
 
 pub put_sensors-requires : goal.put_sensors-requires
 put_sensors-requires c =
     let e = body_read c.args.bodies.now c.args.columns.now c.args.n.0 c.kind_of-kind.ensures c.body_in-s.ensures in
-    (passes e c.requires.passes, omega (arith, few c.args.c (to_z w64 (of_z w64 c.time_of-time.result)) c.args.tracks.now c.args.filters.now c.args.frozen c.put_tracks-t.ensures.count c.requires.parts.few, few_associations e c.requires.passes, few_sensors e c.requires.passes, c.association_count-count.ensures, c.put_tracks-t.auto, c.put_head.auto, c.put_associations.auto, c.requires.room.words))
+    (passes e c.requires.passes, omega (arith, few _ _ _ _ _ c.put_tracks-t.ensures c.requires.parts.few, few_associations e c.requires.passes, few_sensors e c.requires.passes, c.association_count-count.ensures, c.put_tracks-t.auto, c.put_head.auto, c.put_associations.auto, c.requires.room.words))
 
 pub overflow_mul-t : goal.overflow_mul-t
-overflow_mul-t c = record { fits = omega (arith, few c.args.c (to_z w64 (of_z w64 c.time_of-time.result)) c.args.tracks.now c.args.filters.now c.args.frozen c.put_tracks-t.ensures.count c.requires.parts.few) }
+overflow_mul-t c = record { fits = omega (arith, few _ _ _ _ _ c.put_tracks-t.ensures c.requires.parts.few) }
 
 pub put_costs-requires : goal.put_costs-requires
 put_costs-requires c =
     let e = body_read c.args.bodies.now c.args.columns.now c.args.n.0 c.kind_of-kind.ensures c.body_in-s.ensures in
-    (passes e c.requires.passes, omega (arith, few c.args.c (to_z w64 (of_z w64 c.time_of-time.result)) c.args.tracks.now c.args.filters.now c.args.frozen c.put_tracks-t.ensures.count c.requires.parts.few, few_associations e c.requires.passes, c.put_tracks-t.auto, c.requires.room.numbers))
+    (passes e c.requires.passes, omega (arith, few _ _ _ _ _ c.put_tracks-t.ensures c.requires.parts.few, few_associations e c.requires.passes, c.put_tracks-t.auto, c.requires.room.numbers))
 
 pub overflow_mul-result : goal.overflow_mul-result
 overflow_mul-result c =
@@ -80,20 +81,20 @@ overflow_mul-result c =
 pub overflow_add-result : goal.overflow_add-result
 overflow_add-result c =
     let e = body_read c.args.bodies.now c.args.columns.now c.args.n.0 c.kind_of-kind.ensures c.body_in-s.ensures in
-    record { fits = omega (arith, few c.args.c (to_z w64 (of_z w64 c.time_of-time.result)) c.args.tracks.now c.args.filters.now c.args.frozen c.put_tracks-t.ensures.count c.requires.parts.few, few_associations e c.requires.passes, c.association_count-count.ensures) }
+    record { fits = omega (arith, few _ _ _ _ _ c.put_tracks-t.ensures c.requires.parts.few, few_associations e c.requires.passes, c.association_count-count.ensures) }
 
 pub overflow_add-result-2 : goal.overflow_add-result-2
 overflow_add-result-2 c =
     let e = body_read c.args.bodies.now c.args.columns.now c.args.n.0 c.kind_of-kind.ensures c.body_in-s.ensures in
-    record { fits = omega (arith, few c.args.c (to_z w64 (of_z w64 c.time_of-time.result)) c.args.tracks.now c.args.filters.now c.args.frozen c.put_tracks-t.ensures.count c.requires.parts.few, few_associations e c.requires.passes, few_sensors e c.requires.passes, c.association_count-count.ensures, c.sensor_count.ensures) }
+    record { fits = omega (arith, few _ _ _ _ _ c.put_tracks-t.ensures c.requires.parts.few, few_associations e c.requires.passes, few_sensors e c.requires.passes, c.association_count-count.ensures, c.sensor_count.ensures) }
 
 pub overflow_mul-result-2 : goal.overflow_mul-result-2
-overflow_mul-result-2 c = record { fits = omega (arith, few c.args.c (to_z w64 (of_z w64 c.time_of-time.result)) c.args.tracks.now c.args.filters.now c.args.frozen c.put_tracks-t.ensures.count c.requires.parts.few) }
+overflow_mul-result-2 c = record { fits = omega (arith, few _ _ _ _ _ c.put_tracks-t.ensures c.requires.parts.few) }
 
 pub overflow_add-result-3 : goal.overflow_add-result-3
 overflow_add-result-3 c =
     let e = body_read c.args.bodies.now c.args.columns.now c.args.n.0 c.kind_of-kind.ensures c.body_in-s.ensures in
-    record { fits = omega (arith, few c.args.c (to_z w64 (of_z w64 c.time_of-time.result)) c.args.tracks.now c.args.filters.now c.args.frozen c.put_tracks-t.ensures.count c.requires.parts.few, few_associations e c.requires.passes, c.association_count-count.ensures) }
+    record { fits = omega (arith, few _ _ _ _ _ c.put_tracks-t.ensures c.requires.parts.few, few_associations e c.requires.passes, c.association_count-count.ensures) }
 
 pub returns : goal.returns
 returns c =
@@ -105,8 +106,8 @@ returns c =
     time
     c.association_count-count.ensures
     c.sensor_count.ensures
-    (omega (arith, few c.args.c (to_z w64 (of_z w64 c.time_of-time.result)) c.args.tracks.now c.args.filters.now c.args.frozen c.put_tracks-t.ensures.count c.requires.parts.few, few_associations e c.requires.passes, few_sensors e c.requires.passes, c.association_count-count.ensures, c.sensor_count.ensures, c.requires.room.words))
-    (omega (arith, few c.args.c (to_z w64 (of_z w64 c.time_of-time.result)) c.args.tracks.now c.args.filters.now c.args.frozen c.put_tracks-t.ensures.count c.requires.parts.few, few_associations e c.requires.passes, c.association_count-count.ensures, c.requires.room.numbers))
+    (omega (arith, few _ _ _ _ _ c.put_tracks-t.ensures c.requires.parts.few, few_associations e c.requires.passes, few_sensors e c.requires.passes, c.association_count-count.ensures, c.sensor_count.ensures, c.requires.room.words))
+    (omega (arith, few _ _ _ _ _ c.put_tracks-t.ensures c.requires.parts.few, few_associations e c.requires.passes, c.association_count-count.ensures, c.requires.room.numbers))
     c.put_tracks-t.auto.numbers
     c.put_tracks-t.ensures
     c.put_head.ensures

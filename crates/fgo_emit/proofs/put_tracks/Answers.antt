@@ -1,4 +1,4 @@
-use Rattle.std.proofs.Common.{◌≡◌, ◌-◌, sym, ◌∙◌, arith, to_z-of_z}
+use Rattle.std.proofs.Common.{◌≡◌, sym, ◌∙◌, arith, to_z-of_z}
 use Rattle.fgo_part.specs.Parts.{prefix_in}
 use Rattle.fgo_emit.proofs.Listing.{puts_none, puts_more, puts_same, puts_all}
 use Rattle.fgo_emit.proofs.put_tracks.Goals as goal
@@ -38,8 +38,8 @@ loop-k-preserved c = let few = c.requires.0.few in
     let listed = c.is_listed.ensures in (
       omega arith,
       elim c.if-is_listed.branch [
-        then-is_listed w ↦ puts_more _ _ _ _ _ _ done (sym listed ∙ w.if-is_listed.true) (omega (arith, c.requires.1.words, done.few)) (omega (arith, c.requires.1.numbers, done.few)) w.put_track.ensures w.words-is w.numbers-is w.i-is
-      | else-is_listed w ↦ puts_same _ _ _ _ _ _ done (sym listed ∙ w.if-is_listed.false) w.words-is w.numbers-is w.i-is
+        | then-is_listed w ↦ puts_more _ _ _ _ _ _ done (sym listed ∙ w.if-is_listed.true) (omega (arith, c.requires.1.words, done.few)) (omega (arith, c.requires.1.numbers, done.few)) w.put_track.ensures w.words-is w.numbers-is w.i-is
+        | else-is_listed w ↦ puts_same _ _ _ _ _ _ done (sym listed ∙ w.if-is_listed.false) w.words-is w.numbers-is w.i-is
       ],
     )
 

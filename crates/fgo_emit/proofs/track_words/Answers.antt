@@ -1,4 +1,3 @@
-use mir.Syntax.{w64}
 use mir.Facts.{to_z-of_z}
 use Rattle.fgo_spec.specs.Emitting.{report}
 use Rattle.engine.proofs.ReadBack.{time_fits}
