@@ -13,7 +13,6 @@ use bounds::{
     VALUES, WINDOW, WORDS,
 };
 use calls_input::Call;
-use console::Input;
 use print::lines;
 
 // A list of the greatest length, and one byte that tells a longer one.
@@ -21,6 +20,7 @@ const INPUT: usize = CALLS + 1;
 
 // The calls of a list, one after the other; a bad one ends it.
 fn play<'a, 'b, 'c, 'd, 'e, 'f, 'g, 'h, 'i, 'j, 'k, 'l, 'm, 'n, 'o>(
+    rt: &(impl Print + Eprint),
     s: &'o [u8],
     bodies: &'a mut [u8; BODIES],
     columns: &'b mut [u64; COLUMNS],
@@ -67,7 +67,7 @@ fn play<'a, 'b, 'c, 'd, 'e, 'f, 'g, 'h, 'i, 'j, 'k, 'l, 'm, 'n, 'o>(
             frame_numbers,
             out,
         );
-        well = console::write(out, t.end, well);
+        well = console::write(rt, out, t.end, well);
         if let Call::Bad = call {
             return;
         }
@@ -77,7 +77,7 @@ fn play<'a, 'b, 'c, 'd, 'e, 'f, 'g, 'h, 'i, 'j, 'k, 'l, 'm, 'n, 'o>(
 }
 
 // A list that is not too long, played over memory that is all zero.
-fn play_list(s: &[u8]) {
+fn play_list(rt: &(impl Print + Eprint), s: &[u8]) {
     let mut bodies = [0u8; BODIES];
     let mut columns = [0u64; COLUMNS];
     let mut owners = [0u64; OWNERS];
@@ -93,6 +93,7 @@ fn play_list(s: &[u8]) {
     let mut frame_numbers = [0.0; LENT_NUMBERS];
     let mut out = [0u8; TEXT];
     play(
+        rt,
         s,
         &mut bodies,
         &mut columns,
@@ -112,22 +113,22 @@ fn play_list(s: &[u8]) {
 }
 
 // A bad call alone.
-fn print_bad() {
+fn print_bad(rt: &(impl Print + Eprint)) {
     let mut out = [0u8; 16];
     let end = lines::put_bad(&mut out);
-    console::write(&out, end, true);
+    console::write(rt, &out, end, true);
 }
 
-fn main() {
+fn main(rt: HostRuntime) {
     let mut buffer = [0u8; INPUT];
-    match console::read_all(&mut buffer) {
-        Input::Bytes(n) => {
+    match console::read_all(&rt, &mut buffer) {
+        console::Input::Bytes(n) => {
             if CALLS < n {
-                print_bad();
+                print_bad(&rt);
             } else {
-                play_list(&buffer[..n]);
+                play_list(&rt, &buffer[..n]);
             }
         }
-        Input::Unreadable => {}
+        console::Input::Unreadable => {}
     }
 }

@@ -2,9 +2,10 @@
 #![tactic(auto)]
 
 ghost use Rattle.std.specs.Prelude.{◌≤◌, length};
-ghost use Rattle.console.specs.Input.{Within};
+ghost use Rattle.console.specs.Input.{Within, Gives, Exhausts};
 
-use libc::{STDIN_FILENO, STDOUT_FILENO};
+use std::io;
+use std::io::{Input as StandardInput, Read, Write};
 
 // What reading gives: so many bytes at the front of the buffer, which is full where there may be more; or that the input cannot be read.
 #[derive(Clone, Copy)]
@@ -13,25 +14,45 @@ pub enum Input {
     Unreadable,
 }
 
-// One read of standard input, to the front of the buffer: no bytes where it has ended. What fails is said.
-fn read_some(buf: &mut [u8]) -> Input
-    ensures { Within result buf.new }
-{
-    let got = libc::read(STDIN_FILENO, buf);
-    if got < 0 {
-        os::fail(b"standard input");
-        return Input::Unreadable;
-    }
-    Input::Bytes(io::count(got, buf))
+// What failed, and the system's words for why, without the error's number.
+fn fail(rt: &impl Eprint, what: &str, error: io::Error) {
+    let mut text = [0u8; 96];
+    let mut rest: &mut [u8] = &mut text;
+    let _ = write!(rest, "{error}");
+    let n = 96usize.saturating_sub(rest.len());
+    let words = match std::str::from_utf8(&text[..n]) {
+        Ok(t) => t,
+        Err(_) => "",
+    };
+    let reason = match words.split_once(" (os error ") {
+        Some((front, _)) => front,
+        None => words,
+    };
+    let _ = eprintln!(rt; "{what}: {reason}");
 }
 
-// Standard input, until it ends or the buffer is full.
-pub fn read_all(buf: &mut [u8]) -> Input
-    ensures { Within result buf.new }
+// One read, to the front of the buffer: no bytes where the input has ended. What fails is said.
+fn read_some<R: Read>(rt: &impl Eprint, input: &mut R, buf: &mut [u8]) -> Input
+    ensures within { Within result buf.new }
+    ensures gives { Gives (R.remaining input.old) (R.remaining input.new) result buf.new }
+{
+    match input.read(buf) {
+        Ok(n) => Input::Bytes(n),
+        Err(e) => {
+            fail(rt, "standard input", e);
+            Input::Unreadable
+        }
+    }
+}
+
+// What is read until the input ends or the buffer is full.
+pub fn read_from<R: Read>(rt: &impl Eprint, input: &mut R, buf: &mut [u8]) -> Input
+    ensures within { Within result buf.new }
+    ensures exhausts { Exhausts (R.remaining input.old) (R.remaining input.new) result buf.new }
 {
     let mut n: usize = 0;
     while n < buf.len() {
-        let Input::Bytes(more) = read_some(&mut buf[n..]) else {
+        let Input::Bytes(more) = read_some(rt, input, &mut buf[n..]) else {
             return Input::Unreadable;
         };
         if more == 0 {
@@ -42,16 +63,25 @@ pub fn read_all(buf: &mut [u8]) -> Input
     Input::Bytes(n)
 }
 
+// Standard input, until it ends or the buffer is full.
+pub fn read_all(rt: &(impl StandardInput + Eprint), buf: &mut [u8]) -> Input
+    ensures { Within result buf.new }
+{
+    read_from(rt, &mut rt.reader(), buf)
+}
+
 // The first n bytes, written to standard output; whether they were. Nothing is written where a write before has failed, so a failure is said once.
-pub fn write(out: &[u8], n: usize, well: bool) -> bool
+pub fn write(rt: &(impl Print + Eprint), out: &[u8], n: usize, well: bool) -> bool
     requires { n ≤ length out.now }
 {
     if !well {
         return false;
     }
-    if io::write_all(STDOUT_FILENO, &out[..n]) {
-        return true;
+    match rt.write_all(&out[..n]) {
+        Ok(()) => true,
+        Err(e) => {
+            fail(rt, "standard output", e);
+            false
+        }
     }
-    os::fail(b"standard output");
-    false
 }

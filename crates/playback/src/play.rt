@@ -11,7 +11,6 @@ use bounds::{
     BODIES, COLUMNS, FILTERS, NUMBERS, OWNERS, PARTS, RECORDING, TEXT, TRACKS, VALUES, WINDOW,
     WORDS,
 };
-use console::Input;
 use engine::config::FgoConfig;
 use fgo::{Counted, Opened};
 use fgo_state::state::FixedLagRefiner;
@@ -45,14 +44,15 @@ fn put_counted(out: &mut [u8], k: Counted) -> usize
 }
 
 // The line of a refusal alone.
-fn print_refusal(code: u8) {
+fn print_refusal(rt: &(impl Print + Eprint), code: u8) {
     let mut out = [0u8; REFUSED];
     let n = lines::put_refused(&mut out, 0, code);
-    console::write(&out, n, true);
+    console::write(rt, &out, n, true);
 }
 
 // A recording of n frames, played from this start: all the frames, then what a smoother holds, then the counters.
 fn run<'a, 'b, 'c>(
+    rt: &(impl Print + Eprint),
     s: &'c [u8],
     n: usize,
     first: Player,
@@ -74,6 +74,7 @@ fn run<'a, 'b, 'c>(
     let fx: &mut [f64] = &mut frame_numbers;
     let out: &mut [u8] = &mut text;
     let pushed = steps::push_all(
+        rt,
         first,
         s,
         n,
@@ -89,6 +90,7 @@ fn run<'a, 'b, 'c>(
         out,
     );
     let taken = steps::take_all(
+        rt,
         pushed,
         &mut bodies,
         &mut columns,
@@ -101,18 +103,18 @@ fn run<'a, 'b, 'c>(
         values,
         out,
     );
-    let last = steps::take_rest(taken, window, values, out);
+    let last = steps::take_rest(rt, taken, window, values, out);
     let r = last.refiner;
     let k = fgo::counters(r, &bodies, &columns, &owners, &tracks);
     let end = put_counted(out, k);
-    console::write(out, end, last.well);
+    console::write(rt, out, end, last.well);
     last
 }
 
 // ---- a recording
 
 // A recording of n frames, played without a smoother.
-fn run_plain(s: &[u8], n: usize, refiner: FixedLagRefiner, sink: Sink)
+fn run_plain(rt: &(impl Print + Eprint), s: &[u8], n: usize, refiner: FixedLagRefiner, sink: Sink)
     requires { Fresh refiner × Plain sink }
 {
     let mut window = [0u64; 0];
@@ -122,7 +124,7 @@ fn run_plain(s: &[u8], n: usize, refiner: FixedLagRefiner, sink: Sink)
         sink,
         well: true,
     };
-    run(s, n, first, &mut window, &mut values);
+    run(rt, s, n, first, &mut window, &mut values);
 }
 
 // A smoother of the refiner's lag and density, for frames of as many tracks as it may emit.
@@ -136,6 +138,7 @@ fn smoothing(c: FgoConfig) -> SmootherConfig {
 
 // Played with a smoother over this window; or the smoother's refusal.
 fn run_over<'a, 'b, 'c>(
+    rt: &(impl Print + Eprint),
     s: &'c [u8],
     n: usize,
     refiner: FixedLagRefiner,
@@ -147,7 +150,7 @@ fn run_over<'a, 'b, 'c>(
     let o = smoother::open(smoothing(refiner.config), window, values);
     match o {
         smoother::Opened::Refused(code) => {
-            print_refusal(code);
+            print_refusal(rt, code);
         }
         smoother::Opened::Ready(state) => {
             let first = Player {
@@ -155,13 +158,13 @@ fn run_over<'a, 'b, 'c>(
                 sink: Sink::Smoother(state),
                 well: true,
             };
-            run(s, n, first, window, values);
+            run(rt, s, n, first, window, values);
         }
     }
 }
 
 // The same over as much of the longest window as the lag asks for.
-fn run_smoothed(s: &[u8], n: usize, refiner: FixedLagRefiner)
+fn run_smoothed(rt: &(impl Print + Eprint), s: &[u8], n: usize, refiner: FixedLagRefiner)
     requires { Fresh refiner }
 {
     let mut window = [0u64; WINDOW];
@@ -169,50 +172,50 @@ fn run_smoothed(s: &[u8], n: usize, refiner: FixedLagRefiner)
     let lag = refiner.config.lag_frames;
     let w = window_words(lag, TRACKS);
     let x = window_numbers(lag, TRACKS);
-    run_over(s, n, refiner, &mut window[..w], &mut values[..x]);
+    run_over(rt, s, n, refiner, &mut window[..w], &mut values[..x]);
 }
 
 // Played in the form that is asked for.
-fn run_as(s: &[u8], n: usize, refiner: FixedLagRefiner, form: Form)
+fn run_as(rt: &(impl Print + Eprint), s: &[u8], n: usize, refiner: FixedLagRefiner, form: Form)
     requires { Fresh refiner }
 {
     match form {
         Form::Short => {
-            run_plain(s, n, refiner, Sink::Short);
+            run_plain(rt, s, n, refiner, Sink::Short);
         }
         Form::Full => {
-            run_plain(s, n, refiner, Sink::Full);
+            run_plain(rt, s, n, refiner, Sink::Full);
         }
         Form::Smoothed => {
-            run_smoothed(s, n, refiner);
+            run_smoothed(rt, s, n, refiner);
         }
     }
 }
 
 // A recording, played, its frames printed in that form; or its refusal, 11, 12 or 1.
-pub fn play(s: &[u8], form: Form) {
+pub fn play(rt: &(impl Print + Eprint), s: &[u8], form: Form) {
     match recording::contents_of(s) {
         Contents::Refused(code) => {
-            print_refusal(code);
+            print_refusal(rt, code);
         }
         Contents::Frames { config, count } => match fgo::open(config) {
             Opened::Refused(code) => {
-                print_refusal(code);
+                print_refusal(rt, code);
             }
             Opened::Ready(refiner) => {
-                run_as(s, count, refiner, form);
+                run_as(rt, s, count, refiner, form);
             }
         },
     }
 }
 
 // The recording on standard input, played.
-pub fn play_input(form: Form) {
+pub fn play_input(rt: &(impl Input + Print + Eprint), form: Form) {
     let mut buffer = [0u8; INPUT];
-    match console::read_all(&mut buffer) {
-        Input::Bytes(n) => {
-            play(&buffer[..n], form);
+    match console::read_all(rt, &mut buffer) {
+        console::Input::Bytes(n) => {
+            play(rt, &buffer[..n], form);
         }
-        Input::Unreadable => {}
+        console::Input::Unreadable => {}
     }
 }

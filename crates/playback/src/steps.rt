@@ -97,6 +97,7 @@ fn take_one<'a, 'b, 'c, 'd, 'e, 'f, 'g>(
 
 // A run after a push or a take of the refiner, of which the answer is printed.
 fn print_step<'a, 'b, 'c, 'd>(
+    rt: &(impl Print + Eprint),
     p: Player,
     t: Pushed,
     fw: &'d [u64],
@@ -113,7 +114,7 @@ fn print_step<'a, 'b, 'c, 'd>(
     let refiner = t.state;
     let last = p.sink;
     let told = sink::put_answer(last, answer, fw, fx, window, values, out);
-    let well = console::write(out, told.end, p.well);
+    let well = console::write(rt, out, told.end, p.well);
     let sink = told.sink;
     Player {
         refiner,
@@ -126,6 +127,7 @@ fn print_step<'a, 'b, 'c, 'd>(
 
 // The n frames of a recording, pushed.
 pub fn push_all<'a, 'b, 'c, 'd, 'e, 'f, 'g, 'h, 'i, 'j, 'k>(
+    rt: &(impl Print + Eprint),
     first: Player,
     s: &'k [u8],
     n: usize,
@@ -151,7 +153,7 @@ pub fn push_all<'a, 'b, 'c, 'd, 'e, 'f, 'g, 'h, 'i, 'j, 'k>(
     while i < n {
         let r = p.refiner;
         let t = push_one(r, s, i, bodies, columns, owners, tracks, filters, fw, fx);
-        p = print_step(p, t, fw, fx, window, values, out);
+        p = print_step(rt, p, t, fw, fx, window, values, out);
         i += 1;
     }
     p
@@ -159,6 +161,7 @@ pub fn push_all<'a, 'b, 'c, 'd, 'e, 'f, 'g, 'h, 'i, 'j, 'k>(
 
 // All that are held, taken.
 pub fn take_all<'a, 'b, 'c, 'd, 'e, 'f, 'g, 'h, 'i, 'j>(
+    rt: &(impl Print + Eprint),
     first: Player,
     bodies: &'a mut [u8; BODIES],
     columns: &'b mut [u64; COLUMNS],
@@ -182,13 +185,19 @@ pub fn take_all<'a, 'b, 'c, 'd, 'e, 'f, 'g, 'h, 'i, 'j>(
     while 0 < p.refiner.held {
         let r = p.refiner;
         let t = take_one(r, bodies, columns, owners, tracks, filters, fw, fx);
-        p = print_step(p, t, fw, fx, window, values, out);
+        p = print_step(rt, p, t, fw, fx, window, values, out);
     }
     p
 }
 
 // All that a smoother holds, taken and printed.
-fn smooth_rest<'a, 'b>(first: Rest, window: &'b [u64], values: &'b [f64], out: &'a mut [u8]) -> Rest
+fn smooth_rest<'a, 'b>(
+    rt: &(impl Print + Eprint),
+    first: Rest,
+    window: &'b [u64],
+    values: &'b [f64],
+    out: &'a mut [u8],
+) -> Rest
     requires { (TEXT ≤ length out.old) × Smoothed first.smoother (Smoothing.window window.now values.now) }
     ensures { result.smoother.held ≡ 0 }
 {
@@ -196,7 +205,7 @@ fn smooth_rest<'a, 'b>(first: Rest, window: &'b [u64], values: &'b [f64], out: &
     while 0 < r.smoother.held {
         let t = sink::take_smoothed(r.smoother, window, values, out);
         let smoother = t.state;
-        let well = console::write(out, t.end, r.well);
+        let well = console::write(rt, out, t.end, r.well);
         r = Rest { smoother, well };
     }
     r
@@ -204,6 +213,7 @@ fn smooth_rest<'a, 'b>(first: Rest, window: &'b [u64], values: &'b [f64], out: &
 
 // What a sink still holds, taken and printed.
 pub fn take_rest<'a, 'b>(
+    rt: &(impl Print + Eprint),
     p: Player,
     window: &'b [u64],
     values: &'b [f64],
@@ -221,7 +231,7 @@ pub fn take_rest<'a, 'b>(
                 smoother,
                 well: p.well,
             };
-            let rest = smooth_rest(first, window, values, out);
+            let rest = smooth_rest(rt, first, window, values, out);
             let refiner = p.refiner;
             let state = rest.smoother;
             Player {

@@ -4,6 +4,6 @@
 use playback::play;
 use playback::play::Form;
 
-fn main() {
-    play::play_input(Form::Short);
+fn main(rt: HostRuntime) {
+    play::play_input(&rt, Form::Short);
 }

@@ -2,7 +2,6 @@
 // length, four bytes, little-endian. The sample and its answers are oracle/sample's; the answers came from the published Rust.
 #![tactic(auto)]
 
-use console::Input;
 use engine::little;
 use playback::play;
 use playback::play::Form;
@@ -11,12 +10,12 @@ use playback::play::Form;
 const SAMPLE: usize = 262144;
 
 // A recording, played in full, then in short.
-fn both(s: &[u8]) {
-    play::play(s, Form::Full);
-    play::play(s, Form::Short);
+fn both(rt: &(impl Print + Eprint), s: &[u8]) {
+    play::play(rt, s, Form::Full);
+    play::play(rt, s, Form::Short);
 }
 
-fn play_all(s: &[u8]) {
+fn play_all(rt: &(impl Print + Eprint), s: &[u8]) {
     let mut at = 0;
     while at < s.len() {
         if s.len() - at < 4 {
@@ -28,16 +27,16 @@ fn play_all(s: &[u8]) {
             return;
         }
         at = from + size;
-        both(&s[from..at]);
+        both(rt, &s[from..at]);
     }
 }
 
-fn main() {
+fn main(rt: HostRuntime) {
     let mut buffer = [0u8; SAMPLE];
-    match console::read_all(&mut buffer) {
-        Input::Bytes(n) => {
-            play_all(&buffer[..n]);
+    match console::read_all(&rt, &mut buffer) {
+        console::Input::Bytes(n) => {
+            play_all(&rt, &buffer[..n]);
         }
-        Input::Unreadable => {}
+        console::Input::Unreadable => {}
     }
 }

@@ -16,89 +16,106 @@
 // - two faults in one body: 6 and 7, 5 and 6, 5 and 7.
 #![tactic(auto)]
 
+ghost use Rattle.std.specs.Prelude.{◌≤◌, length};
+
 use engine::types::{Associated, Association, BodyKind};
 use engine::{body, little};
-use libc::{STDIN_FILENO, STDOUT_FILENO};
-use scalar::bits;
+use std::io;
+use std::io::Read;
 
-fn print_number(n: u64) {
-    io::write_all(STDOUT_FILENO, b" ");
-    io::print_decimal(STDOUT_FILENO, n);
+// Room for the cases.
+const CASES: usize = 65536;
+
+fn print_number(rt: &impl Print, n: u64) -> io::Result<()> {
+    print!(rt; " {n}")
 }
 
-fn print_time(t: i64) {
-    let word = bits::to_word(t);
-    if word < 0x8000_0000_0000_0000 {
-        print_number(word);
-        return;
-    }
-    io::write_all(STDOUT_FILENO, b" -");
-    io::print_decimal(STDOUT_FILENO, 18446744073709551615 - word + 1);
+fn print_time(rt: &impl Print, t: i64) -> io::Result<()> {
+    print!(rt; " {t}")
 }
 
-fn print_association(a: Association) {
+fn print_association(rt: &impl Print, a: Association) -> io::Result<()> {
     let index = a.index;
-    print_number(index.0 as u64);
+    print_number(rt, index.0 as u64)?;
     let track = a.track;
     match track {
         Associated::Nobody => {
-            io::write_all(STDOUT_FILENO, b" -");
+            print!(rt; " -")?;
         }
         Associated::Track(id) => {
-            print_number(id.0);
+            print_number(rt, id.0)?;
         }
     }
     let outcome = a.outcome;
-    print_number(outcome.number());
+    print_number(rt, outcome.number())
 }
 
-fn print_associations(kind: BodyKind, s: &[u8]) {
+fn print_associations(rt: &impl Print, kind: BodyKind, s: &[u8]) -> io::Result<()> {
     let n = body::association_count(kind, s);
     let mut j = 0;
     while j < n {
-        print_association(body::association(kind, s, j));
+        print_association(rt, body::association(kind, s, j))?;
         j += 1;
     }
+    Ok(())
 }
 
-fn print_frame(kind: BodyKind, s: &[u8]) {
+fn print_frame(rt: &impl Print, kind: BodyKind, s: &[u8]) -> io::Result<()> {
     let mode = body::mode(kind, s);
-    print_number(mode.number());
-    print_time(body::time_of(kind, s));
-    print_number(body::track_count(kind, s) as u64);
-    print_number(body::observation_count(kind, s) as u64);
-    print_number(body::association_count(kind, s) as u64);
-    print_number(body::sensor_count(kind, s) as u64);
-    print_associations(kind, s);
+    print_number(rt, mode.number())?;
+    print_time(rt, body::time_of(kind, s))?;
+    print_number(rt, body::track_count(kind, s) as u64)?;
+    print_number(rt, body::observation_count(kind, s) as u64)?;
+    print_number(rt, body::association_count(kind, s) as u64)?;
+    print_number(rt, body::sensor_count(kind, s) as u64)?;
+    print_associations(rt, kind, s)
 }
 
-fn print_body(kind: BodyKind, s: &[u8]) {
+fn print_body(rt: &impl Print, kind: BodyKind, s: &[u8]) -> io::Result<()> {
     let refusal = engine_check::refusal_of(kind, s);
-    io::print_decimal(STDOUT_FILENO, refusal as u64);
+    print!(rt; "{refusal}")?;
     if refusal == 0 {
-        print_frame(kind, s);
+        print_frame(rt, kind, s)?;
     }
-    io::write_all(STDOUT_FILENO, b"\n");
+    print!(rt; "\n")
 }
 
-fn print_bodies(s: &[u8]) {
+fn print_bodies(rt: &impl Print, s: &[u8]) -> io::Result<()> {
     let mut at = 0;
     while at < s.len() {
         if s.len() - at < 2 {
-            return;
+            return Ok(());
         }
         let size = little::u16_at(s, at) as usize;
         let from = at + 2;
         if s.len() - from < size {
-            return;
+            return Ok(());
         }
         at = from + size;
-        print_body(BodyKind::Narrow, &s[from..at]);
+        print_body(rt, BodyKind::Narrow, &s[from..at])?;
     }
+    Ok(())
 }
 
-fn main() {
-    let mut buffer = io::large_buffer();
-    let n = io::read_full(STDIN_FILENO, &mut buffer);
-    print_bodies(&buffer[..n]);
+// What is read until the input ends, cannot be read or fills the buffer: so many bytes at its front.
+fn read_full(input: &mut impl Read, buf: &mut [u8]) -> usize
+    ensures { result ≤ length buf.new }
+{
+    let mut n: usize = 0;
+    while n < buf.len() {
+        let Ok(more) = input.read(&mut buf[n..]) else {
+            return n;
+        };
+        if more == 0 {
+            return n;
+        }
+        n += more;
+    }
+    n
+}
+
+fn main(rt: HostRuntime) -> io::Result<()> {
+    let mut buffer = [0u8; CASES];
+    let n = read_full(&mut rt.stdin(), &mut buffer);
+    print_bodies(&rt, &buffer[..n])
 }

@@ -5,6 +5,6 @@
 use playback::play;
 use playback::play::Form;
 
-fn main() {
-    play::play_input(Form::Smoothed);
+fn main(rt: HostRuntime) {
+    play::play_input(&rt, Form::Smoothed);
 }

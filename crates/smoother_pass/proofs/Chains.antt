@@ -67,32 +67,32 @@ found s win k id e g h = sym (rw e at g) ∙ ap found_at h
 
 module _ (s : FixedLagSmoother) (win : List ℕ) (nums : List Float) (id : ℕ) where
   -- the chain of an id from the k-th frame on
-  abbrev chainFrom : ℕ → List Timed
-  chainFrom k = chain_in id (frames_from s win nums k (s.held - k))
+  abbrev chain_from : ℕ → List Timed
+  chain_from k = chain_in id (frames_from s win nums k (s.held - k))
 
-  pub lacks : (k : ℕ) → k < s.held → last_at id (words_in s win k) (track_count (words_in s win k)) ≡ none → chainFrom k ≡ []
+  pub lacks : (k : ℕ) → k < s.held → last_at id (words_in s win k) (track_count (words_in s win k)) ≡ none → chain_from k ≡ []
   unfolding chain track_state
   lacks k h l = rw (one_more_lem s win nums k h, l)
 
-  pub none_left : (k : ℕ) → s.held ≤ k → chainFrom k ≡ []
+  pub none_left : (k : ℕ) → s.held ≤ k → chain_from k ≡ []
   unfolding chain
   none_left k h = rw (no_more s win nums k h)
 
   -- where the k-th frame has the id at track i
   module _ (q : Float) (k i : ℕ) (h : k < s.held) (l : last_at id (words_in s win k) (track_count (words_in s win k)) ≡ some i) where
-    pub last_one : chainFrom (k + 1) ≡ [] → run_back q (chainFrom k) ≡ some (state_at (numbers_in s win nums k) i)
+    pub last_one : chain_from (k + 1) ≡ [] → run_back q (chain_from k) ≡ some (state_at (numbers_in s win nums k) i)
     unfolding chain run_back track_state
     last_one e = rw (one_more_lem s win nums k h, l, e)
 
     pub goes_on : (j : ℕ) → k + 1 < s.held → last_at id (words_in s win (k + 1)) (track_count (words_in s win (k + 1))) ≡ some j
-        → run_back q (chainFrom k) ≡ back_from f64 q (dt_of (time (words_in s win k)) (time (words_in s win (k + 1)))) (state_at (numbers_in s win nums k) i) (run_back q (chainFrom (k + 1)))
+        → run_back q (chain_from k) ≡ back_from f64 q (dt_of (time (words_in s win k)) (time (words_in s win (k + 1)))) (state_at (numbers_in s win nums k) i) (run_back q (chain_from (k + 1)))
     unfolding chain run_back track_state
     goes_on j n m = rw (one_more_lem s win nums k h, one_more_lem s win nums (k + 1) n, l, m)
 
 -- track i of the oldest frame, which has this id, by what the pass gave
 module _ (s : FixedLagSmoother) (win : List ℕ) (nums : List Float) (i : ℕ) {id : ℕ} (e : id ≡ id_word (words_in s win 0) i) where
   abbrev given : Option (Estimate Float)
-  given = run_back (density s.config) (chainFrom s win nums id 0)
+  given = run_back (density s.config) (chain_from s win nums id 0)
 
   same-pass : run_back (density s.config) (chain_in (id_word (words_in s win 0) i) (frames_in s win nums)) ≡ given
   same-pass = let z = sub-zero s.held in λ j. run_back (density s.config) (chain_in (sym e j) (frames_from s win nums 0 (sym z j)))

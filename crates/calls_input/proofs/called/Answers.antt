@@ -1,4 +1,4 @@
-use borrow.Author.Tests.{ne_eqb}
+use borrow.Author.Rules.{rules}
 use Rattle.calls_input.specs.Input.{call_by}
 use Rattle.calls_input.proofs.called.Goals as goal
 
@@ -56,4 +56,4 @@ returns-in-17 c = rw (c.in-17.is, c.write_smoother.ensures)
 
 pub returns-in_default : goal.returns-in_default
 unfolding call_by
-returns-in_default c = rw (ne_eqb _ 1 c.in_default.rest.0.0.0.0.0.0.0.0.0.0.0.0.1, ne_eqb _ 2 c.in_default.rest.0.0.0.0.0.0.0.0.0.0.0.1, ne_eqb _ 4 c.in_default.rest.0.0.0.0.0.0.0.0.0.0.1, ne_eqb _ 5 c.in_default.rest.0.0.0.0.0.0.0.0.0.1, ne_eqb _ 6 c.in_default.rest.0.0.0.0.0.0.0.0.1, ne_eqb _ 7 c.in_default.rest.0.0.0.0.0.0.0.1, ne_eqb _ 9 c.in_default.rest.0.0.0.0.0.0.1, ne_eqb _ 11 c.in_default.rest.0.0.0.0.0.1, ne_eqb _ 12 c.in_default.rest.0.0.0.0.1, ne_eqb _ 13 c.in_default.rest.0.0.0.1, ne_eqb _ 14 c.in_default.rest.0.0.1, ne_eqb _ 16 c.in_default.rest.0.1, ne_eqb _ 17 c.in_default.rest.1)
+returns-in_default c = search rules

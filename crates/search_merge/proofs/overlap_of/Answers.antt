@@ -4,12 +4,6 @@ use Rattle.search_merge.specs.Merge.{both_have, only_has}
 use Rattle.search_merge.proofs.Merged.{both_le, only_le, Counting, counts, counted}
 use Rattle.search_merge.proofs.overlap_of.Goals as goal
 
-record Overlaps (a b : List ℕ) (shared mine theirs k : ℕ) : Type 0 where
-  within : k ≤ SCANS
-  both : Counting both_have a b shared k
-  first : Counting only_has a b mine k
-  second : Counting only_has b a theirs k
-
 pub loop-k-init : goal.loop-k-init
 loop-k-init c =
     record {

@@ -1,7 +1,6 @@
 use mathlib.Core.Path.{◌≡◌, refl, sym, ap, ◌∙◌}
 use mathlib.Core.Bool.{Bool, true, false, cond, ◌||◌, or-true}
 use mathlib.Core.List.{List, [], ◌∷◌}
-use mathlib.Core.Logic.{⊎_elim}
 use Prim.Native.Nat.{ℕ, zero, suc, ◌+◌, ◌-◌, ◌≤◌, ◌<◌}
 use native.Mathlib.Nat.{zero-add}
 use native.Mathlib.Decide.{dec_lt}
@@ -18,7 +17,9 @@ use Rattle.fgo_spec.specs.Searching.{square}
 use Rattle.search_neighbours.specs.declared.Point.{Point}
 use Rattle.search_neighbours.specs.Near.{near_slots, close_slots, close_at, close_scans, any_close, point_at, near_points, close_points, CloseWithin}
 use Rattle.search_rows.proofs.Filled.{map_up_length, map_up_at}
+use Rattle.search_neighbours.proofs.close_scans.Invariants.{Noting}
 use Rattle.search_neighbours.proofs.close_scans.Goals as goal
+use Rattle.search_neighbours.proofs.close_scans.Goals.{else-close_points, then-close_points}
 
 -- nothing is near what lies at NaN
 none_near : (q v w : Float) → lt (add binary64 (square (sub binary64 v nan)) w) q ≡ false
@@ -36,15 +37,6 @@ near_same q dots (suc i) (suc j) = rw (eqb-suc-zero i, eqb-suc-zero j)
 
 close_same : (q : Float) (dots : List Float) (x y nx ny : ℕ) → close_points q (point_at dots x) (point_at dots y) (point_at dots nx) (point_at dots ny) ≡ close_slots q dots x y nx ny
 close_same q dots x y nx ny = λ i. cond (near_same q dots x y i) true (cond (near_same q dots x ny i) true (near_same q dots nx y i))
-
--- up to scan k the scans are noted, from there on none; x and y are where the detections of the rows in scan k lie
-record Noting (q : Float) (dots : List Float) (a b : List ℕ) (close : List Bool) (found : Bool) (k : ℕ) (x y : Point) : Type 0 where
-  long : length close ≡ SCANS
-  noted : (m : ℕ) → m < k → get_or close m false ≡ close_at q dots a b m
-  left : (m : ℕ) → k ≤ m → get_or close m false ≡ false
-  any : found ≡ any_close close
-  mine : x ≡ point_at dots (get_or a k 0)
-  theirs : y ≡ point_at dots (get_or b k 0)
 
 none_noted : (n m : ℕ) → get_or (replicate n false) m false ≡ false
 none_noted zero m = refl
@@ -133,10 +125,10 @@ loop-k-preserved c =
     let r = c.close_points.ensures in
     let n = c.point_at-nx.ensures ∙ ap (point_at _) c.slot-in-loop-k.ensures in
     let m = c.point_at-ny.ensures ∙ ap (point_at _) c.slot-in-loop-k-2.ensures in
-    ⊎_elim
-    (λ w. rw (w.1, w.2) (noting-close p.0 o.invariant t n m r w.0.taken))
-    (λ w. rw (w.1, w.2) (noting-apart p.0 o.invariant t n m r w.0.left))
-    c.if-close_points.branch
+    elim c.if-close_points.branch [
+      then-close_points w ↦ rw (w.close-is, w.found-is) (noting-close p.0 o.invariant t n m r w.if-close_points.true)
+    | else-close_points w ↦ rw (w.close-is, w.found-is) (noting-apart p.0 o.invariant t n m r w.if-close_points.false)
+    ]
 
 pub returns : goal.returns
 returns c =

@@ -3,4 +3,4 @@ use Rattle.print.proofs.Fitting.{refused_few, ready}
 use Rattle.playback.proofs.play.print_refusal.Goals as goal
 
 pub write-requires : goal.write-requires
-write-requires c = (ready c.put_refused-n.ensures (refused_few c.args.code) (omega arith)).within
+write-requires g c = (ready c.put_refused-n.ensures (refused_few c.args.code) (omega arith)).within

@@ -4,25 +4,25 @@ use Rattle.playback.proofs.Playing.{carries_none, carries_room, carries_text, ca
 use Rattle.playback.proofs.steps.push_all.Goals as goal
 
 pub loop-i-init : goal.loop-i-init
-loop-i-init c = (carries_none c.requires.2, pushing_none _ _ _ _)
+loop-i-init g c = (carries_none c.requires.2, pushing_none _ _ _ _)
 
 pub push_one-t-requires : goal.push_one-t-requires
-push_one-t-requires c = carries_room c.loop-i.invariant.0 c.requires.1
+push_one-t-requires g c = carries_room c.loop-i.invariant.0 c.requires.1
 
 pub print_step-p-requires : goal.print_step-p-requires
-print_step-p-requires c =
+print_step-p-requires g c =
     let h = c.loop-i.invariant.0 in
     let t = c.push_one-t.ensures in
     record { in_bounds = (carries_text h c.requires.0, t.shown, t.counted); serves = h.serves }
 
 pub overflow_add-i : goal.overflow_add-i
-overflow_add-i c = record { fits = omega (arith, c.loop-i-test.true, c.ranges.n.fits) }
+overflow_add-i g c = record { fits = omega (arith, c.loop-i-test.true, c.ranges.n.fits) }
 
 pub loop-i-smaller : goal.loop-i-smaller
-loop-i-smaller c = omega (arith, c.loop-i-test.true)
+loop-i-smaller g c = omega (arith, c.loop-i-test.true)
 
 pub loop-i-preserved : goal.loop-i-preserved
-loop-i-preserved c =
+loop-i-preserved g c =
     let h = c.loop-i.invariant in
     let q = c.print_step-p.ensures in (
       carries_on h.0 c.fw-1.given c.fx-1.given c.window-1.given c.values-1.given c.out-1.given q.1,
@@ -30,19 +30,19 @@ loop-i-preserved c =
     )
 
 pub shape_of-fw : goal.shape_of-fw
-shape_of-fw c = c.loop-i.invariant.0.words
+shape_of-fw g c = c.loop-i.invariant.0.words
 
 pub shape_of-fx : goal.shape_of-fx
-shape_of-fx c = c.loop-i.invariant.0.numbers
+shape_of-fx g c = c.loop-i.invariant.0.numbers
 
 pub shape_of-window : goal.shape_of-window
-shape_of-window c = c.loop-i.invariant.0.window
+shape_of-window g c = c.loop-i.invariant.0.window
 
 pub shape_of-values : goal.shape_of-values
-shape_of-values c = c.loop-i.invariant.0.values
+shape_of-values g c = c.loop-i.invariant.0.values
 
 pub shape_of-out : goal.shape_of-out
-shape_of-out c = c.loop-i.invariant.0.text
+shape_of-out g c = c.loop-i.invariant.0.text
 
 pub returns : goal.returns
-returns c = record { serves = c.loop-i.invariant.0.serves; leads = pushing_done _ _ _ _ c.loop-i.invariant.1 c.loop-i-test.false }
+returns g c = record { serves = c.loop-i.invariant.0.serves; leads = pushing_done _ _ _ _ c.loop-i.invariant.1 c.loop-i-test.false }

@@ -5,7 +5,7 @@ use Rattle.playback.specs.Played.{Smoothed}
 use Rattle.playback.proofs.steps.smooth_rest.Given as goal
 
 abbrev pub invariant-loop-r : goal.invariant-loop-r
-invariant-loop-r l = (length l.out ≡ length l.initial.out) × Smoothed l.r.smoother (windowOf l.window l.values)
+invariant-loop-r g l = (length l.out ≡ length l.initial.out) × Smoothed l.r.smoother (windowOf l.window l.values)
 
 abbrev pub decreases-loop-r : goal.decreases-loop-r
-decreases-loop-r l = l.r.smoother.held
+decreases-loop-r g l = l.r.smoother.held

@@ -4,24 +4,24 @@ use Rattle.playback.proofs.Playing.{carries_none, carries_room, carries_text, ca
 use Rattle.playback.proofs.steps.take_all.Goals as goal
 
 pub loop-p-init : goal.loop-p-init
-loop-p-init c = (carries_none c.requires.in_bounds.2, taking_none _ _)
+loop-p-init g c = (carries_none c.requires.in_bounds.2, taking_none _ _)
 
 pub take_one-t-requires : goal.take_one-t-requires
-take_one-t-requires c = carries_room c.loop-p.invariant.0 c.requires.in_bounds.1
+take_one-t-requires g c = carries_room c.loop-p.invariant.0 c.requires.in_bounds.1
 
 pub print_step-p-requires : goal.print_step-p-requires
-print_step-p-requires c =
+print_step-p-requires g c =
     let h = c.loop-p.invariant.0 in
     let t = c.take_one-t.ensures.steps in
     record { in_bounds = (carries_text h c.requires.in_bounds.0, t.shown, t.counted); serves = h.serves }
 
 pub loop-p-smaller : goal.loop-p-smaller
-loop-p-smaller c =
+loop-p-smaller g c =
     let some : 0 < c.loop-p.p.refiner.held = omega (arith, c.loop-p-test.true) in
     taking-less _ _ c.requires.led c.loop-p.invariant.1 some c.take_one-t.ensures.fewer c.print_step-p.ensures.0
 
 pub loop-p-preserved : goal.loop-p-preserved
-loop-p-preserved c =
+loop-p-preserved g c =
     let some : 0 < c.loop-p.p.refiner.held = omega (arith, c.loop-p-test.true) in
     let h = c.loop-p.invariant in
     let t = c.take_one-t.ensures in
@@ -31,19 +31,19 @@ loop-p-preserved c =
     )
 
 pub shape_of-fw : goal.shape_of-fw
-shape_of-fw c = c.loop-p.invariant.0.words
+shape_of-fw g c = c.loop-p.invariant.0.words
 
 pub shape_of-fx : goal.shape_of-fx
-shape_of-fx c = c.loop-p.invariant.0.numbers
+shape_of-fx g c = c.loop-p.invariant.0.numbers
 
 pub shape_of-window : goal.shape_of-window
-shape_of-window c = c.loop-p.invariant.0.window
+shape_of-window g c = c.loop-p.invariant.0.window
 
 pub shape_of-values : goal.shape_of-values
-shape_of-values c = c.loop-p.invariant.0.values
+shape_of-values g c = c.loop-p.invariant.0.values
 
 pub shape_of-out : goal.shape_of-out
-shape_of-out c = c.loop-p.invariant.0.text
+shape_of-out g c = c.loop-p.invariant.0.text
 
 pub returns : goal.returns
-returns c = record { serves = c.loop-p.invariant.0.serves; takes_all = taking_done _ _ c.loop-p.invariant.1 (omega (arith, c.loop-p-test.false)) }
+returns g c = record { serves = c.loop-p.invariant.0.serves; takes_all = taking_done _ _ c.loop-p.invariant.1 (omega (arith, c.loop-p-test.false)) }

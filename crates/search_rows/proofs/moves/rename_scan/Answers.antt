@@ -3,12 +3,12 @@ use mathlib.Core.Path.{◌≡◌, sym, ◌∙◌}
 use Prim.Native.Nat.{◌-◌}
 use native.Mathlib.Omega.{arith}
 use mathlib.Core.Bool.{false}
-use mathlib.Core.Logic.{⊎_elim}
 use lib.Dec.{eqb}
 use lib.ListN.{get_or}
 use borrow.Author.Tests.{eq-eqb, ne_eqb}
 use Rattle.search_rows.specs.Moves.{retarget}
 use Rattle.search_rows.proofs.moves.rename_scan.Goals as goal
+use Rattle.search_rows.proofs.moves.rename_scan.Goals.{then-x-a, else-x-a+then-x-b, else-x-a+else-x-b}
 
 pub loop-i-init : goal.loop-i-init
 loop-i-init c = (omega arith, omega arith, omega arith, omega arith, sym (over_none (retarget c.args.a.0 c.args.b.0 c.args.t) c.args.from c.args.ids.now))
@@ -52,12 +52,13 @@ loop-i-preserved c =
       omega arith,
       omega arith,
       omega arith,
-      ⊎_elim
-          (λ w. w.1 ∙ turn s.t.a.0 l.invariant.4 (rw (eq-eqb a x (sym w.0.taken))))
-          (⊎_elim
-          (λ w. w.3 ∙ turn s.t.b.0 l.invariant.4 (rw (other w.0.left, eq-eqb b x (sym w.2.taken))))
-          (λ w. w.3 ∙ skip (rw (other w.0.left, ne_eqb b x (λ e. w.2.left (sym e))))))
-          c.if-x-a.branch,
+      elim c.if-x-a.branch [
+        then-x-a w ↦ w.ids-is ∙ turn s.t.a.0 l.invariant.4 (rw (eq-eqb a x (sym w.if-x-a.true)))
+      | else-x-a+then-x-b w ↦
+          w.ids-is ∙ turn s.t.b.0 l.invariant.4 (rw (other w.if-x-a.false, eq-eqb b x (sym w.if-x-b.true)))
+      | else-x-a+else-x-b w ↦
+          w.ids-is ∙ skip (rw (other w.if-x-a.false, ne_eqb b x (λ e. w.if-x-b.false (sym e))))
+      ],
     )
 
 pub returns : goal.returns

@@ -7,12 +7,8 @@ use native.Mathlib.Omega.{arith}
 use lib.ListN.{length, get_or, get_or-eq_default}
 use Rattle.bounds.specs.Bounds.{SCANS}
 use Rattle.search_rows.proofs.RowEnds.{end-at}
+use Rattle.search_rows.proofs.rows.end_of.Invariants.{Empty}
 use Rattle.search_rows.proofs.rows.end_of.Goals as goal
-
--- no detection from e on
-record Empty (r : List ℕ) (e : ℕ) : Type 0 where
-  within : e ≤ SCANS
-  above : (j : ℕ) → e ≤ j → get_or r j 0 ≤ 0
 
 starts : (r : List ℕ) → length r ≤ SCANS → Empty r SCANS
 starts r l = record { within = le_refl SCANS; above = λ j h. rw (get_or-eq_default r 0 {n = j} (omega arith)) (le_refl 0) }

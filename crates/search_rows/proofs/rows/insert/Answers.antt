@@ -1,7 +1,7 @@
-use mathlib.Core.Logic.{⊎_elim}
 use native.Mathlib.Omega.{arith}
 use Rattle.search_rows.proofs.Ascending.{place_fits, inserted_old, inserted_new}
 use Rattle.search_rows.proofs.rows.insert.Goals as goal
+use Rattle.search_rows.proofs.rows.insert.Goals.{then-p-n+else-l-p, else-p-n}
 
 pub returns-then-l-p : goal.returns-then-l-p
 returns-then-l-p c = let s = c.args in
@@ -28,5 +28,8 @@ returns c = let s = c.args in
     let p = c.place_of-p in
     let m = c.move_up.ensures in
     inserted_new s.x.0 s.n p.result s.l.now _ (omega arith) (omega arith) p.ensures
-    (⊎_elim (λ w h e. w.3.left e) (λ w h e. absurd (omega (arith, w.left))) c.if-p-n.branch)
-    m.0 m.1.0 m.1.1
+    (elim c.if-p-n.branch [
+      then-p-n+else-l-p w ↦ (λ h e. w.if-l-p.false e)
+    | else-p-n w ↦ (λ h e. absurd (omega (arith, w.if-p-n.false)))
+    ])
+    m.l_len m.l_unchanged m.l_after

@@ -37,4 +37,4 @@ returns c = let o = c.loop-j in
     let s = c.args in
     let e : o.j ≡ s.p = omega arith in
     let w : Opening s.n s.l.now o.l s.p = rw e at o.invariant.1 in
-    let both = (w.size, (w.low, rw (add-one s.p, add-one s.n) w.high)) in record { l_len = both.0; l_unchanged = both.1; l_after = both.2 }
+    record { l_len = w.size; l_unchanged = w.low; l_after = rw (add-one s.p, add-one s.n) w.high }

@@ -3,7 +3,6 @@ use lib.ListN.{get_or}
 use lib.Ieee.{nan}
 use Rattle.bounds.specs.Bounds.{VECTOR}
 use Rattle.linalg.proofs.Fill.{Filled}
-use Rattle.smoother_frame.proofs.Copying as Copying
 use Rattle.smoother_frame.proofs.copy.vector_at.Given as goal
 
 abbrev pub invariant-loop-n : goal.invariant-loop-n

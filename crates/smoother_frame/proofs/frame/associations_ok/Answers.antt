@@ -1,9 +1,7 @@
-use Prim.Native.Nat.{◌-◌}
 use mathlib.Core.Path.{◌≡◌, sym, ◌∙◌}
-use mathlib.Core.Bool.{true}
 use native.Mathlib.Omega.{arith}
 use Rattle.engine.proofs.Every.{all_none, all_more, all-less}
-use Rattle.smoother_frame.specs.Frame.{association_ok, association_count}
+use Rattle.smoother_frame.specs.Frame.{association_count}
 use Rattle.smoother_frame.proofs.frame.associations_ok.Goals as goal
 
 pub loop-j-init : goal.loop-j-init

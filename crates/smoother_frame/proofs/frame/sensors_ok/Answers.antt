@@ -1,6 +1,5 @@
-use Prim.Native.Nat.{◌-◌, ◌^◌}
+use Prim.Native.Nat.{◌^◌}
 use mathlib.Core.Path.{◌≡◌, sym}
-use mathlib.Core.Bool.{true}
 use native.Mathlib.Omega.{arith}
 use borrow.Author.Tests.{le-ltb, lt-ltb}
 use Rattle.engine.proofs.Every.{all_none, all_more, all-less}

@@ -1,9 +1,6 @@
-use Prim.Native.Nat.{◌-◌}
 use mathlib.Core.Path.{◌≡◌, sym, ◌∙◌}
-use mathlib.Core.Bool.{true}
 use native.Mathlib.Omega.{arith}
 use Rattle.engine.proofs.Every.{all_none, all_more, all-less}
-use Rattle.smoother_frame.specs.Frame.{track_ok}
 use Rattle.smoother_frame.proofs.frame.tracks_ok.Goals as goal
 
 pub loop-i-init : goal.loop-i-init

@@ -23,6 +23,9 @@ costs_from-at-requires c = let p = c.requires in let n = words_of p.0.tracks (p.
 pub offset_bounds-x-at : goal.offset_bounds-x-at
 offset_bounds-x-at c = let p = c.requires in let n = words_of p.0.tracks (p.3 0 p.2) c.frame_words-w.ensures.0 c.frame_words-w.ensures.1 in omega (arith, n, c.costs_from-at.ensures, c.frame_numbers-x.ensures.1)
 
+pub slice_bounds-put_numbers-start : goal.slice_bounds-put_numbers-start
+slice_bounds-put_numbers-start c = let p = c.requires in let n = words_of p.0.tracks (p.3 0 p.2) c.frame_words-w.ensures.0 c.frame_words-w.ensures.1 in omega (arith, n, c.costs_from-at.ensures, c.frame_numbers-x.ensures.1)
+
 pub slice_bounds-put_numbers-count : goal.slice_bounds-put_numbers-count
 slice_bounds-put_numbers-count c = let p = c.requires in let n = words_of p.0.tracks (p.3 0 p.2) c.frame_words-w.ensures.0 c.frame_words-w.ensures.1 in omega (arith, n, c.costs_from-at.ensures, c.frame_numbers-x.ensures.1)
 

@@ -1,4 +1,4 @@
-use Prim.Native.Nat.{◌-◌, ◌≤◌}
+use Prim.Native.Nat.{◌≤◌}
 use mathlib.Core.Path.{◌≡◌}
 use Rattle.smoother_frame.specs.Frame.{track_count}
 use Rattle.smoother_pass.specs.Pass.{last_at}

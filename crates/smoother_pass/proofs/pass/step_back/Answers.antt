@@ -1,7 +1,6 @@
 use mathlib.Core.Bool.{true}
 use mathlib.Core.Path.{◌≡◌, sym, ap, ◌∙◌}
 use lib.Ieee.{Float}
-use borrow.Author.Tests.{not-true}
 use Rattle.scalar.specs.F64.{f64}
 use Rattle.rts.specs.declared.Step.{Step}
 use Rattle.rts.specs.declared.Step.TheVariants.{Smoothed, Skipped, Failed}
@@ -16,7 +15,7 @@ taken : (q dt : Float) (a : Estimate Float) (later : RanBack) {s : Step} (r : St
 taken q dt a later r {o} h e g = rw h (ap (λ s. left_by s o) (sym e) ∙ ap left g)
 
 pub returns-then-not-ok : goal.returns-then-not-ok
-returns-then-not-ok c = rw (not-true c.args.later.ok c.if-not-ok.true)
+returns-then-not-ok c = rw c.if-not-ok.true
 
 pub returns-in-Smoothed : goal.returns-in-Smoothed
 returns-in-Smoothed c = let g = c.args in taken g.q g.dt (estimate_of g.a) g.later Smoothed (c.if-not-ok.false) c.in-Smoothed.is c.back-step.ensures

@@ -1,6 +1,4 @@
-use Prim.Native.Nat.{◌-◌}
 use mathlib.Core.Path.{◌≡◌, sym, ◌∙◌}
-use mathlib.Core.Bool.{true}
 use native.Mathlib.Omega.{arith}
 use Rattle.engine.proofs.Every.{all_none, all_more, all-less}
 use Rattle.smoother_window.proofs.Forms.{all_held}

@@ -19,4 +19,4 @@ exact_numbers-requires c = let d = headed _ _ (sym c.head_ok.ensures ∙ c.if-no
 
 pub returns : goal.returns
 unfolding words_in numbers_in
-returns c = let e = c.slot_words-w.ensures.0 in let h = c.slot_numbers-x.ensures.0 in let a = c.exact_words.ensures.0 ∙ ap (λ w. take (words_long w) w) e in let b = c.exact_numbers.ensures.0 ∙ (λ i. take (numbers_long (e i)) (h i)) in c.well-formed-2.ensures ∙ (λ i. well_formed (most c.args.s.config) (frame (a i) (b i)))
+returns c = let e = c.slot_words-w.ensures.0 in let h = c.slot_numbers-x.ensures.0 in let a = c.exact_words.ensures.0 ∙ ap (λ w. take (words_long w) w) e in let b = c.exact_numbers.ensures.0 ∙ (λ i. take (numbers_long (e i)) (h i)) in c.well_formed-2.ensures ∙ (λ i. well_formed (most c.args.s.config) (frame (a i) (b i)))
