@@ -15,7 +15,7 @@ use Rattle.engine.specs.Body.{time_ok}
 
 -- a number that fits, passed on
 pub passed_on : (z : ℤ) → mag z < 2 ^ 63 → to_z w64 (of_z w64 z) ≡ z
-passed_on z h = to_z-of_z (record { sfits = h })
+passed_on z h = to_z-of_z {w = w64} (record { sfits = h })
 
 -- the difference of two times in bounds fits
 sub_bound : (x y : ℕ) → x < 2 ^ 63 → y ≤ 2 ^ 63 → mag (sub_ℕ x y) < 2 ^ 63

@@ -1,3 +1,4 @@
 pub mod Owners
 pub mod PlacingSteps
 pub mod Compacting
+pub mod Telling

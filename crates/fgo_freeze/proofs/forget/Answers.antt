@@ -1,6 +1,5 @@
 use Prim.Native.Nat.{◌-◌, ◌<◌}
 use mathlib.Core.Path.{◌≡◌, sym, ap, ◌∙◌}
-use mathlib.Core.Logic.{⊎_elim}
 use native.Mathlib.Omega.{arith}
 use mir.Syntax.{w64}
 use mir.Val.{to_z, of_z}
@@ -10,6 +9,7 @@ use Rattle.fgo_part.specs.Parts.{part_id, prefix_in, entry_in, part_last_ns}
 use Rattle.fgo_state.specs.Memory.{scans_in}
 use Rattle.fgo_freeze.proofs.Forgetting.{kept_is, keeping_none, keeping_skip, keeping_more}
 use Rattle.fgo_freeze.proofs.forget.Goals as goal
+use Rattle.fgo_freeze.proofs.forget.Goals.{then-is_kept, else-is_kept}
 
 pub loop-k-init : goal.loop-k-init
 loop-k-init c = let a = c.args in (omega arith, keeping_none a.c (to_z w64 (of_z w64 a.time)) (scans_in a.bodies.now a.columns.now a.first.0 a.held) a.tracks.now a.filters.now)
@@ -47,10 +47,10 @@ loop-k-preserved c =
     let n : 0 < part_id v.tracks v.k = rw (← ap (λ u. u.0) e) at (p.parts v.k h).named in
     let b : c.is_kept.result ≡ kept a.c (to_z w64 (of_z w64 a.time)) ss (entry_in a.tracks.now a.filters.now v.k) = c.is_kept.ensures ∙ kept_is a.c (to_z w64 (of_z w64 a.time)) ss v.tracks v.filters v.k n ∙ ap (kept a.c (to_z w64 (of_z w64 a.time)) ss) e in (
       omega arith,
-      ⊎_elim
-          (λ w. rw (w.4, w.5, w.6) (keeping_more a.c (to_z w64 (of_z w64 a.time)) ss a.tracks.now a.filters.now v.invariant.1 w.3.ensures (sym b ∙ w.0.taken)))
-          (λ w. rw (w.1, w.2, w.3) (keeping_skip a.c (to_z w64 (of_z w64 a.time)) ss a.tracks.now a.filters.now v.invariant.1 (sym b ∙ w.0.left)))
-          c.if-is_kept.branch,
+      elim c.if-is_kept.branch [
+        | then-is_kept w ↦ rw (w.tracks-is, w.filters-is, w.w-is) (keeping_more a.c (to_z w64 (of_z w64 a.time)) ss a.tracks.now a.filters.now v.invariant.1 w.copy_part.ensures (sym b ∙ w.if-is_kept.true))
+        | else-is_kept w ↦ rw (w.tracks-is, w.filters-is, w.w-is) (keeping_skip a.c (to_z w64 (of_z w64 a.time)) ss a.tracks.now a.filters.now v.invariant.1 (sym b ∙ w.if-is_kept.false))
+      ],
     )
 
 pub returns : goal.returns

@@ -1,6 +1,7 @@
 use mathlib.Core.Path.{◌≡◌}
 use native.Mathlib.Numerals.{add-one}
 use borrow.Author.Tests.{le-leb}
+use borrow.Author.Rules.{rules}
 use mir.Syntax.{w64}
 use mir.Val.{to_z, of_z}
 use mir.Facts.{to_z-of_z}
@@ -11,5 +12,5 @@ use Rattle.fgo_freeze.proofs.freeze.Goals as goal
 pub returns : goal.returns
 unfolding spec.freeze
 returns c =
-    let e : to_z w64 (of_z w64 c.args.d.time) ≡ c.args.d.time = to_z-of_z (record { sfits = c.struct_told-1.given.1.0.1 }) in
+    let e : to_z w64 (of_z w64 c.args.d.time) ≡ c.args.d.time = to_z-of_z {w = w64} (record { sfits = search rules }) in
     rw (e, c.moved_on-kf.ensures, c.height_count.ensures, count-within, le-leb _ _ c.requires.heights, c.with_height-heights.ensures, c.newer-class.ensures, add-one)

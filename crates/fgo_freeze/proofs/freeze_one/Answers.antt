@@ -1,11 +1,11 @@
 use Prim.Native.Nat.{◌<◌}
 use mathlib.Core.Path.{◌≡◌, sym, ◌∙◌}
-use mathlib.Core.Logic.{⊎_elim}
 use native.Mathlib.Omega.{arith}
 use Rattle.fgo_part.specs.Parts.{part_id}
 use Rattle.fgo_freeze.specs.Frozen.{detection_by}
 use Rattle.fgo_freeze.proofs.FrozenOne.{can_move, one_moved, one-begun}
 use Rattle.fgo_freeze.proofs.freeze_one.Goals as goal
+use Rattle.fgo_freeze.proofs.freeze_one.Goals.{then-k-frozen+else-part_id-id, else-k-frozen}
 
 pub place_of-k-requires : goal.place_of-k-requires
 place_of-k-requires c = omega (arith, c.requires.room)
@@ -42,5 +42,9 @@ overflow_add-result c = omega (arith, c.requires.room)
 pub returns : goal.returns
 returns c =
     let a = c.args in
-    let ne : c.place_of-k.result < a.frozen → part_id a.tracks.now c.place_of-k.result ≡ a.id.0 → ⊥ = ⊎_elim (λ w. λ h e. w.5.left (w.2.ensures ∙ e)) (λ w. λ h. absurd (omega (arith, w.left))) c.if-k-frozen.branch in
+    let ne : c.place_of-k.result < a.frozen → part_id a.tracks.now c.place_of-k.result ≡ a.id.0 → ⊥ =
+    elim c.if-k-frozen.branch [
+      | then-k-frozen+else-part_id-id w ↦ λ h e. w.if-part_id-id.false (w.part_id.ensures ∙ e)
+      | else-k-frozen w ↦ λ h. absurd (omega (arith, w.if-k-frozen.false))
+    ] in
     one-begun a.c a.tracks.now a.filters.now a.frozen a.id.0 c.place_of-k.result (detection_by a.d) c.place_of-k.ensures.0 c.requires.most c.requires.ordered ne c.fresh-q.result c.fresh-q.ensures c.make_room.ensures c.put_prefix-2.ensures

@@ -1,6 +1,5 @@
 use Prim.Native.Nat.{◌+◌, ◌-◌, ◌<◌}
 use mathlib.Core.Path.{◌≡◌, sym, ap, ◌∙◌}
-use mathlib.Core.Logic.{⊎_elim}
 use native.Mathlib.Omega.{arith}
 use lib.ListN.{length, get_or}
 use Rattle.bounds.specs.Bounds.{ACCEPTED}
@@ -15,6 +14,7 @@ use Rattle.fgo_state.proofs.Columns.{body_read, scan_frame, associations_long, i
 use Rattle.fgo_state.proofs.Counts.{associations_few}
 use Rattle.fgo_freeze.proofs.FrozenScan.{going_none, going_skip, going_room, going_one, going_done}
 use Rattle.fgo_freeze.proofs.freeze_scan.Goals as goal
+use Rattle.fgo_freeze.proofs.freeze_scan.Goals.{then-id-gt0, else-id-gt0}
 
 pub loop-j-init : goal.loop-j-init
 loop-j-init c =
@@ -61,13 +61,13 @@ loop-j-preserved c =
     let la : v.j < length s.frame.associations = omega (arith, associations_long a.bodies.now a.columns.now a.n.0 eb) in
     let li : v.j < length s.ids = omega (arith, ids_long a.bodies.now a.columns.now a.n.0 eb) in (
       omega arith,
-      ⊎_elim
-          (λ w.
-          let d : detection_by w.1.result ≡ detection_of a.n.0 s.frame (get_or s.frame.associations v.j no_association) = w.1.ensures (ap (λ b. body_refusal b) eb ∙ c.requires.passes) ∙ ap (λ f. detection_of a.n.0 f (get_or f.associations v.j no_association)) (sym (scan_frame a.bodies.now a.columns.now a.n.0 eb)) in
-          let g = going_one a.c a.n.0 s t v.invariant.1 la li (omega (arith, w.0.taken)) in
-          rw (w.5, w.6, w.7, w.4.ensures, d, q) g)
-          (λ w. rw (w.1, w.2, w.3) (going_skip a.c a.n.0 s t v.invariant.1 la li (omega (arith, w.0.left))))
-          c.if-id-gt0.branch,
+      elim c.if-id-gt0.branch [
+        | then-id-gt0 w ↦
+            let d : detection_by w.seen_at-d.result ≡ detection_of a.n.0 s.frame (get_or s.frame.associations v.j no_association) = w.seen_at-d.ensures (ap (λ b. body_refusal b) eb ∙ c.requires.passes) ∙ ap (λ f. detection_of a.n.0 f (get_or f.associations v.j no_association)) (sym (scan_frame a.bodies.now a.columns.now a.n.0 eb)) in
+            let g = going_one a.c a.n.0 s t v.invariant.1 la li (omega (arith, w.if-id-gt0.true)) in
+            rw (w.tracks-is, w.filters-is, w.f-is, w.freeze_one-f.ensures, d, q) g
+        | else-id-gt0 w ↦ rw (w.tracks-is, w.filters-is, w.f-is) (going_skip a.c a.n.0 s t v.invariant.1 la li (omega (arith, w.if-id-gt0.false)))
+      ],
     )
 
 pub returns : goal.returns

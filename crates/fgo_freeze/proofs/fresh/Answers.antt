@@ -1,4 +1,5 @@
 use mathlib.Core.Path.{◌≡◌}
+use borrow.Author.Rules.{rules}
 use mir.Syntax.{w64}
 use mir.Val.{to_z, of_z}
 use mir.Facts.{to_z-of_z}
@@ -9,5 +10,5 @@ use Rattle.fgo_freeze.proofs.fresh.Goals as goal
 pub returns : goal.returns
 unfolding rows spec.freeze
 returns c =
-    let e : to_z w64 (of_z w64 c.args.d.time) ≡ c.args.d.time = to_z-of_z (record { sfits = c.type_inv.d.1.0.1 }) in
+    let e : to_z w64 (of_z w64 c.args.d.time) ≡ c.args.d.time = to_z-of_z {w = w64} (record { sfits = search rules }) in
     rw (c.start-kf.ensures, c.position_variance.ensures, c.seconds.ensures, e)

@@ -2,7 +2,7 @@ use Prim.Native.Nat.{ℕ, suc, ◌+◌, ◌-◌, ◌≤◌, ◌<◌}
 use native.Mathlib.Numerals.{add-one}
 use native.Mathlib.Omega.{arith}
 use mathlib.Core.Path.{◌≡◌, sym, ap, ◌∙◌}
-use mathlib.Core.Logic.{◌⊎◌, inl, inr, ⊎_elim}
+use mathlib.Core.Logic.{◌⊎◌, inl, inr}
 use mathlib.Core.Bool.{Bool, true, false, ◌||◌, not, or-true}
 use mathlib.Core.List.{List}
 use lib.Dec.{eqb, ltb}
@@ -17,6 +17,7 @@ use Rattle.fgo_state.specs.Memory.{id_at, association_in}
 use Rattle.fgo_rule.specs.Tests.{id_ok}
 use Rattle.fgo_rule.proofs.Conjunctions.{passed, failed}
 use Rattle.fgo_rule.proofs.id_ok.Goals as goal
+use Rattle.fgo_rule.proofs.id_ok.Goals.{then-x-ne0+else-stands_in, else-x-ne0}
 
 module _ (next : ℕ) (columns : List ℕ) (b : Body) (n j : ℕ) where
   -- whether the id stands in a later association
@@ -57,6 +58,9 @@ pub returns : goal.returns
 returns c =
     let b = body c.args.kind c.args.s.now in
     fits _ _ b _ _
-    (⊎_elim (λ w. inr (sym (stood 0 _ b _ _ c.id_at-x.ensures w.1.ensures w.2.ensures) ∙ w.3.left)) (λ w. inl (sym c.id_at-x.ensures ∙ w.left)) c.if-x-ne0.branch)
+    (elim c.if-x-ne0.branch [
+      | then-x-ne0+else-stands_in w ↦ inr (sym (stood 0 _ b _ _ c.id_at-x.ensures w.association_count.ensures w.stands_in.ensures) ∙ w.if-stands_in.false)
+      | else-x-ne0 w ↦ inl (sym c.id_at-x.ensures ∙ w.if-x-ne0.false)
+    ])
     (omega (arith, c.if-next-x.false, c.id_at-x.ensures))
     (c.loose_ok.ensures ∙ ap (λ (a : Association). loose_ok a.track c.id_at-x.result.0) (c.association-a.ensures.1 c.requires.0) ∙ ap (loose_ok (association_in b c.args.j).track) c.id_at-x.ensures)

@@ -26,12 +26,12 @@ returns-then-lost-eq0 c =
     let v = view_in s.hall s.dots.now in
     let l = ap (λ (o : Overlap). o.shared) c.requires.0.lie in
     let x = c.own_cost-own.ensures in
-    let y = x.0 ∙ ap (row_cost s.hall.config v s.p) (merged_same s.a.now s.b.now (sym l ∙ c.if-lost-eq0.true)) in
-    record { value = tried s.hall.config v s.keeper s.p s.a.now s.b.now s.base s.best x.0 y l c.merge_of.ensures c.merge_of-then-lost-eq0.ensures c.better_pair-first.ensures c.better_pair.ensures; logs_kept = x.1 }
+    let y = x.value ∙ ap (row_cost s.hall.config v s.p) (merged_same s.a.now s.b.now (sym l ∙ c.if-lost-eq0.true)) in
+    record { value = tried s.hall.config v s.keeper s.p s.a.now s.b.now s.base s.best x.value y l c.merge_of.ensures c.merge_of-then-lost-eq0.ensures c.better_pair-first.ensures c.better_pair.ensures; logs_kept = x.logs_kept }
 
 pub returns : goal.returns
 returns c =
     let s = c.args in
     let l = ap (λ (o : Overlap). o.shared) c.requires.0.lie in
     let y = c.other_cost-other.ensures in
-    record { value = tried s.hall.config (view_in s.hall s.dots.now) s.keeper s.p s.a.now s.b.now s.base s.best c.own_cost-own.ensures.value y.0 l c.merge_of.ensures c.merge_of-2.ensures c.better_pair-first.ensures c.better_pair-2.ensures; logs_kept = y.1 }
+    record { value = tried s.hall.config (view_in s.hall s.dots.now) s.keeper s.p s.a.now s.b.now s.base s.best c.own_cost-own.ensures.value y.value l c.merge_of.ensures c.merge_of-2.ensures c.better_pair-first.ensures c.better_pair-2.ensures; logs_kept = y.logs_kept }

@@ -1,7 +1,6 @@
 use mathlib.Core.Path.{◌≡◌, refl, sym, ap, ◌∙◌}
 use mathlib.Core.Bool.{Bool, true, false}
 use mathlib.Core.List.{List}
-use mathlib.Core.Logic.{⊎_elim}
 use Prim.Native.Nat.{ℕ, ◌+◌, ◌-◌, ◌≤◌}
 use native.Mathlib.Nat.{le_trans, add-zero}
 use native.Mathlib.Omega.{arith}
@@ -22,6 +21,7 @@ use Rattle.cost_row.proofs.Left.{best_from, best_yes, best_no, best_stays}
 use Rattle.cost_row.proofs.Heads.{Along, begins, passes, on_to_lem, taken_on, until, crossed-cost, few_on, ends_same}
 use Rattle.search_pair.proofs.best_swap.Invariants.{Tried}
 use Rattle.search_pair.proofs.best_swap.Goals as goal
+use Rattle.search_pair.proofs.best_swap.Goals.{else-is_cut, then-is_cut}
 
 module _ {c : FgoConfig} {v : View} {pa pb : Fold} {close : List Bool} {ra rb : List ℕ} {base : Float} {best : PairMove} {fa fb : Fold} {done k : ℕ} (s : Tried c v pa pb close ra rb base best fa fb done k) where
   tries : k ≤ SCANS → length ra ≡ SCANS → length rb ≡ SCANS → cut_at close k ≡ true → {ga gb : Fold} {gain : Float} → ga ≡ on_to c v done k ra fa → gb ≡ on_to c v done k rb fb →
@@ -133,10 +133,10 @@ loop-k-preserved c =
     let p = i.1 in
     let e = c.is_cut-in-loop-k.ensures in
     let t : c.loop-k.k ≤ SCANS = omega (arith, p.over_a.within, c.loop-k-test.true) in
-    ⊎_elim
-    (λ w. rw (w.13, w.14, w.15, w.16, w.17, w.18, w.19, w.12.ensures) (tries i.0 t p.fit_a.long p.fit_b.long (sym e ∙ w.0.taken) w.3.ensures.0 w.6.ensures.0 w.10.ensures.0, p, w.10.ensures.1))
-    (λ w. rw (w.1, w.2, w.3, w.4, w.5, w.6, w.7) (skips i.0 t (sym e ∙ w.0.left), p, i.2))
-    c.if-is_cut.branch
+    elim c.if-is_cut.branch [
+      then-is_cut w ↦ rw (w.logs-is, w.best-is, w.fa-is, w.fb-is, w.sa-is, w.sb-is, w.done-is, w.better_pair-best.ensures) (tries i.0 t p.fit_a.long p.fit_b.long (sym e ∙ w.if-is_cut.true) w.fold_to-sa.ensures.numbers_after w.fold_to-sb.ensures.numbers_after w.swap_gain-gain.ensures.value, p, w.swap_gain-gain.ensures.logs_kept)
+    | else-is_cut w ↦ rw (w.logs-is, w.best-is, w.fa-is, w.fb-is, w.sa-is, w.sb-is, w.done-is) (skips i.0 t (sym e ∙ w.if-is_cut.false), p, i.2)
+    ]
 
 pub returns : goal.returns
 returns c =

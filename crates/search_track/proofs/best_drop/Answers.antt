@@ -2,21 +2,20 @@ use borrow.Author.Tests.{lt-ltb, le-ltb}
 use mathlib.Core.Path.{◌≡◌, refl, sym, ◌∙◌}
 use mathlib.Core.Bool.{true, false}
 use mathlib.Core.List.{List}
-use mathlib.Core.Logic.{⊎_elim}
 use Prim.Native.Nat.{ℕ, ◌+◌, ◌-◌, ◌≤◌, ◌<◌}
 use native.Mathlib.Omega.{arith}
 use lib.ListN.{get_or}
-use lib.Ieee.{Float, nan}
+use lib.Ieee.{Float}
 use Rattle.bounds.specs.Bounds.{SCANS}
 use Rattle.fgo_spec.specs.declared.moves.TrackMove.{TrackMove}
-use Rattle.fgo_spec.specs.declared.moves.TrackMove.TheVariants.{Drop}
 use Rattle.fgo_spec.specs.Searching.{better_track}
 use Rattle.search_rows.specs.Moves.{has_slot}
 use Rattle.search_track.specs.Track.{marks, best_drop_by}
 use Rattle.cost_row.specs.Price.{EndsBy}
-use Rattle.cost_row.proofs.Left.{best_from, best_yes, best_no, best_over}
+use Rattle.cost_row.proofs.Left.{best_yes, best_no, best_over}
 use Rattle.search_track.proofs.best_drop.Invariants.{Drops, by}
 use Rattle.search_track.proofs.best_drop.Goals as goal
+use Rattle.search_track.proofs.best_drop.Goals.{else-row-k-gt0, then-row-k-gt0}
 
 module _ {first : ℕ} {gains : List Float} {r : List ℕ} {end : ℕ} {start best : TrackMove} {k : ℕ} (e : EndsBy end r) (s : Drops first gains r end start best k) where
   tries : k < end → has_slot r k ≡ true → Drops first gains r end start (better_track best (by first gains k)) (k + 1)
@@ -58,10 +57,10 @@ loop-k-preserved c =
     let i = c.loop-k.invariant in
     let e = c.requires.1 in
     let g = c.loop-k-test.true in
-    ⊎_elim
-    (λ w. rw (w.4, w.3.ensures) (tries e i g (lt-ltb _ _ w.0.taken)))
-    (λ w. rw w.1 (skips e i g (le-ltb _ _ w.0.left)))
-    c.if-row-k-gt0.branch
+    elim c.if-row-k-gt0.branch [
+      then-row-k-gt0 w ↦ rw (w.best-is, w.better_track-best.ensures) (tries e i g (lt-ltb _ _ w.if-row-k-gt0.true))
+    | else-row-k-gt0 w ↦ rw w.best-is (skips e i g (le-ltb _ _ w.if-row-k-gt0.false))
+    ]
 
 pub returns : goal.returns
 returns c = ends c.requires.1 c.loop-k.invariant c.loop-k-test.false

@@ -62,7 +62,7 @@ overflow_add-length_of c =
 pub best_drop-requires : goal.best_drop-requires
 best_drop-requires c =
     let p = c.requires in
-    (p.0.early, ends_at p.1.long c.end_of-end.ensures, c.best_split-best.ensures.drop_gains.0.long)
+    (p.0.early, ends_at p.1.long c.end_of-end.ensures, c.best_split-best.ensures.drop_gains.long)
 
 pub returns-then-length_of-frozen_one-gt1 : goal.returns-then-length_of-frozen_one-gt1
 unfolding best_track_row
@@ -74,9 +74,9 @@ returns-then-length_of-frozen_one-gt1 c =
     let split = c.best_split-best.ensures in
     let e = ends_at p.1.long c.end_of-end.ensures in
     let many : 1 < length (marks s.row.now) + frozen_one s.p = omega (arith, c.length_of.ensures, c.frozen_one.ensures, c.if-length_of-frozen_one-gt1.true) in record { value = c.best_drop.ensures
-          ∙ drops-by e split.1.0 _
-          ∙ ap (best_drop_row s.hall.config v s.p s.row.now s.base) split.0
-          ∙ sym (ap (λ (t : Bool). cond t (best_drop_row s.hall.config v s.p s.row.now s.base best) best) (lt-ltb _ _ many)); logs_kept = split.1.1 }
+          ∙ drops-by e split.drop_gains _
+          ∙ ap (best_drop_row s.hall.config v s.p s.row.now s.base) split.value
+          ∙ sym (ap (λ (t : Bool). cond t (best_drop_row s.hall.config v s.p s.row.now s.base best) best) (lt-ltb _ _ many)); logs_kept = split.logs_kept }
 
 pub returns : goal.returns
 unfolding best_track_row
@@ -86,4 +86,4 @@ returns c =
     let best = best_split_row s.hall.config v s.p s.row.now s.base in
     let split = c.best_split-best.ensures in
     let few : length (marks s.row.now) + frozen_one s.p ≤ 1 = omega (arith, c.length_of.ensures, c.frozen_one.ensures, c.if-length_of-frozen_one-gt1.false) in
-    record { value = split.0 ∙ sym (ap (λ (t : Bool). cond t (best_drop_row s.hall.config v s.p s.row.now s.base best) best) (le-ltb _ _ few)); logs_kept = split.1.1 }
+    record { value = split.value ∙ sym (ap (λ (t : Bool). cond t (best_drop_row s.hall.config v s.p s.row.now s.base best) best) (le-ltb _ _ few)); logs_kept = split.logs_kept }

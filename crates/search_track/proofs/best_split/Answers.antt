@@ -1,9 +1,8 @@
 use borrow.Author.Tests.{lt-ltb, le-ltb}
 use borrow.Author.Count.{below_more}
 use mathlib.Core.Path.{◌≡◌, refl, sym, ap, subst, ◌∙◌}
-use mathlib.Core.Bool.{Bool, true, false, cond}
+use mathlib.Core.Bool.{Bool, true, false}
 use mathlib.Core.List.{List, [], ◌∷◌, map, foldl}
-use mathlib.Core.Logic.{⊎_elim}
 use Prim.Native.Nat.{ℕ, ◌+◌, ◌-◌, ◌≤◌, ◌<◌}
 use native.Mathlib.Omega.{arith}
 use lib.ListN.{get_or, set, drop, length-set}
@@ -21,9 +20,10 @@ use Rattle.search_rows.specs.Moves.{has_slot}
 use Rattle.search_track.specs.Track.{marks, try_split_row, best_split_row, better_split, drop_gain, DropGains}
 use Rattle.cost_row.specs.Price.{head_of, on_to, scan_at, view_in, EndsBy}
 use Rattle.cost_row.proofs.Left.{left, left_yes, left_no, left_over}
-use Rattle.cost_row.proofs.Heads.{Along, begins, passes, on_to_lem, taken_on, until, few_on}
+use Rattle.cost_row.proofs.Heads.{begins, passes, on_to_lem, taken_on, until, few_on}
 use Rattle.search_track.proofs.best_split.Invariants.{Splits, after, best_after}
 use Rattle.search_track.proofs.best_split.Goals as goal
+use Rattle.search_track.proofs.best_split.Goals.{else-row-k-gt0, then-row-k-gt0}
 
 -- the drop of the detection in scan k is noted
 module _ {c : FgoConfig} {v : View} {p : Fold} {r : List ℕ} {base : Float} {k : ℕ} {gains : List Float} (d : DropGains c v p r base k gains) where
@@ -146,20 +146,23 @@ loop-k-preserved c =
     let i = c.loop-k.invariant in
     let e = c.requires.2 in
     let g = c.loop-k-test.true in
-    ⊎_elim
-    (λ w. rw (w.10, w.11, w.12, w.13, w.14, w.15, w.16) (tries e i.0 g (lt-ltb _ _ w.0.taken) w.3.ensures.0 w.6.ensures.0 w.9.ensures.0, i.1, w.9.ensures.1))
-    (λ w. rw (w.1, w.2, w.3, w.4, w.5, w.6, w.7) (skips e i.0 g (le-ltb _ _ w.0.left), i.1, i.2))
-    c.if-row-k-gt0.branch
+    elim c.if-row-k-gt0.branch [
+      then-row-k-gt0 w ↦ rw (w.gains-is, w.logs-is, w.best-is, w.numbers-is, w.fold-is, w.done-is, w.seen-is) (tries e i.0 g (lt-ltb _ _ w.if-row-k-gt0.true) w.fold_to-fold.ensures.numbers_after w.better_split-best.ensures.value w.drop_gain.ensures.value, i.1, w.drop_gain.ensures.logs_kept)
+    | else-row-k-gt0 w ↦ rw (w.gains-is, w.logs-is, w.best-is, w.numbers-is, w.fold-is, w.done-is, w.seen-is) (skips e i.0 g (le-ltb _ _ w.if-row-k-gt0.false), i.1, i.2)
+    ]
 
 pub returns : goal.returns
 returns c =
     let i = c.loop-k.invariant in
     let s = c.args in
     let e = c.requires.2 in
-    let v = view_in s.hall s.dots.now in let both = (
-      ends e i.0 c.loop-k-test.false ∙ ap (λ (p : Fold). best_split_row s.hall.config v p s.row.now s.base) c.lend-fold.ensures,
-      (
-        subst (λ (p : Fold). DropGains s.hall.config v p s.row.now s.base s.end c.loop-k.gains) c.lend-fold.ensures (noted e i.0 c.loop-k-test.false),
-        i.2,
-      ),
-    ) in record { value = both.0; drop_gains = both.1; logs_kept = both.2 }
+    let v = view_in s.hall s.dots.now in
+    record {
+      value =
+        ends e i.0 c.loop-k-test.false
+        ∙ ap (λ (p : Fold). best_split_row s.hall.config v p s.row.now s.base) c.lend-fold.ensures;
+      drop_gains =
+        subst (λ (p : Fold). DropGains s.hall.config v p s.row.now s.base s.end c.loop-k.gains) c.lend-fold.ensures
+        (noted e i.0 c.loop-k-test.false);
+      logs_kept = i.2;
+    }

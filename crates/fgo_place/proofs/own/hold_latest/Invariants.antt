@@ -1,5 +1,6 @@
 use Prim.Native.Nat.{◌-◌, ◌≤◌}
 use Rattle.bounds.specs.Bounds.{OWNED}
+use Rattle.fgo_place.proofs.Telling.{Telling}
 use Rattle.fgo_place.proofs.own.hold_latest.Given as goal
 
 abbrev pub invariant-loop-k : goal.invariant-loop-k

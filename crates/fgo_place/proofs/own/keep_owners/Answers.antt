@@ -1,17 +1,16 @@
-use Prim.Native.Nat.{ℕ, ◌-◌, ◌*◌, ◌≤◌}
+use Prim.Native.Nat.{ℕ, ◌*◌, ◌≤◌}
 use native.Mathlib.Omega.{arith}
 use mathlib.Core.Path.{sym, ap, ◌∙◌}
 use mathlib.Core.Bool.{Bool}
-use mathlib.Core.List.{List}
-use mathlib.Core.Logic.{⊎_elim}
 use lib.ListN.{length}
 use Rattle.bounds.specs.Bounds.{OWNER}
-use Rattle.fgo_state.specs.Memory.{engine_at, live_in}
+use Rattle.fgo_state.specs.Memory.{engine_at}
 use Rattle.fgo_place.specs.Owning.{kept_owners}
 use Rattle.fgo_place.proofs.Owners.{owning}
 use Rattle.fgo_place.proofs.Compacting.{compacts_none, compacts_more, compacts_same, compacts_all}
 use Rattle.fgo_place.proofs.own.keep_owners.Invariants.{lives}
 use Rattle.fgo_place.proofs.own.keep_owners.Goals as goal
+use Rattle.fgo_place.proofs.own.keep_owners.Goals.{then-is_live, else-is_live}
 
 pub loop-k-init : goal.loop-k-init
 loop-k-init c = compacts_none _ _ _
@@ -43,10 +42,10 @@ loop-k-preserved c = let a = c.args in
     let few : OWNER * a.owned ≤ length a.owners.now = omega (arith, c.requires) in
     let lives-here : ℕ → Bool = λ x. lives a.bodies.now a.columns.now a.first.0 a.held a.tracks.now a.frozen (engine_at l.owners l.k, x) in
     let tested = sym (c.is_live.ensures ∙ ap lives-here c.owner_at-x.ensures) in
-    ⊎_elim
-    (λ w. compacts_more _ _ _ l.invariant c.loop-k-test.true few (tested ∙ w.0.taken) (w.3 ∙ w.2.ensures ∙ (λ i. owning l.owners l.w (c.engine_at-e.ensures i) (c.owner_at-x.ensures i))) w.4)
-    (λ w. compacts_same _ _ _ l.invariant c.loop-k-test.true (tested ∙ w.0.left) w.1 w.2)
-    c.if-is_live.branch
+    elim c.if-is_live.branch [
+      | then-is_live w ↦ compacts_more _ _ _ l.invariant c.loop-k-test.true few (tested ∙ w.if-is_live.true) (w.owners-is ∙ w.put_owner.ensures ∙ (λ i. owning l.owners l.w (c.engine_at-e.ensures i) (c.owner_at-x.ensures i))) w.w-is
+      | else-is_live w ↦ compacts_same _ _ _ l.invariant c.loop-k-test.true (tested ∙ w.if-is_live.false) w.owners-is w.w-is
+    ]
 
 pub returns : goal.returns
 unfolding kept_owners

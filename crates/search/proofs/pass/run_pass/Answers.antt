@@ -15,5 +15,5 @@ returns c =
     let e = scene_of s.hall s.starts.now s.dots.now s.tracks.now s.filters.now in
     let b = c.begin_pass-n.ensures in
     let m = c.move_all.ensures in
-    let w = m.0 s.ids.now b.1 in
-    (pass_is e s.ids.now s.t0 c.begin_pass-n.result _ b.0.is c.begin.ensures w.0, record { left = w.1; rows_long = b.1.long; due_long = b.3.long; kept = m.1 })
+    let w = m.fact s.ids.now b.1 in
+    (pass_is e s.ids.now s.t0 c.begin_pass-n.result _ b.0.is c.begin.ensures w.0, record { left = w.1; rows_long = b.1.long; due_long = b.3.long; kept = m.logs_kept })
