@@ -16,7 +16,7 @@ use Rattle.engine.proofs.Every.{all_true}
 use Rattle.engine.proofs.Passing.{length-rows}
 use Rattle.fgo_spec.specs.Windows.{Scan}
 use Rattle.fgo_spec.specs.Emitting.{Emitted}
-use Rattle.fgo_spec.specs.Refiner.{State, freeze_oldest, settle, push, takes}
+use Rattle.fgo_spec.specs.Refiner.{State, freeze_oldest, settle, takes}
 use Rattle.fgo_state.specs.declared.state.FixedLagRefiner.{FixedLagRefiner}
 use Rattle.fgo_state.specs.Memory.{Memory, scan_in, state_of}
 use Rattle.fgo_state.specs.Sound.{bodies_ok, sound_ok}

@@ -3,7 +3,7 @@ use Prim.Native.Nat.{ℕ, ◌+◌, ◌≤◌}
 use native.Mathlib.Omega.{arith}
 use mathlib.Core.Path.{◌≡◌, refl, sym, ap, ◌∙◌, subst}
 use mathlib.Core.Bool.{Bool, true, false, cond, and-eq-true_iff}
-use mathlib.Core.List.{List, [], ◌∷◌, ◌++◌, map}
+use mathlib.Core.List.{List, [], ◌∷◌, ◌++◌}
 use lib.ListN.{length}
 use lib.Dec.{leb, eqb}
 use borrow.Author.Tests.{leb-true}
@@ -18,11 +18,11 @@ use Rattle.engine.proofs.Every.{both, all-at, all_true}
 use Rattle.fgo_spec.specs.Windows.{Scan}
 use Rattle.fgo_spec.specs.Emitting.{Emitted, words_of, numbers_of, written}
 use Rattle.fgo_spec.specs.Refiner.{new, reply}
-use Rattle.fgo_spec.specs.Rule.{All, Spoken, rule_ok}
+use Rattle.fgo_spec.specs.Rule.{All, rule_ok}
 use Rattle.fgo_spec.specs.History.{run, settled, Sent, Told}
-use Rattle.fgo_spec.proofs.All.{All-append, All-left, All-right, map-All}
+use Rattle.fgo_spec.proofs.All.{All-append, All-right}
 use Rattle.fgo_spec.proofs.RuleLaw.{rule_ok_lem}
-use Rattle.fgo_spec.proofs.HistoryLaw.{spoken, history}
+use Rattle.fgo_spec.proofs.HistoryLaw.{history}
 use Rattle.fgo_state.specs.declared.state.FixedLagRefiner.{FixedLagRefiner}
 use Rattle.fgo_state.specs.Memory.{Memory, body_at, state_of}
 use Rattle.fgo_state.specs.Sound.{bodies_ok, sound_ok}

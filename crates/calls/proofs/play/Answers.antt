@@ -20,7 +20,14 @@ pub slice_bounds-call-end : goal.slice_bounds-call-end
 slice_bounds-call-end g c = (next_placed c.next_at-n.result c.next_at-n.ensures c.loop-at-test.true).within
 
 pub call-t-requires : goal.call-t-requires
-call-t-requires g c = let both = (c.loop-at.invariant.stands, ((c.loop-at.invariant.laid, c.loop-at.invariant.framed), ((next_placed c.next_at-n.result c.next_at-n.ensures c.loop-at-test.true).sane, omega (arith, c.loop-at.invariant.long, c.requires.laid.2)))) in record { lends = both.0; laid = both.1; sane = both.2 }
+call-t-requires g c =
+    let v = c.loop-at.invariant in
+    record {
+      lends = v.stands;
+      laid = (v.laid, v.framed);
+      sane =
+          ((next_placed c.next_at-n.result c.next_at-n.ensures c.loop-at-test.true).sane, omega (arith, v.long, c.requires.laid.2));
+    }
 
 pub write-well-requires : goal.write-well-requires
 write-well-requires g c = ends _ _ _ _ c.next_at-n.result.call _ c.call-t.ensures.does

@@ -1,5 +1,5 @@
 use native.Mathlib.Omega.{arith}
-use mathlib.Core.Path.{ap, ◌∙◌}
+use mathlib.Core.Path.{◌≡◌, ap, ◌∙◌}
 use lib.ListN.{set}
 use lib.Ieee.{Float}
 use Rattle.fgo_state.specs.Memory.{memory}
@@ -37,10 +37,10 @@ pub bounds-tracks-i : goal.bounds-tracks-i
 bounds-tracks-i c = index_in c.args.cell 4 c.in-4.is c.requires
 
 pub offset_bounds-filters-i : goal.offset_bounds-filters-i
-offset_bounds-filters-i c = let h = index_in c.args.cell 5 (is_five c.args.cell c.in_default.rest.0.0.0.0.1 c.in_default.rest.0.0.0.1 c.in_default.rest.0.0.1 c.in_default.rest.0.1 c.in_default.rest.1 c.requires) c.requires in omega arith
+offset_bounds-filters-i c = let h = index_in c.args.cell 5 (is_five c.args.cell (λ (e : c.args.cell.place ≡ 0). omega arith) (λ (e : c.args.cell.place ≡ 1). omega arith) (λ (e : c.args.cell.place ≡ 2). omega arith) (λ (e : c.args.cell.place ≡ 3). omega arith) (λ (e : c.args.cell.place ≡ 4). omega arith) c.requires) c.requires in omega arith
 
 pub bounds-filters-i : goal.bounds-filters-i
-bounds-filters-i c = index_in c.args.cell 5 (is_five c.args.cell c.in_default.rest.0.0.0.0.1 c.in_default.rest.0.0.0.1 c.in_default.rest.0.0.1 c.in_default.rest.0.1 c.in_default.rest.1 c.requires) c.requires
+bounds-filters-i c = index_in c.args.cell 5 (is_five c.args.cell (λ (e : c.args.cell.place ≡ 0). omega arith) (λ (e : c.args.cell.place ≡ 1). omega arith) (λ (e : c.args.cell.place ≡ 2). omega arith) (λ (e : c.args.cell.place ≡ 3). omega arith) (λ (e : c.args.cell.place ≡ 4). omega arith) c.requires) c.requires
 
 pub returns-in-1 : goal.returns-in-1
 returns-in-1 c = let g = c.args in let e = c.in-1.is in record { value = refiner_at g.cell 1 e g.r; filters_after = memory-at g.cell 1 e (memory g.bodies.now g.columns.now g.owners.now g.tracks.now g.filters.now) }
@@ -55,4 +55,4 @@ pub returns-in-4 : goal.returns-in-4
 returns-in-4 c = let g = c.args in let e = c.in-4.is in record { value = refiner_at g.cell 4 e g.r; filters_after = memory-at g.cell 4 e (memory g.bodies.now g.columns.now g.owners.now g.tracks.now g.filters.now) }
 
 pub returns-in_default : goal.returns-in_default
-returns-in_default c = let g = c.args in let e = (is_five c.args.cell c.in_default.rest.0.0.0.0.1 c.in_default.rest.0.0.0.1 c.in_default.rest.0.0.1 c.in_default.rest.0.1 c.in_default.rest.1 c.requires) in record { value = refiner_at g.cell 5 e g.r; filters_after = ap (λ (x : Float). memory g.bodies.now g.columns.now g.owners.now g.tracks.now (set g.filters.now g.cell.index x)) c.from_bits.ensures ∙ memory-at g.cell 5 e (memory g.bodies.now g.columns.now g.owners.now g.tracks.now g.filters.now) }
+returns-in_default c = let g = c.args in let e = (is_five c.args.cell (λ (e : c.args.cell.place ≡ 0). omega arith) (λ (e : c.args.cell.place ≡ 1). omega arith) (λ (e : c.args.cell.place ≡ 2). omega arith) (λ (e : c.args.cell.place ≡ 3). omega arith) (λ (e : c.args.cell.place ≡ 4). omega arith) c.requires) in record { value = refiner_at g.cell 5 e g.r; filters_after = ap (λ (x : Float). memory g.bodies.now g.columns.now g.owners.now g.tracks.now (set g.filters.now g.cell.index x)) c.from_bits.ensures ∙ memory-at g.cell 5 e (memory g.bodies.now g.columns.now g.owners.now g.tracks.now g.filters.now) }

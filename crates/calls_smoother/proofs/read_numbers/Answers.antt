@@ -1,4 +1,3 @@
-use Prim.Native.Nat.{◌-◌}
 use native.Mathlib.Omega.{arith}
 use Rattle.calls_smoother.proofs.Reading.{filled_none, filled_next, filled_all}
 use Rattle.calls_smoother.proofs.read_numbers.Goals as goal

@@ -1,5 +1,4 @@
 use mathlib.Core.Logic.{⊎_elim}
-use borrow.Author.Tests.{ltb-true, ltb-false}
 use Rattle.calls_smoother.proofs.Rooms.{said, none_by_lag, none_by_few, none_by_many, by_both}
 use Rattle.calls_smoother.proofs.room_for.Goals as goal
 
@@ -12,9 +11,9 @@ returns-then-c-gt-LAG c = none_by_lag c.args.room c.args.c c.if-room.false c.if-
 pub returns-then-c-lt1 : goal.returns-then-c-lt1
 returns-then-c-lt1 c =
     ⊎_elim
-    (λ h. none_by_few c.args.room c.args.c c.if-room.false c.if-c-gt-LAG.false h.taken)
-    (λ h. none_by_many c.args.room c.args.c c.if-room.false c.if-c-gt-LAG.false h.0.left (ltb-true _ _ h.2.taken))
-    c.then-c-lt1.branch
+    (λ h. none_by_few c.args.room c.args.c c.if-room.false c.if-c-gt-LAG.false h)
+    (λ h. none_by_many c.args.room c.args.c c.if-room.false c.if-c-gt-LAG.false h.0 h.1)
+    c.then-c-lt1.either
 
 pub returns : goal.returns
-returns c = by_both c.args.room c.args.c c.if-room.false c.if-c-gt-LAG.false c.if-c-lt1.false (ltb-false _ _ c.if-c-gt-TRACKS.false) c.window_words.ensures c.window_numbers.ensures
+returns c = by_both c.args.room c.args.c c.if-room.false c.if-c-gt-LAG.false c.if-c-lt1.false c.if-c-gt-TRACKS.false c.window_words.ensures c.window_numbers.ensures

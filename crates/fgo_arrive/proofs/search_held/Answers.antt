@@ -78,8 +78,8 @@ returns c = let f = c.args in
     let g = c.gather-detections.ensures in
     let d = c.gather_dots.ensures in
     let v = c.improve-t.ensures in
-    searched_by f.r (memory f.bodies.now f.columns.now f.owners.now f.tracks.now f.filters.now) w _ _ _ _ _ _ _ g zeros_long _ _ _ _ v.0
-    (v.1 _ _
+    searched_by f.r (memory f.bodies.now f.columns.now f.owners.now f.tracks.now f.filters.now) w _ _ _ _ _ _ _ g zeros_long _ _ _ _ v.ids_len
+    (v.fact _ _
     (search_gathered _ _ _ _ _ _ _ _ _ _ w.held g f.r.config _ _ none_long d f.r.next_id.0 f.r.counters f.tracks.now f.filters.now f.r.frozen w.settings
     zeros_long w.begun w.columns w.spare))
     c.scatter.ensures c.hold_latest.ensures.0 c.hold_latest.ensures.1

@@ -6,11 +6,8 @@ use Rattle.fgo_spec.specs.Freezing as freezing
 use Rattle.fgo_part.specs.Parts.{cells}
 use Rattle.engine.proofs.Passing.{length-rows}
 use Rattle.fgo_spec.proofs.Rows.{rows-first, rows_more}
-use Rattle.fgo_emit.proofs.mean.Invariants.{summed}
+use Rattle.fgo_emit.proofs.mean.Invariants.{height, summed}
 use Rattle.fgo_emit.proofs.mean.Goals as goal
-
-abbrev height : List Float → ℕ → Float
-height hs i = get_or hs (0 + i) nan
 
 more : (hs : List Float) (i : ℕ) → 1 ≤ i → add binary64 (summed hs i) (get_or hs i nan) ≡ summed hs (i + 1)
 more hs i h =

@@ -1,13 +1,11 @@
-use Rattle.std.proofs.Common.{◌≡◌, ◌-◌, ◌≤◌}
-use Rattle.fgo_spec.specs.Freezing as freezing
-use Rattle.std.proofs.Common.{ℕ}
-use Rattle.std.proofs.Common.{List}
+use Rattle.std.proofs.Common.{◌≡◌, ℕ, ◌+◌, ◌-◌, ◌≤◌, List, get_or}
 use mathlib.Core.List.{foldl}
-use lib.Ieee.{Float}
-use lib.Ieee.{binary64}
-use lib.Ieee.{add}
+use lib.Ieee.{Float, nan, binary64, add}
 use Rattle.engine.specs.Body.{rows}
 use Rattle.fgo_emit.proofs.mean.Given as goal
+
+abbrev pub height : List Float → ℕ → Float
+height hs i = get_or hs (0 + i) nan
 
 -- the sum of the first i heights, oldest first
 abbrev pub summed : List Float → ℕ → Float

@@ -1,4 +1,4 @@
-use Rattle.std.proofs.Common.{◌-◌, ap, ◌∙◌, arith}
+use Rattle.std.proofs.Common.{sym, ap, ◌∙◌, arith}
 use lib.ListN.{get_or-map}
 use Rattle.engine.specs.declared.types.Association.{Association}
 use Rattle.engine.specs.Frame.{no_association}
@@ -33,7 +33,7 @@ loop-j-preserved c = let l = (frame_in (body_of c.args.kind c.args.s.now)).assoc
     (omega (arith, costs_long (body_of c.args.kind c.args.s.now), c.association_count.ensures))
     (c.cost_number.ensures
     ∙ ap (λ (a : Association). cost_number a.cost) (c.association-a.ensures.1 c.requires.0)
-    ∙ cym (get_or-map (λ (a : Association). cost_number a.cost) l j no_association))
+    ∙ sym (get_or-map (λ (a : Association). cost_number a.cost) l j no_association))
 
 pub shape_of-numbers : goal.shape_of-numbers
 shape_of-numbers c = c.loop-j.invariant.long

@@ -1,4 +1,4 @@
-use Rattle.std.proofs.Common.{◌-◌, arith}
+use Rattle.std.proofs.Common.{arith}
 use Rattle.engine.specs.Body.{body as body_of}
 use Rattle.buffers.proofs.Writes.{writes_none, writes_more, writes_all}
 use Rattle.fgo_state.proofs.Counts.{sensors_long}

@@ -1,7 +1,8 @@
-use Rattle.std.proofs.Common.{◌≡◌, ◌-◌, ◌∙◌, ⊎_elim, arith, to_z-of_z}
+use Rattle.std.proofs.Common.{◌≡◌, sym, ◌∙◌, arith, to_z-of_z}
 use Rattle.fgo_part.specs.Parts.{prefix_in}
 use Rattle.fgo_emit.proofs.Listing.{puts_none, puts_more, puts_same, puts_all}
 use Rattle.fgo_emit.proofs.put_tracks.Goals as goal
+use Rattle.fgo_emit.proofs.put_tracks.Goals.{then-is_listed, else-is_listed}
 
 pub loop-k-init : goal.loop-k-init
 loop-k-init c = (omega arith, puts_none _ _ _ _ _ _)
@@ -36,10 +37,10 @@ loop-k-preserved c = let few = c.requires.0.few in
     let done = c.loop-k.invariant.1 in
     let listed = c.is_listed.ensures in (
       omega arith,
-      ⊎_elim
-          (λ w. puts_more _ _ _ _ _ _ done (cym listed ∙ w.0.taken) (omega (arith, c.requires.1.words, done.few)) (omega (arith, c.requires.1.numbers, done.few)) w.3.ensures w.8 w.9 w.10)
-          (λ w. puts_same _ _ _ _ _ _ done (cym listed ∙ w.0.left) w.1 w.2 w.3)
-          c.if-is_listed.branch,
+      elim c.if-is_listed.branch [
+        | then-is_listed w ↦ puts_more _ _ _ _ _ _ done (sym listed ∙ w.if-is_listed.true) (omega (arith, c.requires.1.words, done.few)) (omega (arith, c.requires.1.numbers, done.few)) w.put_track.ensures w.words-is w.numbers-is w.i-is
+        | else-is_listed w ↦ puts_same _ _ _ _ _ _ done (sym listed ∙ w.if-is_listed.false) w.words-is w.numbers-is w.i-is
+      ],
     )
 
 pub shape_of-words : goal.shape_of-words

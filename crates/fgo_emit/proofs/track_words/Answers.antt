@@ -1,4 +1,4 @@
-use Rattle.std.proofs.Common.{to_z-of_z}
+use mir.Facts.{to_z-of_z}
 use Rattle.fgo_spec.specs.Emitting.{report}
 use Rattle.engine.proofs.ReadBack.{time_fits}
 use Rattle.fgo_freeze.proofs.Times.{passed_on}
@@ -9,4 +9,4 @@ unfolding report
 returns c = let called = c.age_of-age in
     let now = to_z-of_z c.ranges.time in
     let last = to_z-of_z (time_fits c.args.p.last_ns c.requires.last) in
-    rw (c.class_word.ensures.0, c.to_word-2.ensures, c.to_word.ensures, c.lifecycle.ensures, passed_on called.result called.type-inv, called.ensures, now, last)
+    rw (c.class_word.ensures.0, c.to_word-2.ensures, c.to_word.ensures, c.lifecycle.ensures, passed_on called.result called.type_inv, called.ensures, now, last)

@@ -5,14 +5,13 @@ use mir.Syntax.{w64}
 use mir.Val.{SFits, of_z}
 use mir.Facts.{to_z-of_z}
 use lib.ListN.{length}
-use lib.Ieee.{Float}
 use Rattle.bounds.specs.Bounds.{FROZEN, PARTS, HEIGHTS, FILTER, FILTERS}
 use Rattle.scalar.specs.Scalar.{word}
 use Rattle.kf.specs.Filter.{kf_numbers}
 use Rattle.buffers.specs.Buffers.{over}
 use Rattle.buffers.proofs.Over.{length_over}
 use Rattle.fgo_part.proofs.Parts.{two-over, part_put}
-use borrow.Author.Rules.{rules, length_unmapped}
+use borrow.Author.Rules.{rules}
 use Rattle.fgo_part.proofs.put_prefix.Goals as goal
 
 pub put_numbers-requires-2 : goal.put_numbers-requires-2

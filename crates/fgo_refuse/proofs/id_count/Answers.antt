@@ -1,10 +1,9 @@
-use Prim.Native.Nat.{ℕ, ◌+◌, ◌-◌, ◌<◌, ◌≤◌}
+use Prim.Native.Nat.{ℕ, ◌+◌, ◌<◌, ◌≤◌}
 use native.Mathlib.Numerals.{add-one}
 use native.Mathlib.Omega.{arith}
 use mathlib.Core.Path.{◌≡◌, refl, sym, ap, ◌∙◌}
 use mathlib.Core.Bool.{Bool}
 use mathlib.Core.List.{List}
-use mathlib.Core.Logic.{⊎_elim}
 use lib.ListN.{length, take}
 use lib.Seq.{take-suc, take_all}
 use Rattle.engine.specs.declared.types.Association.{Association}
@@ -17,6 +16,7 @@ use Rattle.fgo_state.proofs.Counts.{associations_long, associations_few}
 use Rattle.fgo_state.specs.Memory.{association_in}
 use Rattle.fgo_refuse.proofs.id_count.Invariants.{counted}
 use Rattle.fgo_refuse.proofs.id_count.Goals as goal
+use Rattle.fgo_refuse.proofs.id_count.Goals.{then-has_id, else-has_id}
 
 more : (s : Body) (j : ℕ) (b : Bool) → j < associations_in s → has_id (association_in s j).track ≡ b → counted s (j + 1) ≡ bump b (counted s j)
 more s j b h e =
@@ -52,10 +52,10 @@ loop-j-preserved c =
     let v = c.loop-j.invariant in
     let h : j < associations_in s = omega (arith, c.loop-j-test.true, c.association_count.ensures) in
     let said = ap (λ (a : Association). has_id a.track) (sym (c.association-a.ensures.1 c.requires)) ∙ sym c.has_id.ensures in
-    ⊎_elim
-    (λ w. (omega arith, omega (arith, w.1, v.1), w.1 ∙ ap (λ (k : ℕ). k + 1) v.2 ∙ add-one (counted s j) ∙ sym (more s j _ h (said ∙ w.0.taken))))
-    (λ w. (omega arith, omega (arith, w.1, v.1), w.1 ∙ v.2 ∙ sym (more s j _ h (said ∙ w.0.left))))
-    c.if-has_id.branch
+    elim c.if-has_id.branch [
+      | then-has_id w ↦ (omega arith, omega (arith, w.n-is, v.1), w.n-is ∙ ap (λ (k : ℕ). k + 1) v.2 ∙ add-one (counted s j) ∙ sym (more s j _ h (said ∙ w.if-has_id.true)))
+      | else-has_id w ↦ (omega arith, omega (arith, w.n-is, v.1), w.n-is ∙ v.2 ∙ sym (more s j _ h (said ∙ w.if-has_id.false)))
+    ]
 
 pub returns : goal.returns
 returns c =

@@ -1,10 +1,8 @@
-use Prim.Native.Nat.{◌-◌}
 use native.Mathlib.Omega.{arith}
 use mathlib.Core.Path.{◌≡◌, sym, ◌∙◌}
-use mathlib.Core.Bool.{true}
 use Rattle.engine.specs.Body.{body, associations_in}
 use Rattle.engine.proofs.Every.{all_none, all_more, all-less}
-use Rattle.fgo_rule.specs.Tests.{id_ok, column_in}
+use Rattle.fgo_rule.specs.Tests.{column_in}
 use Rattle.fgo_rule.proofs.column_ok.Goals as goal
 
 pub loop-j-init : goal.loop-j-init

@@ -1,7 +1,6 @@
-use Prim.Native.Nat.{◌+◌, ◌-◌}
+use Prim.Native.Nat.{◌+◌}
 use native.Mathlib.Omega.{arith}
 use mathlib.Core.Path.{◌≡◌, sym, ap, ◌∙◌}
-use mathlib.Core.Bool.{true}
 use Rattle.engine.specs.Body.{Body, body_refusal}
 use Rattle.engine.proofs.Every.{all_none, all_more, all-less}
 use Rattle.fgo_state.proofs.Columns.{body_read}

@@ -1,10 +1,8 @@
-use Prim.Native.Nat.{◌-◌}
 use native.Mathlib.Numerals.{add-one}
 use native.Mathlib.Omega.{arith}
 use mathlib.Core.Path.{refl, sym, ap, ◌∙◌}
 use mathlib.Core.Bool.{not}
 use borrow.Author.Tests.{eq-eqb, ne_eqb}
-use Rattle.fgo_state.specs.Memory.{engine_at}
 use Rattle.fgo_rule.specs.Tests.{distinct_at}
 use Rattle.fgo_spec.proofs.Rows.{any_here, any_next, any-end}
 use Rattle.fgo_rule.proofs.is_distinct.Goals as goal

@@ -1,7 +1,5 @@
-use Prim.Native.Nat.{◌-◌}
 use native.Mathlib.Omega.{arith}
 use mathlib.Core.Path.{◌≡◌, sym, ap, ◌∙◌}
-use mathlib.Core.Bool.{true}
 use Rattle.engine.proofs.Every.{all_none, all_more, all-less}
 use Rattle.fgo_state.specs.Memory.{live_in}
 use Rattle.fgo_rule.specs.Tests.{entry_ok, entries_ok}

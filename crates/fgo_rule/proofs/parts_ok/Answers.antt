@@ -1,8 +1,6 @@
-use Prim.Native.Nat.{◌-◌}
 use native.Mathlib.Numerals.{add-one}
 use native.Mathlib.Omega.{arith}
 use mathlib.Core.Path.{◌≡◌, refl, sym, ap, ◌∙◌}
-use mathlib.Core.Bool.{true}
 use Rattle.engine.proofs.Every.{all_none, all_more, all-less}
 use Rattle.fgo_rule.specs.Tests.{id_before, parts_ok}
 use Rattle.fgo_rule.proofs.parts_ok.Goals as goal

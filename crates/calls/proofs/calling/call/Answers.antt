@@ -5,10 +5,15 @@ use borrow.Author.Rules.{rules}
 use Rattle.calls.proofs.calling.call.Goals as goal
 
 pub call_refiner-requires : goal.call_refiner-requires
-call_refiner-requires c = record { lends = (c.requires.lends.0, c.requires.lends.1); sane = (sane_as c.args.s.now c.in-Refiner.is c.requires.laid.1.0, c.requires.laid.1.1) }
+call_refiner-requires c = record { lends = (c.requires.lends.0, c.requires.lends.1); sane = (sane_as c.args.s.now c.in-Refiner.is c.requires.sane.0, c.requires.sane.1) }
 
 pub call_smoother-requires : goal.call_smoother-requires
-call_smoother-requires c = let both = (c.requires.lends, (c.requires.laid.0, (sane_as c.args.s.now c.in-Smoother.is c.requires.laid.1.0, c.requires.laid.1.1))) in record { lends = both.0; laid = both.1; sane = both.2 }
+call_smoother-requires c =
+    record {
+      lends = c.requires.lends;
+      laid = c.requires.laid;
+      sane = (sane_as c.args.s.now c.in-Smoother.is c.requires.sane.0, c.requires.sane.1);
+    }
 
 pub returns-in-Refiner : goal.returns-in-Refiner
 returns-in-Refiner c =
@@ -23,13 +28,13 @@ returns-in-Smoother c =
     let both = by_smoother _ _ _ _ _ _ _ _ _ _ _ _ _ _ _ c.in-Smoother.is c.requires.lends.0 c.requires.lends.1 p q c.call_smoother.ensures.fits (c.call_smoother.ensures.calls_smoother _) in record { lends_2 = both.0; does = both.1 }
 
 pub returns-in-Lend : goal.returns-in-Lend
-returns-in-Lend c = let both = by_lend _ _ _ _ _ _ _ _ _ _ _ c.requires.lends.0 c.requires.lends.1 c.requires.lends.2 _ _ c.in-Lend.is c.requires.laid.1.0 c.lend.ensures in record { lends_2 = both.0; does = both.1 }
+returns-in-Lend c = let both = by_lend _ _ _ _ _ _ _ _ _ _ _ c.requires.lends.0 c.requires.lends.1 c.requires.lends.2 _ _ c.in-Lend.is c.requires.sane.0 c.lend.ensures in record { lends_2 = both.0; does = both.1 }
 
 pub returns-in-LendWindow : goal.returns-in-LendWindow
-returns-in-LendWindow c = let both = by_window _ _ _ _ _ _ _ _ _ _ _ c.requires.lends.0 c.requires.lends.1 c.requires.lends.2 _ _ c.in-LendWindow.is c.requires.laid.1.0 c.lend_window.ensures in record { lends_2 = both.0; does = both.1 }
+returns-in-LendWindow c = let both = by_window _ _ _ _ _ _ _ _ _ _ _ c.requires.lends.0 c.requires.lends.1 c.requires.lends.2 _ _ c.in-LendWindow.is c.requires.sane.0 c.lend_window.ensures in record { lends_2 = both.0; does = both.1 }
 
 pub returns-in-Digest : goal.returns-in-Digest
 returns-in-Digest c = let both = by_digest _ _ _ _ _ _ _ _ _ _ _ c.requires.lends.0 c.requires.lends.1 c.requires.lends.2 c.in-Digest.is (c.tell_digest.ensures _ _) in record { lends_2 = both.0; does = both.1 }
 
 pub returns-in-Bad : goal.returns-in-Bad
-returns-in-Bad c = let both = by_bad _ _ _ _ _ _ _ _ _ _ _ c.in-Bad.is c.requires.lends c.requires.laid.1.1 c.put_bad-end.ensures in record { lends_2 = both.0; does = both.1 }
+returns-in-Bad c = let both = by_bad _ _ _ _ _ _ _ _ _ _ _ c.in-Bad.is c.requires.lends c.requires.sane.1 c.put_bad-end.ensures in record { lends_2 = both.0; does = both.1 }

@@ -10,7 +10,7 @@ push_all-pushed-requires g c = (text-new, room-new, c.requires.1)
 pub take_all-taken-requires : goal.take_all-taken-requires
 take_all-taken-requires g c =
     let h = c.push_all-pushed.ensures in
-    record { in_bounds = (text_on text-new c.out-1.given, room_on room-new c.fw-1.given c.fx-1.given, h.0); led = fresh_led _ _ c.requires.0 h.1 }
+    record { in_bounds = (text_on text-new c.out-1.given, room_on room-new c.fw-1.given c.fx-1.given, h.serves); led = fresh_led _ _ c.requires.0 h.leads }
 
 pub take_rest-last-requires : goal.take_rest-last-requires
 take_rest-last-requires g c = (text_on (text_on text-new c.out-1.given) c.out-2-1.given, c.take_all-taken.ensures.serves)

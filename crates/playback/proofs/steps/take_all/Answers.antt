@@ -27,7 +27,7 @@ loop-p-preserved g c =
     let t = c.take_one-t.ensures in
     let q = c.print_step-p.ensures in (
       carries_on h.0 c.fw-1.given c.fx-1.given c.window-1.given c.values-1.given c.out-1.given q.1,
-      taking-one _ _ c.requires.led h.1 some t.1 q.0 t.0.leads,
+      taking-one _ _ c.requires.led h.1 some t.fewer q.0 t.steps.leads,
     )
 
 pub shape_of-fw : goal.shape_of-fw
