@@ -26,7 +26,7 @@ call-t-requires g c =
       lends = v.stands;
       laid = (v.laid, v.framed);
       sane =
-        ((next_placed c.next_at-n.result c.next_at-n.ensures c.loop-at-test.true).sane, omega (arith, v.long, c.requires.laid.2));
+          ((next_placed c.next_at-n.result c.next_at-n.ensures c.loop-at-test.true).sane, omega (arith, v.long, c.requires.laid.2));
     }
 
 pub write-well-requires : goal.write-well-requires

@@ -55,12 +55,12 @@ loop-i-preserved c =
     let v = c.loop-i.invariant in
     let t = c.loop-i-test.true in
     elim c.if-code-gt0.branch [
-      then-code-gt0 w ↦
-        rw (w.logs-is, w.r-is, w.skips-is, w.add-r.ensures.0, w.dot_at.ensures)
-        (takes v.0 t w.if-code-gt0.true (omega (arith, p.0.short, p.0.early)), none_skipped _ _ _ _ (omega arith), w.add-r.ensures.1)
-    | else-code-gt0 w ↦
-        rw (w.logs-is, w.r-is, w.skips-is)
-        (skips v.0 t w.if-code-gt0.false, w.skipped-skips-else-code-gt0.ensures ∙ omega arith, v.2)
+      | then-code-gt0 w ↦
+          rw (w.logs-is, w.r-is, w.skips-is, w.add-r.ensures.0, w.dot_at.ensures)
+          (takes v.0 t w.if-code-gt0.true (omega (arith, p.0.short, p.0.early)), none_skipped _ _ _ _ (omega arith), w.add-r.ensures.1)
+      | else-code-gt0 w ↦
+          rw (w.logs-is, w.r-is, w.skips-is)
+          (skips v.0 t w.if-code-gt0.false, w.skipped-skips-else-code-gt0.ensures ∙ omega arith, v.2)
     ]
 
 pub returns : goal.returns

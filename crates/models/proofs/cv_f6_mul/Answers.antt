@@ -1,14 +1,11 @@
-use mathlib.Core.List.{List}
 use mathlib.Core.Path.{refl, ap, ◌∙◌}
-use Prim.Native.Nat.{ℕ, ◌-◌}
+use Prim.Native.Nat.{◌-◌}
 use native.Mathlib.Omega.{arith}
-use lib.Ieee.{Float}
 use Rattle.scalar.specs.F64.{f64}
 use Rattle.linalg.proofs.Fill.{next_column, all-columns}
 use Rattle.linalg.specs.Grown.{tabulate}
-use Rattle.linalg.specs.Matrix.{entry, dot, mul, mul_vec}
+use Rattle.linalg.specs.Matrix.{mul, mul_vec}
 use Rattle.models.specs.Motion.{cv_f}
-use Rattle.models.proofs.cv_f6_mul.Invariants.{cell}
 use Rattle.models.proofs.cv_f6_mul.Goals as goal
 
 pub loop-j-init : goal.loop-j-init

@@ -1,7 +1,5 @@
-use Rattle.std.proofs.Common.{ℕ, ◌-◌, ◌≤◌, List, get_or, arith}
-use Rattle.bounds.specs.Bounds.{SCANS}
-use Rattle.search_merge.specs.Merge.{both_have, only_has}
-use Rattle.search_merge.proofs.Merged.{both_le, only_le, Counting, counts, counted}
+use Rattle.std.proofs.Common.{◌-◌, get_or, arith}
+use Rattle.search_merge.proofs.Merged.{both_le, only_le, counts, counted}
 use Rattle.search_merge.proofs.overlap_of.Goals as goal
 
 pub loop-k-init : goal.loop-k-init

@@ -126,8 +126,8 @@ loop-k-preserved c =
     let n = c.point_at-nx.ensures ∙ ap (point_at _) c.slot-in-loop-k.ensures in
     let m = c.point_at-ny.ensures ∙ ap (point_at _) c.slot-in-loop-k-2.ensures in
     elim c.if-close_points.branch [
-      then-close_points w ↦ rw (w.close-is, w.found-is) (noting-close p.0 o.invariant t n m r w.if-close_points.true)
-    | else-close_points w ↦ rw (w.close-is, w.found-is) (noting-apart p.0 o.invariant t n m r w.if-close_points.false)
+      | then-close_points w ↦ rw (w.close-is, w.found-is) (noting-close p.0 o.invariant t n m r w.if-close_points.true)
+      | else-close_points w ↦ rw (w.close-is, w.found-is) (noting-apart p.0 o.invariant t n m r w.if-close_points.false)
     ]
 
 pub returns : goal.returns

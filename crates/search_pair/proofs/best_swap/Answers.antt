@@ -5,7 +5,7 @@ use Prim.Native.Nat.{ℕ, ◌+◌, ◌-◌, ◌≤◌}
 use native.Mathlib.Nat.{le_trans, add-zero}
 use native.Mathlib.Omega.{arith}
 use lib.ListN.{length, drop}
-use lib.Ieee.{Float, binary64, add, sub, le}
+use lib.Ieee.{Float, binary64, add, sub}
 use Rattle.bounds.specs.Bounds.{SCANS, STARTS}
 use Rattle.engine.specs.declared.config.FgoConfig.{FgoConfig}
 use Rattle.engine.specs.declared.types.ScanIndex.{ScanIndex}
@@ -14,11 +14,11 @@ use Rattle.cost.specs.Cost.{View, measurements, fold_over, cost}
 use Rattle.fgo_spec.specs.declared.moves.PairMove.{PairMove}
 use Rattle.fgo_spec.specs.declared.moves.PairMove.TheVariants.{Stay, Swap}
 use Rattle.fgo_spec.specs.Searching.{◌⊕◌, ◌⊖◌, pair_gain, better_pair}
-use Rattle.fgo_spec.proofs.NoGain.{nought, nothing_wins, best_below, start}
+use Rattle.fgo_spec.proofs.NoGain.{nothing_wins, best_below, start}
 use Rattle.search_pair.specs.Pair.{cut_at, cuts_of, try_swap_row, first_swap, best_swap_row}
 use Rattle.cost_row.specs.Price.{row_cost, on_to, scan_at, view_in, EndsBy}
 use Rattle.cost_row.proofs.Left.{best_from, best_yes, best_no, best_stays}
-use Rattle.cost_row.proofs.Heads.{Along, begins, passes, on_to_lem, taken_on, until, crossed-cost, few_on, ends_same}
+use Rattle.cost_row.proofs.Heads.{begins, passes, on_to_lem, taken_on, until, crossed-cost, few_on, ends_same}
 use Rattle.search_pair.proofs.best_swap.Invariants.{Tried}
 use Rattle.search_pair.proofs.best_swap.Goals as goal
 use Rattle.search_pair.proofs.best_swap.Goals.{else-is_cut, then-is_cut}
@@ -134,8 +134,8 @@ loop-k-preserved c =
     let e = c.is_cut-in-loop-k.ensures in
     let t : c.loop-k.k ≤ SCANS = omega (arith, p.over_a.within, c.loop-k-test.true) in
     elim c.if-is_cut.branch [
-      then-is_cut w ↦ rw (w.logs-is, w.best-is, w.fa-is, w.fb-is, w.sa-is, w.sb-is, w.done-is, w.better_pair-best.ensures) (tries i.0 t p.fit_a.long p.fit_b.long (sym e ∙ w.if-is_cut.true) w.fold_to-sa.ensures.numbers_after w.fold_to-sb.ensures.numbers_after w.swap_gain-gain.ensures.value, p, w.swap_gain-gain.ensures.logs_kept)
-    | else-is_cut w ↦ rw (w.logs-is, w.best-is, w.fa-is, w.fb-is, w.sa-is, w.sb-is, w.done-is) (skips i.0 t (sym e ∙ w.if-is_cut.false), p, i.2)
+      | then-is_cut w ↦ rw (w.logs-is, w.best-is, w.fa-is, w.fb-is, w.sa-is, w.sb-is, w.done-is, w.better_pair-best.ensures) (tries i.0 t p.fit_a.long p.fit_b.long (sym e ∙ w.if-is_cut.true) w.fold_to-sa.ensures.numbers_after w.fold_to-sb.ensures.numbers_after w.swap_gain-gain.ensures.value, p, w.swap_gain-gain.ensures.logs_kept)
+      | else-is_cut w ↦ rw (w.logs-is, w.best-is, w.fa-is, w.fb-is, w.sa-is, w.sb-is, w.done-is) (skips i.0 t (sym e ∙ w.if-is_cut.false), p, i.2)
     ]
 
 pub returns : goal.returns

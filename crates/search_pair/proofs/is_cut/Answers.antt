@@ -13,8 +13,8 @@ pub returns-then-k-eq0 : goal.returns-then-k-eq0
 returns-then-k-eq0 c =
     let s = c.args in
     let e : get_or s.close.now s.k false ≡ false = elim c.if-k-lt-SCANS.branch [
-      then-k-lt-SCANS+else-close-k w ↦ w.if-close-k.false
-    | else-k-lt-SCANS w ↦ get_or-eq_default s.close.now false (omega (arith, w.if-k-lt-SCANS.false))
+      | then-k-lt-SCANS+else-close-k w ↦ w.if-close-k.false
+      | else-k-lt-SCANS w ↦ get_or-eq_default s.close.now false (omega (arith, w.if-k-lt-SCANS.false))
     ] in
     rw (e, eq-eqb _ _ c.if-k-eq0.true)
 
@@ -22,7 +22,7 @@ pub returns : goal.returns
 returns c =
     let s = c.args in
     let e : get_or s.close.now s.k false ≡ false = elim c.if-k-lt-SCANS.branch [
-      then-k-lt-SCANS+else-close-k w ↦ w.if-close-k.false
-    | else-k-lt-SCANS w ↦ get_or-eq_default s.close.now false (omega (arith, w.if-k-lt-SCANS.false))
+      | then-k-lt-SCANS+else-close-k w ↦ w.if-close-k.false
+      | else-k-lt-SCANS w ↦ get_or-eq_default s.close.now false (omega (arith, w.if-k-lt-SCANS.false))
     ] in
     rw (e, ne_eqb _ _ c.if-k-eq0.false)

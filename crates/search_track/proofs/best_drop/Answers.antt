@@ -58,8 +58,8 @@ loop-k-preserved c =
     let e = c.requires.1 in
     let g = c.loop-k-test.true in
     elim c.if-row-k-gt0.branch [
-      then-row-k-gt0 w ↦ rw (w.best-is, w.better_track-best.ensures) (tries e i g (lt-ltb _ _ w.if-row-k-gt0.true))
-    | else-row-k-gt0 w ↦ rw w.best-is (skips e i g (le-ltb _ _ w.if-row-k-gt0.false))
+      | then-row-k-gt0 w ↦ rw (w.best-is, w.better_track-best.ensures) (tries e i g (lt-ltb _ _ w.if-row-k-gt0.true))
+      | else-row-k-gt0 w ↦ rw w.best-is (skips e i g (le-ltb _ _ w.if-row-k-gt0.false))
     ]
 
 pub returns : goal.returns

@@ -73,10 +73,13 @@ returns-then-length_of-frozen_one-gt1 c =
     let best = best_split_row s.hall.config v s.p s.row.now s.base in
     let split = c.best_split-best.ensures in
     let e = ends_at p.1.long c.end_of-end.ensures in
-    let many : 1 < length (marks s.row.now) + frozen_one s.p = omega (arith, c.length_of.ensures, c.frozen_one.ensures, c.if-length_of-frozen_one-gt1.true) in record { value = c.best_drop.ensures
+    let many : 1 < length (marks s.row.now) + frozen_one s.p = omega (arith, c.length_of.ensures, c.frozen_one.ensures, c.if-length_of-frozen_one-gt1.true) in record {
+      value = c.best_drop.ensures
           ∙ drops-by e split.drop_gains _
           ∙ ap (best_drop_row s.hall.config v s.p s.row.now s.base) split.value
-          ∙ sym (ap (λ (t : Bool). cond t (best_drop_row s.hall.config v s.p s.row.now s.base best) best) (lt-ltb _ _ many)); logs_kept = split.logs_kept }
+          ∙ sym (ap (λ (t : Bool). cond t (best_drop_row s.hall.config v s.p s.row.now s.base best) best) (lt-ltb _ _ many));
+      logs_kept = split.logs_kept;
+    }
 
 pub returns : goal.returns
 unfolding best_track_row

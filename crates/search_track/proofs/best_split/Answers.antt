@@ -147,8 +147,8 @@ loop-k-preserved c =
     let e = c.requires.2 in
     let g = c.loop-k-test.true in
     elim c.if-row-k-gt0.branch [
-      then-row-k-gt0 w ↦ rw (w.gains-is, w.logs-is, w.best-is, w.numbers-is, w.fold-is, w.done-is, w.seen-is) (tries e i.0 g (lt-ltb _ _ w.if-row-k-gt0.true) w.fold_to-fold.ensures.numbers_after w.better_split-best.ensures.value w.drop_gain.ensures.value, i.1, w.drop_gain.ensures.logs_kept)
-    | else-row-k-gt0 w ↦ rw (w.gains-is, w.logs-is, w.best-is, w.numbers-is, w.fold-is, w.done-is, w.seen-is) (skips e i.0 g (le-ltb _ _ w.if-row-k-gt0.false), i.1, i.2)
+      | then-row-k-gt0 w ↦ rw (w.gains-is, w.logs-is, w.best-is, w.numbers-is, w.fold-is, w.done-is, w.seen-is) (tries e i.0 g (lt-ltb _ _ w.if-row-k-gt0.true) w.fold_to-fold.ensures.numbers_after w.better_split-best.ensures.value w.drop_gain.ensures.value, i.1, w.drop_gain.ensures.logs_kept)
+      | else-row-k-gt0 w ↦ rw (w.gains-is, w.logs-is, w.best-is, w.numbers-is, w.fold-is, w.done-is, w.seen-is) (skips e i.0 g (le-ltb _ _ w.if-row-k-gt0.false), i.1, i.2)
     ]
 
 pub returns : goal.returns
@@ -159,10 +159,10 @@ returns c =
     let v = view_in s.hall s.dots.now in
     record {
       value =
-        ends e i.0 c.loop-k-test.false
-        ∙ ap (λ (p : Fold). best_split_row s.hall.config v p s.row.now s.base) c.lend-fold.ensures;
+          ends e i.0 c.loop-k-test.false
+          ∙ ap (λ (p : Fold). best_split_row s.hall.config v p s.row.now s.base) c.lend-fold.ensures;
       drop_gains =
-        subst (λ (p : Fold). DropGains s.hall.config v p s.row.now s.base s.end c.loop-k.gains) c.lend-fold.ensures
-        (noted e i.0 c.loop-k-test.false);
+          subst (λ (p : Fold). DropGains s.hall.config v p s.row.now s.base s.end c.loop-k.gains) c.lend-fold.ensures
+          (noted e i.0 c.loop-k-test.false);
       logs_kept = i.2;
     }

@@ -32,9 +32,9 @@ loop-k-smaller c = omega arith
 
 pub loop-k-preserved : goal.loop-k-preserved
 loop-k-preserved c = elim c.if-row-k-gt0.branch [
-      then-row-k-gt0 w ↦ let e = ap length (left_yes (has_slot c.args.row.now) SCANS c.loop-k.k (omega arith) (lt-ltb _ _ w.if-row-k-gt0.true)) in let q = w.n-is in (omega arith, omega arith, omega arith)
-    | else-row-k-gt0 w ↦ let e = ap length (left_no (has_slot c.args.row.now) SCANS c.loop-k.k (omega arith) (le-ltb _ _ w.if-row-k-gt0.false)) in let q = w.n-is in (omega arith, omega arith, omega arith)
-    ]
+  | then-row-k-gt0 w ↦ let e = ap length (left_yes (has_slot c.args.row.now) SCANS c.loop-k.k (omega arith) (lt-ltb _ _ w.if-row-k-gt0.true)) in let q = w.n-is in (omega arith, omega arith, omega arith)
+  | else-row-k-gt0 w ↦ let e = ap length (left_no (has_slot c.args.row.now) SCANS c.loop-k.k (omega arith) (le-ltb _ _ w.if-row-k-gt0.false)) in let q = w.n-is in (omega arith, omega arith, omega arith)
+]
 
 pub returns : goal.returns
 returns c = let e = ap length (left_none (has_slot c.args.row.now) SCANS c.loop-k.k (omega arith)) in omega arith

@@ -47,8 +47,8 @@ loop-i-preserved c =
     let v = c.loop-i.invariant in
     let h = c.loop-i-test.true in
     elim c.if-d-t.branch [
-      then-d-t w ↦ rw (w.root-is, w.rest-is) (next_one v h w.if-d-t.true)
-    | else-d-t w ↦ rw (w.root-is, w.rest-is) (next_zero v h w.if-d-t.false)
+      | then-d-t w ↦ rw (w.root-is, w.rest-is) (next_one v h w.if-d-t.true)
+      | else-d-t w ↦ rw (w.root-is, w.rest-is) (next_zero v h w.if-d-t.false)
     ]
 
 pub returns : goal.returns

@@ -1,10 +1,7 @@
-use mathlib.Core.List.{List}
-use Prim.Native.Nat.{ℕ, ◌-◌}
-use lib.Ieee.{Float}
+use Prim.Native.Nat.{◌-◌}
 use Rattle.scalar.specs.F64.{f64}
 use Rattle.linalg.proofs.Fill.{no_row, next_row, all-rows}
-use Rattle.linalg.specs.Matrix.{entry, dot, mul}
-use Rattle.linalg.proofs.matrix.mul6.Invariants.{cell}
+use Rattle.linalg.specs.Matrix.{mul}
 use Rattle.linalg.proofs.matrix.mul6.Goals as goal
 
 pub loop-i-init : goal.loop-i-init

@@ -1,11 +1,7 @@
 use mathlib.Core.Path.{refl}
-use mathlib.Core.List.{List}
-use Prim.Native.Nat.{ℕ, ◌-◌}
-use lib.Ieee.{Float}
-use Rattle.scalar.specs.F64.{f64}
+use Prim.Native.Nat.{◌-◌}
 use Rattle.linalg.specs.Matrix as Matrix
 use Rattle.linalg.proofs.Fill.{begun, next, done}
-use Rattle.linalg.proofs.matrix.sub6.Invariants.{cell}
 use Rattle.linalg.proofs.matrix.sub6.Goals as goal
 
 pub loop-n-init : goal.loop-n-init

@@ -53,11 +53,11 @@ loop-i-preserved c =
       omega arith,
       omega arith,
       elim c.if-x-a.branch [
-        then-x-a w ↦ w.ids-is ∙ turn s.t.a.0 l.invariant.4 (rw (eq-eqb a x (sym w.if-x-a.true)))
-      | else-x-a+then-x-b w ↦
-          w.ids-is ∙ turn s.t.b.0 l.invariant.4 (rw (other w.if-x-a.false, eq-eqb b x (sym w.if-x-b.true)))
-      | else-x-a+else-x-b w ↦
-          w.ids-is ∙ skip (rw (other w.if-x-a.false, ne_eqb b x (λ e. w.if-x-b.false (sym e))))
+        | then-x-a w ↦ w.ids-is ∙ turn s.t.a.0 l.invariant.4 (rw (eq-eqb a x (sym w.if-x-a.true)))
+        | else-x-a+then-x-b w ↦
+            w.ids-is ∙ turn s.t.b.0 l.invariant.4 (rw (other w.if-x-a.false, eq-eqb b x (sym w.if-x-b.true)))
+        | else-x-a+else-x-b w ↦
+            w.ids-is ∙ skip (rw (other w.if-x-a.false, ne_eqb b x (λ e. w.if-x-b.false (sym e))))
       ],
     )
 

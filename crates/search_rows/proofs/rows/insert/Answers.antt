@@ -29,7 +29,7 @@ returns c = let s = c.args in
     let m = c.move_up.ensures in
     inserted_new s.x.0 s.n p.result s.l.now _ (omega arith) (omega arith) p.ensures
     (elim c.if-p-n.branch [
-      then-p-n+else-l-p w ↦ (λ h e. w.if-l-p.false e)
-    | else-p-n w ↦ (λ h e. absurd (omega (arith, w.if-p-n.false)))
+      | then-p-n+else-l-p w ↦ (λ h e. w.if-l-p.false e)
+      | else-p-n w ↦ (λ h e. absurd (omega (arith, w.if-p-n.false)))
     ])
     m.l_len m.l_unchanged m.l_after
