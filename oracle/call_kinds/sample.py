@@ -1,4 +1,4 @@
-"""What rt check plays: one list with a little of everything."""
+"""What `rt ci` plays: one list with a little of everything."""
 import math
 import struct
 
@@ -115,7 +115,7 @@ def kept(out):
 
 
 def sample(out):
-    """What rt check plays: a little of each kind, every code, every refusal but those of a recording, and a bad call at the end."""
+    """What `rt ci` plays: a little of each kind, every code, every refusal but those of a recording, and a bad call at the end."""
     smoothed(out)
     refined_and_smoothed(out)
     full(out)
