@@ -256,7 +256,7 @@ pub record NamedOnce (f : Frame) : Type 0 where
   pub within : (j : ℕ) → j < length f.associations → index_of f j < length f.observations
   pub once : (i j : ℕ) → i < length f.associations → j < length f.associations → index_of f i ≡ index_of f j → i ≡ j
 
--- the law, in proofs/: named-once : (b : Body) → body_refusal b ≡ 0 → NamedOnce (frame_in b)
+-- the law, in proofs/: named_once : (b : Body) → body_refusal b ≡ 0 → NamedOnce (frame_in b)
 
 -- ---- what the readers answer on any bytes: the field where its bytes are all there, and else a value that stands for none
 

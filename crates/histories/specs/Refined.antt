@@ -82,7 +82,7 @@ pub record Third (r : FixedLagRefiner) (m : Memory) (three : Type 0) : Type 0 wh
   pub always : (Sound r m → ⊥) → three
 
 -- the laws, in proofs/: third : .. → Bytes m.bodies → Meets r m k → Third r m (k.answer ≡ Refused 3)
---                       third-counted : .. → Bytes m.bodies → Third r m (counted_by (count_refusal r m) n ≡ NotCounted 3)
+--                       third_counted : .. → Bytes m.bodies → Third r m (counted_by (count_refusal r m) n ≡ NotCounted 3)
 
 -- ---- finish
 

@@ -128,4 +128,4 @@ Passes c ops =
 --   passes : (c : FgoConfig) (ops : List (Op Body)) → All Sent ops → Passes c ops
 --   both :
 --     (c : FgoConfig) (ops : List (Op Body)) → All Sent ops → (d : SmootherConfig) (os : List (Op Written)) (marks : List Bool) →
---     let first = picked marks (sourced (run c ops).emitted) in smoothing d os .accepted ≡ map handed first → Both c ops d os first
+--     let first = picked marks (sourced (run c ops).emitted) in (smoothing d os).accepted ≡ map handed first → Both c ops d os first
