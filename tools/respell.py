@@ -36,6 +36,12 @@ APART = {
     "seen_twice": "seen_twice_lem",
 }
 
+# names that the table does not see: a field whose type stands on the next line, local names, names given by an import
+MORE = (
+    "all-consPair all-pairsWith asSearched byBounds costRun costStep dropMove flatMap-more formAssociation formHead formTrack matAdd matMul"
+    " matSub onClear onExchange onPair onTrack openingIn pushSmoother pushedBy scansNoted settleFrame splitMove takeSmoother windowOf"
+).split()
+
 
 def files(root):
     for d, ds, fs in os.walk(os.path.join(root, "crates")):
@@ -106,6 +112,7 @@ def table(root):
         if turn.get(n, n) in taken:
             turn[n] = turn.get(n, n) + "_lem"
     turn.update(APART)
+    turn.update({n: snake(n) for n in MORE})
     return turn, names
 
 

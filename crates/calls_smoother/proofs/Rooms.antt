@@ -52,11 +52,11 @@ module _ (room : Room) (c : SmootherConfig) where
   unfolding room_for
   asked h = rw h refl
 
-  abbrev byBounds : Bool → Room
-  byBounds b = unsaid (cond b ((lag c + 1) * words_for (most c)) 0) (cond b ((lag c + 1) * numbers_for (most c)) 0)
+  abbrev by_bounds : Bool → Room
+  by_bounds b = unsaid (cond b ((lag c + 1) * words_for (most c)) 0) (cond b ((lag c + 1) * numbers_for (most c)) 0)
 
   none : room.said ≡ false → bounded c ≡ false → Roomed room c (unsaid 0 0)
-  none h e = (sym (asked h ∙ ap byBounds e), record { words = omega arith; numbers = omega arith })
+  none h e = (sym (asked h ∙ ap by_bounds e), record { words = omega arith; numbers = omega arith })
 
   -- none, where lag or C are out of bounds
   pub none_by_lag : room.said ≡ false → LAG < lag c → Roomed room c (unsaid 0 0)
@@ -74,7 +74,7 @@ module _ (room : Room) (c : SmootherConfig) where
       → w ≡ (lag c + 1) * words_for (most c) → x ≡ (lag c + 1) * numbers_for (most c)
       → Roomed room c (unsaid w x)
   by_both {w} {x} h l k m e g = (
-    (λ i. unsaid (e i) (g i)) ∙ sym (asked h ∙ ap byBounds (in_bounds c l k m)),
+    (λ i. unsaid (e i) (g i)) ∙ sym (asked h ∙ ap by_bounds (in_bounds c l k m)),
     record {
       words = subst (λ (n : ℕ). n ≤ WINDOW) (sym e) (words-within (lag c) (most c) l m);
       numbers = subst (λ (n : ℕ). n ≤ VALUES) (sym g) (numbers-within (lag c) (most c) l m);

@@ -24,10 +24,10 @@ use Rattle.buffers.proofs.Writes.{WrittenOver, written_none, written-more, writt
 -- ---- lists of equal length, one after another
 
 module _ {A B : Type 0} (f : A → List B) where
-  flatMap-more : (l : List A) (a : A) → flat_map f (l ++ (a ∷ [])) ≡ flat_map f l ++ f a
+  flat_map-more : (l : List A) (a : A) → flat_map f (l ++ (a ∷ [])) ≡ flat_map f l ++ f a
   unfolding flat_map
-  flatMap-more [] a = append-nil (f a)
-  flatMap-more (x ∷ l) a = ap (λ (m : List B). f x ++ m) (flatMap-more l a) ∙ sym (append_assoc (f x) (flat_map f l) (f a))
+  flat_map-more [] a = append-nil (f a)
+  flat_map-more (x ∷ l) a = ap (λ (m : List B). f x ++ m) (flat_map-more l a) ∙ sym (append_assoc (f x) (flat_map f l) (f a))
 
 pub words_size : (ls : List Listed) → length (flat_map track_words ls) ≡ TRACK * length ls
 words_size = length-flat track_words TRACK (λ l. refl)
@@ -96,8 +96,8 @@ module _ (c : FgoConfig) (time : ℤ) (tracks : List ℕ) (filters : List Float)
       record {
         few = omega arith;
         count = ei ∙ ap (λ (n : ℕ). n + 1) p.count ∙ sym (length-append ls (l ∷ [])) ∙ ap length e;
-        words = written_same HEAD ws (written-more HEAD ws (flat_map track_words ls) (track_words l) p.words (omega arith) ew') (sym (flatMap-more track_words ls l) ∙ ap (flat_map track_words) e) refl;
-        numbers = written_same 0 ns (written-more 0 ns (flat_map track_numbers ls) (track_numbers l) p.numbers (omega arith) en') (sym (flatMap-more track_numbers ls l) ∙ ap (flat_map track_numbers) e) refl;
+        words = written_same HEAD ws (written-more HEAD ws (flat_map track_words ls) (track_words l) p.words (omega arith) ew') (sym (flat_map-more track_words ls l) ∙ ap (flat_map track_words) e) refl;
+        numbers = written_same 0 ns (written-more 0 ns (flat_map track_numbers ls) (track_numbers l) p.numbers (omega arith) en') (sym (flat_map-more track_numbers ls l) ∙ ap (flat_map track_numbers) e) refl;
       }
 
   -- the part k is not

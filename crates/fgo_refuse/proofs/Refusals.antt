@@ -67,15 +67,15 @@ module _ (r : FixedLagRefiner) (m : Memory) (s : Body) where
   abbrev c : FgoConfig
   c = r.config
 
-  abbrev pushedBy : ℕ → Option ℕ → Reply Emitted × State
-  pushedBy zero o = push_by o c t f
-  pushedBy (suc n) o = (refused (suc n), t)
+  abbrev pushed_by : ℕ → Option ℕ → Reply Emitted × State
+  pushed_by zero o = push_by o c t f
+  pushed_by (suc n) o = (refused (suc n), t)
 
-  push_by_lem : spec.push c t s ≡ pushedBy (body_refusal s) found
+  push_by_lem : spec.push c t s ≡ pushed_by (body_refusal s) found
   unfolding spec.push decode push_frame
   push_by_lem = by (body_refusal s)
     where
-      by : (n : ℕ) → push_read c t (decoded_by n f) ≡ pushedBy n found
+      by : (n : ℕ) → push_read c t (decoded_by n f) ≡ pushed_by n found
       by zero = ap (λ o. push_by o c t f) found_same
       by (suc n) = refl
 
@@ -84,7 +84,7 @@ module _ (r : FixedLagRefiner) (m : Memory) (s : Body) where
   unfolding push_refusal
   push_refused k h = push_by_lem ∙ by (body_refusal s) (full_in r) _ _ h
     where
-      by : (n : ℕ) (a b d : Bool) → refused_by n (or_none (first_of a b d)) ≡ suc k → pushedBy n (first_of a b d) ≡ (refused (suc k), t)
+      by : (n : ℕ) (a b d : Bool) → refused_by n (or_none (first_of a b d)) ≡ suc k → pushed_by n (first_of a b d) ≡ (refused (suc k), t)
       by zero true b d e = ap (λ (i : ℕ). (refused i, t)) e
       by zero false true d e = ap (λ (i : ℕ). (refused i, t)) e
       by zero false false true e = ap (λ (i : ℕ). (refused i, t)) e
@@ -93,4 +93,4 @@ module _ (r : FixedLagRefiner) (m : Memory) (s : Body) where
 
   -- none does: the frame arrives
   pub push-accepted : push_refusal r m.bodies m.columns m.owners s ≡ 0 → spec.push c t s ≡ push_by none c t f
-  push-accepted h = let a = none_found h in push_by_lem ∙ ap (λ (n : ℕ). pushedBy n found) a.0 ∙ ap (λ o. push_by o c t f) a.1
+  push-accepted h = let a = none_found h in push_by_lem ∙ ap (λ (n : ℕ). pushed_by n found) a.0 ∙ ap (λ o. push_by o c t f) a.1

@@ -21,7 +21,7 @@ use Rattle.engine.specs.Little.{little}
 use Rattle.engine.specs.Frame.{Frame}
 use Rattle.engine.specs.Body.{Body, all, code_ok, present_ok, time_ok, track_ok, association_ok, observation_ok, zeros_ok, index_ok, head_ok, tracks_ok, associations_ok, observations_ok, indices_ok, refusal, rows, track_at, observation_at, association_at, frame_of, decode}
 use Rattle.engine.specs.Encode.{bytes_of}
-use Rattle.cost.specs.Cost.{added, fold_one as costStep, fold_over as costRun, closed}
+use Rattle.cost.specs.Cost.{added, fold_one as cost_step, fold_over as cost_run, closed}
 use Rattle.fgo_spec.specs.Lists.{keep, any, up_from, insert, find, put, assign}
 use Rattle.fgo_spec.specs.Windows.{Detection, Prefix, class_among, detection_of, under, window, present, price}
 use Rattle.fgo_spec.specs.Placing.{place}
@@ -117,7 +117,7 @@ figures l = let k = l.kf in map bits_of (k.x ∷ k.y ∷ l.height ∷ k.vx ∷ k
 
 -- of each emitted frame its words, then the figures of each listed track; at the end the counters. What has to be computed for that is opened here.
 unfoldable pub shown : FgoConfig → List (Op Body) → List (List ℕ)
-unfolding run_from step push takes decode refusal head_ok tracks_ok associations_ok observations_ok indices_ok all code_ok present_ok time_ok track_ok association_ok observation_ok index_ok rows track_at observation_at association_at frame_of little bytes_of spot_bytes sight_bytes body flat_map finite push_frame arrive emit leave freeze_oldest settle full8 full9 full10 report listing associations_words words_of numbers_of mean freeze freeze_all remember holder_in latest reown recolumn shared rest track_cost close is_cut cuts neighbours_of neighbours try_swap try_merge pair_candidates best_of_pair try_split try_drop track_candidates best_of_track pair_step track_step pass passes improve place class_among detection_of under window present price keep any up_from insert find put assign added costStep costRun closed ln_of add sub mul div lt round of_int of_bits to_bits neg sum units odd size span climb of_fields count_trailing_zeros zeros_ok counts figures
+unfolding run_from step push takes decode refusal head_ok tracks_ok associations_ok observations_ok indices_ok all code_ok present_ok time_ok track_ok association_ok observation_ok index_ok rows track_at observation_at association_at frame_of little bytes_of spot_bytes sight_bytes body flat_map finite push_frame arrive emit leave freeze_oldest settle full8 full9 full10 report listing associations_words words_of numbers_of mean freeze freeze_all remember holder_in latest reown recolumn shared rest track_cost close is_cut cuts neighbours_of neighbours try_swap try_merge pair_candidates best_of_pair try_split try_drop track_candidates best_of_track pair_step track_step pass passes improve place class_among detection_of under window present price keep any up_from insert find put assign added cost_step cost_run closed ln_of add sub mul div lt round of_int of_bits to_bits neg sum units odd size span climb of_fields count_trailing_zeros zeros_ok counts figures
 shown c ops = let r = run c ops in flat_map (λ e. words_of e ∷ map figures e.tracks) r.emitted ++ (counts r ∷ [])
 
 -- ---- document 01's printed frame

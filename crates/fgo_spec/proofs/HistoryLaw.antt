@@ -229,7 +229,7 @@ module _ (c : FgoConfig) where
       record {
         in_order = i.inv.order;
         every = λ past e later h. told_at [] past e later (subst (ToldFrom []) h i.told-all);
-        asSearched = λ o e h. gave-step r o e (ap (λ r. r.emitted) (sym (run_snoc frame_in (reply c) new ops o)) ∙ h);
+        as_searched = λ o e h. gave-step r o e (ap (λ r. r.emitted) (sym (run_snoc frame_in (reply c) new ops o)) ∙ h);
         dots = under-later ops;
         used = used c r.emitted r.accepted r.state i.inv;
         rises = rises-more ops;

@@ -111,19 +111,19 @@ module _ (c : FgoConfig) (first : ℕ) (ps : List (ℕ × Prefix)) where
 
   -- the pairs that the search goes through are of ids that it was given
   module _ (Q : ℕ → Type 0) where
-    all-consPair : (a b : ℕ) (gs : List ℕ) (l : List Pair) → Q a → Q b → All (Both Q) l → All (Both Q) (cons_pair a b gs l)
-    all-consPair a b [] l p q h = h
-    all-consPair a b (g ∷ gs) l p q h = ((p, q), h)
+    all-cons_pair : (a b : ℕ) (gs : List ℕ) (l : List Pair) → Q a → Q b → All (Both Q) l → All (Both Q) (cons_pair a b gs l)
+    all-cons_pair a b [] l p q h = h
+    all-cons_pair a b (g ∷ gs) l p q h = ((p, q), h)
 
-    all-pairsWith : (ss : List Scan) (a : ℕ) (l : List ℕ) → Q a → All Q l → All (Both Q) (neighbours_of c first ps ss a l)
+    all-pairs_with : (ss : List Scan) (a : ℕ) (l : List ℕ) → Q a → All Q l → All (Both Q) (neighbours_of c first ps ss a l)
     unfolding neighbours_of
-    all-pairsWith ss a [] p h = tt
-    all-pairsWith ss a (b ∷ bs) p h = all-consPair a b (cuts c first ps ss a b) (neighbours_of c first ps ss a bs) p h.0 (all-pairsWith ss a bs p h.1)
+    all-pairs_with ss a [] p h = tt
+    all-pairs_with ss a (b ∷ bs) p h = all-cons_pair a b (cuts c first ps ss a b) (neighbours_of c first ps ss a bs) p h.0 (all-pairs_with ss a bs p h.1)
 
     all-pairs : (ss : List Scan) (l : List ℕ) → All Q l → All (Both Q) (neighbours c first ps ss l)
     unfolding neighbours
     all-pairs ss [] h = tt
-    all-pairs ss (a ∷ l) h = All-append (Both Q) (neighbours_of c first ps ss a l) (neighbours c first ps ss l) (all-pairsWith ss a l h.0 h.1) (all-pairs ss l h.1)
+    all-pairs ss (a ∷ l) h = All-append (Both Q) (neighbours_of c first ps ss a l) (neighbours c first ps ss l) (all-pairs_with ss a l h.0 h.1) (all-pairs ss l h.1)
 
 -- ---- what the search keeps
 
@@ -146,8 +146,8 @@ module _ (Old : ℕ → Type 0) (start : ℕ) (P : Scan → Scan → Type 0) whe
   kept-up m n h s t k = record { holds = k.holds; named = λ x p q. known_up Old start m n x h (k.named x p q) }
 
 module _ (Old : ℕ → Type 0) (start : ℕ) (begun : 0 < start) (P : Scan → Scan → Type 0)
-    (onExchange : (s t : Scan) (a b : ℕ) → 0 < a → 0 < b → P s t → P s (with_ids t (map (exchange a b) t.ids)))
-    (onClear : (s t : Scan) (a : ℕ) → P s t → P s (with_ids t (map (clear a) t.ids))) where
+    (on_exchange : (s t : Scan) (a b : ℕ) → 0 < a → 0 < b → P s t → P s (with_ids t (map (exchange a b) t.ids)))
+    (on_clear : (s t : Scan) (a : ℕ) → P s t → P s (with_ids t (map (clear a) t.ids))) where
   abbrev Kept' : ℕ → Scan → Scan → Type 0
   Kept' = Kept Old start P
 
@@ -155,7 +155,7 @@ module _ (Old : ℕ → Type 0) (start : ℕ) (begun : 0 < start) (P : Scan → 
   Use n x = (0 < x) × Known Old start n x
 
   kept-exchange : (n a b : ℕ) → Use n a → Use n b → (s t : Scan) → Kept' n s t → Kept' n s (with_ids t (map (exchange a b) t.ids))
-  kept-exchange n a b u v s t k = record { holds = onExchange s t a b u.0 v.0 k.holds; named = λ x p q. go x p q (ℕ_discrete a x) (ℕ_discrete b x) }
+  kept-exchange n a b u v s t k = record { holds = on_exchange s t a b u.0 v.0 k.holds; named = λ x p q. go x p q (ℕ_discrete a x) (ℕ_discrete b x) }
     where
       go : (x : ℕ) → 0 < x → 0 < times x (map (exchange a b) t.ids) → Dec (a ≡ x) → Dec (b ≡ x) → Known Old start n x
       go x p q (yes e) d = subst (Known Old start n) e u.1
@@ -163,7 +163,7 @@ module _ (Old : ℕ → Type 0) (start : ℕ) (begun : 0 < start) (P : Scan → 
       go x p q (no f) (no g) = k.named x p (rw (times-exchange a b x t.ids, exchange_other a b x f g) at q)
 
   kept-clear : (n a : ℕ) (s t : Scan) → Kept' n s t → Kept' n s (with_ids t (map (clear a) t.ids))
-  kept-clear n a s t k = record { holds = onClear s t a k.holds; named = λ x p q. k.named x p (le_trans q (times-clear a x t.ids p)) }
+  kept-clear n a s t k = record { holds = on_clear s t a k.holds; named = λ x p q. k.named x p (le_trans q (times-clear a x t.ids p)) }
 
   kept-cond : (n : ℕ) (s t : Scan) (b : Bool) (k l : List ℕ) → Kept' n s (with_ids t k) → Kept' n s (with_ids t l) → Kept' n s (with_ids t (cond b k l))
   kept-cond n s t true k l h g = h

@@ -152,7 +152,7 @@ pub record History (c : FgoConfig) (ops : List (Op Body)) : Type 0 where
   -- every emitted frame
   pub every : (past : List Emitted) (e : Emitted) (later : List Emitted) → (run c ops).emitted ≡ past ++ (e ∷ later) → Told c past e
   -- "with the ids that 01's placing and search give": a frame that one more operation emits is the oldest scan then held, with the ids that it then has
-  pub asSearched :
+  pub as_searched :
       (o : Op Body) (e : Emitted) → (run c (ops ++ (o ∷ []))).emitted ≡ (run c ops).emitted ++ (e ∷ []) →
       (rest : List Scan) × (settled c (run c ops).state o ≡ e.scan ∷ rest)
   -- "each dot under one id only": an observation, by its frame and its place in it, that is emitted under an id (0 for none) is emitted under no other, whatever

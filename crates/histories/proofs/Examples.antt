@@ -21,10 +21,10 @@ use Rattle.engine.specs.Little.{little}
 use Rattle.engine.specs.Frame.{Frame}
 use Rattle.engine.specs.Body.{Body, body, all, code_ok, present_ok, time_ok, track_ok, association_ok, observation_ok, zeros_ok, index_ok, head_ok, tracks_ok, associations_ok, observations_ok, indices_ok, refusal, rows, track_at, observation_at, association_at, frame_of, decode}
 use Rattle.engine.specs.Encode.{bytes_of, laid, encode}
-use Rattle.cost.specs.Cost.{added, fold_one as costStep, fold_over as costRun, closed}
+use Rattle.cost.specs.Cost.{added, fold_one as cost_step, fold_over as cost_run, closed}
 use Rattle.scalar.specs.Root.{floor_root, near_root, root_of}
 use Rattle.linalg.specs.Grown.{tabulate, grown, backed}
-use Rattle.linalg.specs.Matrix.{mul as matMul, mul_vec, transpose, add as matAdd, sub as matSub, scale, half_sum}
+use Rattle.linalg.specs.Matrix.{mul as mat_mul, mul_vec, transpose, add as mat_add, sub as mat_sub, scale, half_sum}
 use Rattle.linalg.specs.Cholesky.{less, factor_column, columns, cholesky, positive, forward, backward, inverse}
 use Rattle.models.specs.Motion.{cv_f, cv_q}
 use Rattle.rts.specs.Smoothing.{x_pred, p_pred, gain, smoothed_x, smoothed_p, smoothed, back}
@@ -38,10 +38,10 @@ use Rattle.fgo_spec.specs.Emitting.{Emitted, report, listing, associations_words
 use Rattle.fgo_spec.specs.Refiner.{arrive, emit, leave, freeze_oldest, settle, full8, full9, full10, push_frame, push, takes}
 use Rattle.fgo_spec.specs.History.{run}
 use Rattle.fgo_spec.proofs.Examples.{lagging}
-use Rattle.smoother_frame.specs.Frame.{head_ok as formHead, track_ok as formTrack, association_ok as formAssociation, sensor_ok, exact, rows_ok, well_formed}
+use Rattle.smoother_frame.specs.Frame.{head_ok as form_head, track_ok as form_track, association_ok as form_association, sensor_ok, exact, rows_ok, well_formed}
 use Rattle.smoother_window.specs.declared.SmootherConfig.{SmootherConfig}
 use Rattle.smoother_pass.specs.Pass.{chain, run_back, smoothed_at, states_to, emitted, state_at, last_at, track_state}
-use Rattle.smoother.specs.Smoother.{settle as settleFrame, emit_oldest, push as pushSmoother, takes as takeSmoother}
+use Rattle.smoother.specs.Smoother.{settle as settle_frame, emit_oldest, push as push_smoother, takes as take_smoother}
 use Rattle.histories.specs.Audit.{ids_in, observed}
 use Rattle.histories.specs.Smoothed.{smoothing}
 
@@ -76,7 +76,7 @@ shown os = flat_map (λ o. o.words ∷ map bits_of o.numbers ∷ []) os
 
 -- What has to be computed for that is opened here.
 pub smoothed_twice : ℕ → List (List ℕ)
-unfolding shown handing twice dotted run_from step push takes decode refusal head_ok tracks_ok associations_ok observations_ok indices_ok all code_ok present_ok time_ok track_ok association_ok observation_ok zeros_ok index_ok rows track_at observation_at association_at frame_of little bytes_of laid encode flat_map finite push_frame arrive emit leave freeze_oldest settle full8 full9 full10 report listing associations_words words_of numbers_of mean freeze freeze_all remember holder_in latest reown recolumn shared rest track_cost close is_cut cuts neighbours_of neighbours try_swap try_merge pair_candidates best_of_pair try_split try_drop track_candidates best_of_track pair_step track_step pass passes improve place class_among detection_of under window present price keep any up_from insert find put assign added costStep costRun closed ln_of add sub mul div lt le round of_int of_bits to_bits neg sum units odd size span climb of_fields count_trailing_zeros formHead formTrack formAssociation sensor_ok exact rows_ok well_formed state_at last_at track_state chain run_back smoothed_at states_to emitted settleFrame emit_oldest pushSmoother takeSmoother back smoothed x_pred p_pred gain smoothed_x smoothed_p matMul mul_vec transpose matAdd matSub scale half_sum less factor_column columns cholesky positive forward backward inverse tabulate grown backed cv_f cv_q floor_root near_root root_of
+unfolding shown handing twice dotted run_from step push takes decode refusal head_ok tracks_ok associations_ok observations_ok indices_ok all code_ok present_ok time_ok track_ok association_ok observation_ok zeros_ok index_ok rows track_at observation_at association_at frame_of little bytes_of laid encode flat_map finite push_frame arrive emit leave freeze_oldest settle full8 full9 full10 report listing associations_words words_of numbers_of mean freeze freeze_all remember holder_in latest reown recolumn shared rest track_cost close is_cut cuts neighbours_of neighbours try_swap try_merge pair_candidates best_of_pair try_split try_drop track_candidates best_of_track pair_step track_step pass passes improve place class_among detection_of under window present price keep any up_from insert find put assign added cost_step cost_run closed ln_of add sub mul div lt le round of_int of_bits to_bits neg sum units odd size span climb of_fields count_trailing_zeros form_head form_track form_association sensor_ok exact rows_ok well_formed state_at last_at track_state chain run_back smoothed_at states_to emitted settle_frame emit_oldest push_smoother take_smoother back smoothed x_pred p_pred gain smoothed_x smoothed_p mat_mul mul_vec transpose mat_add mat_sub scale half_sum less factor_column columns cholesky positive forward backward inverse tabulate grown backed cv_f cv_q floor_root near_root root_of
 smoothed_twice t = shown (smoothing later (handing (run (lagging 0) (twice t)).emitted)).emitted
 
 -- ---- no time goes by

@@ -90,7 +90,7 @@ module _ (c : FgoConfig) where
 
         pub searched-one : (rest : List Scan) × (settled c (run c ops).state k.sent ≡ g.scan ∷ rest)
         searched-one =
-            (history c ops).asSearched k.sent g
+            (history c ops).as_searched k.sent g
             (subst (λ b. (run c (ops ++ more b k.sent)).emitted ≡ (run c ops).emitted ++ (g ∷ [])) long last_one)
 
       rooms : (x : Reply Emitted) → replied ≡ x → (length k.words_back ≡ length k.words) × (length k.numbers_back ≡ length k.numbers)

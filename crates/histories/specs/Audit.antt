@@ -19,7 +19,7 @@
 -- just those that come out. With one frame, one dot at (1, 2, 0.5) and engine id 7 (document 01's printed frame) x is 1, `observed` has that dot, and the
 -- words are 1, 0, 0, 0, 4294967296, 1.
 --
--- Not here: that the ids are those that placing and search give (`asSearched` of fgo_spec/specs/History.antt), and the smoothed form (Joined.antt).
+-- Not here: that the ids are those that placing and search give (`as_searched` of fgo_spec/specs/History.antt), and the smoothed form (Joined.antt).
 use Rattle.std.specs.Prelude.{ℕ, suc, ◌+◌, ◌*◌, ◌≤◌, ◌<◌, ◌≡◌, length, get_or, take, drop, T, ℤ, ◌≤ℤ◌}
 use mathlib.Core.List.{List, [], ◌∷◌, ◌++◌, map, Memᴰ}
 use Rattle.std.proofs.Math.Option.{some}

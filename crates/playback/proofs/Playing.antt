@@ -33,7 +33,7 @@ use Rattle.smoother_window.specs.Config as Config
 use Rattle.smoother.specs.declared.Opened.{Opened as OpenedSmoother}
 use Rattle.smoother.specs.declared.Opened.TheVariants.{Ready as ReadySmoother}
 use Rattle.smoother.specs.Smoother.{opens}
-use Rattle.smoother.specs.Promise.{Window, opening_of as openingIn}
+use Rattle.smoother.specs.Promise.{Window, opening_of as opening_in}
 use Rattle.histories.specs.Calls.{Calls}
 use Rattle.histories.specs.Refined.{Reached}
 use Rattle.histories.specs.Joined as Joined
@@ -221,10 +221,10 @@ lag-within r f = leb-true _ _ (both (leb r.config.lag_frames LAG) _ f.settings).
 -- an opening that gives a smoother
 pub opened_serves :
     (d : SmootherConfig) (w : Window) {o : OpenedSmoother} {s : FixedLagSmoother} → o ≡ ReadySmoother s →
-    openingIn o w ≡ opens d (length w.words) (length w.numbers) → Smoothed s w
+    opening_in o w ≡ opens d (length w.words) (length w.numbers) → Smoothed s w
 unfolding Calls
 opened_serves d w {s = s} e h =
-    let q : Joined.Session d s w [] = record { opening = sym (ap (λ o. openingIn o w) e) ∙ h; calls = tt } in
+    let q : Joined.Session d s w [] = record { opening = sym (ap (λ o. opening_in o w) e) ∙ h; calls = tt } in
     let ok = (fine d s w [] q).0 in
     let a = at_opened d s w [] q in
     let g : s.config ≡ d = settings d ok [] s w a in

@@ -91,13 +91,13 @@ module _ (e : Scene) (ss : List Scan) (ids : List ℕ) (held : Held e ss) where
       go (no l) = row_past e ids x k (omega (arith, l))
 
   module _ (a b : ℕ) where
-    abbrev scansNoted : List Bool
-    scansNoted = close_on e (row_on e ids a) (row_on e ids b)
+    abbrev scans_noted : List Bool
+    scans_noted = close_on e (row_on e ids a) (row_on e ids b)
 
     abbrev noted : ℕ → Bool
     noted k = close_at (square (radius e.hall.config)) e.dots (row_on e ids a) (row_on e ids b) k
 
-    noted-at : (k : ℕ) → get_or scansNoted k false ≡ noted k
+    noted-at : (k : ℕ) → get_or scans_noted k false ≡ noted k
     unfolding close_scans
     noted-at k = go (dec_lt k SCANS)
       where
@@ -108,27 +108,27 @@ module _ (e : Scene) (ss : List Scan) (ids : List ℕ) (held : Held e ss) where
             get_or-eq_default (map noted (up_from 0 SCANS)) false {n = k} (omega (arith, map_up_length noted 0 SCANS))
             ∙ sym (none_close (square (radius e.hall.config)) e.dots (row_on e ids a) (row_on e ids b) k (row_past e ids a k h) (row_past e ids b k h))
 
-    noted-none : (k : ℕ) → length ss ≤ k → get_or scansNoted k false ≡ false
+    noted-none : (k : ℕ) → length ss ≤ k → get_or scans_noted k false ≡ false
     noted-none k h =
         noted-at k ∙ none_close (square (radius e.hall.config)) e.dots (row_on e ids a) (row_on e ids b) k (row-none a k h) (row-none b k h)
 
     -- no cut past the scan after the last
-    cut-none : (g : ℕ) → suc (length ss) ≤ g → cut_at scansNoted g ≡ false
+    cut-none : (g : ℕ) → suc (length ss) ≤ g → cut_at scans_noted g ≡ false
     cut-none g h = rw (noted-none g (omega arith), noted-none (g - 1) (omega arith), ne_eqb g 0 (λ z. omega arith))
 
-    all-cuts : keep (cut_at scansNoted) (up_from 0 (suc (length ss))) ≡ cuts_of scansNoted
+    all-cuts : keep (cut_at scans_noted) (up_from 0 (suc (length ss))) ≡ cuts_of scans_noted
     unfolding cuts_of
     all-cuts =
         let n = suc (length ss) in
         let w : n + (STARTS - n) ≡ STARTS = omega (arith, held.few) in
         let z : 0 + n ≡ n = omega arith in
         sym
-        (ap (λ (i : ℕ). keep (cut_at scansNoted) (up_from 0 i)) (sym w)
-        ∙ ap (keep (cut_at scansNoted)) (up_split 0 n (STARTS - n))
-        ∙ keep_append (cut_at scansNoted) (up_from 0 n) (up_from (0 + n) (STARTS - n))
-        ∙ ap (λ (l : List ℕ). keep (cut_at scansNoted) (up_from 0 n) ++ l)
-        (keep_const false (cut_at scansNoted) (up_from (0 + n) (STARTS - n)) (up_All (λ g. cut_at scansNoted g ≡ false) (0 + n) (STARTS - n) (λ g h. cut-none g (omega arith))))
-        ∙ append-nil (keep (cut_at scansNoted) (up_from 0 n)))
+        (ap (λ (i : ℕ). keep (cut_at scans_noted) (up_from 0 i)) (sym w)
+        ∙ ap (keep (cut_at scans_noted)) (up_split 0 n (STARTS - n))
+        ∙ keep_append (cut_at scans_noted) (up_from 0 n) (up_from (0 + n) (STARTS - n))
+        ∙ ap (λ (l : List ℕ). keep (cut_at scans_noted) (up_from 0 n) ++ l)
+        (keep_const false (cut_at scans_noted) (up_from (0 + n) (STARTS - n)) (up_All (λ g. cut_at scans_noted g ≡ false) (0 + n) (STARTS - n) (λ g h. cut-none g (omega arith))))
+        ∙ append-nil (keep (cut_at scans_noted) (up_from 0 n)))
 
 pub cut_rows : (e : Scene) (next : ℕ) (ps : List (ℕ × Prefix)) (ss : List Scan) (ids : List ℕ) → Standing e next ss ids → CutRows e next ps ss ids
 unfolding cuts
@@ -144,8 +144,8 @@ cut_rows e next ps ss ids s a b ha hb =
     test : ℕ → Bool
     test = is_cut e.hall.config e.hall.first.0 ps (window a e.hall.first.0 (scans_now e ss ids)) (window b e.hall.first.0 (scans_now e ss ids))
 
-    tests : (g : ℕ) → test (first + g) ≡ cut_at (scansNoted e ss ids s.held a b) g
+    tests : (g : ℕ) → test (first + g) ≡ cut_at (scans_noted e ss ids s.held a b) g
     tests g =
         cut_dets e.hall.config e.hall.first.0 ps (window a e.hall.first.0 (scans_now e ss ids)) (window b e.hall.first.0 (scans_now e ss ids)) (e.hall.first.0 + g)
         ∙ (λ i. any (λ d. any (cut_by (square (radius e.hall.config)) (e.hall.first.0 + g) d) (window-rows e next ps ss ids s b hb i)) (window-rows e next ps ss ids s a ha i))
-        ∙ cut_tests (view_on e) (square (radius e.hall.config)) (row_on e ids a) (row_on e ids b) (scansNoted e ss ids s.held a b) (noted-at e ss ids s.held a b) g
+        ∙ cut_tests (view_on e) (square (radius e.hall.config)) (row_on e ids a) (row_on e ids b) (scans_noted e ss ids s.held a b) (noted-at e ss ids s.held a b) g

@@ -12,7 +12,7 @@ use Rattle.engine.specs.Config.{max_passes_of}
 use Rattle.fgo_spec.specs.declared.moves.FgoCounters.{FgoCounters}
 use Rattle.fgo_spec.specs.Lists.{keep, has}
 use Rattle.fgo_spec.specs.Windows.{Scan, Prefix, present}
-use Rattle.fgo_spec.specs.Searching.{Search as Model, Searched, neighbours, pair_step as onPair, track_step as onTrack, pass, passes, improve}
+use Rattle.fgo_spec.specs.Searching.{Search as Model, Searched, neighbours, pair_step as on_pair, track_step as on_track, pass, passes, improve}
 use Rattle.fgo_spec.proofs.Counting.{has-All, has-keep}
 use Rattle.fgo_spec.proofs.Presence.{present_is}
 use Rattle.search_rows.specs.Rows.{present_in}
@@ -50,7 +50,7 @@ module _ (e : Scene) (ps : List (ℕ × Prefix)) (ss : List Scan) (laws : PassLa
     swept = sweep e s.ids listed begins
 
     paired : Model
-    paired = foldl (onPair e.hall.config e.hall.first.0 ps) (model_of e ss begins) (neighbours e.hall.config e.hall.first.0 ps (scans_now e ss s.ids) (present (scans_now e ss s.ids)))
+    paired = foldl (on_pair e.hall.config e.hall.first.0 ps) (model_of e ss begins) (neighbours e.hall.config e.hall.first.0 ps (scans_now e ss s.ids) (present (scans_now e ss s.ids)))
 
     low : ℕ
     low = s.tally.next_id.0
@@ -82,7 +82,7 @@ module _ (e : Scene) (ps : List (ℕ × Prefix)) (ss : List Scan) (laws : PassLa
     swept-tied : Tied e ss (λ x. has x listed ≡ false) low (suc p) (DETECTIONS + n) swept paired
     unfolding swept paired
     swept-tied =
-        subst (λ l. Tied e ss (λ x. has x listed ≡ false) low (suc p) (DETECTIONS + n) (sweep e s.ids listed begins) (foldl (onPair e.hall.config e.hall.first.0 ps) (model_of e ss begins) (neighbours e.hall.config e.hall.first.0 ps (scans_now e ss s.ids) l)))
+        subst (λ l. Tied e ss (λ x. has x listed ≡ false) low (suc p) (DETECTIONS + n) (sweep e s.ids listed begins) (foldl (on_pair e.hall.config e.hall.first.0 ps) (model_of e ss begins) (neighbours e.hall.config e.hall.first.0 ps (scans_now e ss s.ids) l)))
         (sym listed-is)
         (sweep_tied e ps ss laws low (suc p) (λ x. has x listed ≡ false) s.tally.next_id.0 s.ids t.stands 0 listed (unfold listed in (present_ascends e.hall.detections s.ids))
         (has-All (λ b. (b < low) × (has b listed ≡ false → ⊥)) listed (λ x h. ((used x h).1, λ o. subst T o h)))
@@ -109,7 +109,7 @@ module _ (e : Scene) (ps : List (ℕ × Prefix)) (ss : List Scan) (laws : PassLa
         go x true h = and-true (left x)
         go x false h = and-false (left x) ∙ sym (absent_missing x paired.scans (λ k. subst (Absent x) (sym scans-are) (swept-tied.out x k h)))
 
-    pass-ends : Tied e ss None 0 (suc p) n (visit e listed swept) (foldl (onTrack e.hall.config e.hall.first.0 ps) paired (present paired.scans))
+    pass-ends : Tied e ss None 0 (suc p) n (visit e listed swept) (foldl (on_track e.hall.config e.hall.first.0 ps) paired (present paired.scans))
     unfolding left
     pass-ends =
         let v =
@@ -123,7 +123,7 @@ module _ (e : Scene) (ps : List (ℕ × Prefix)) (ss : List Scan) (laws : PassLa
           out = λ x h o. subst (Absent x) scans-are (missing_absent x paired.scans h o.1);
         }) in
         record {
-          same = ap (foldl (onTrack e.hall.config e.hall.first.0 ps) paired) (sym left_is) ∙ v.same;
+          same = ap (foldl (on_track e.hall.config e.hall.first.0 ps) paired) (sym left_is) ∙ v.same;
           stands = v.stands;
           from = zero-le;
           passes = v.passes;

@@ -9,7 +9,7 @@ use Rattle.bounds.specs.Bounds.{DETECTIONS}
 use Rattle.engine.specs.Config.{radius}
 use Rattle.fgo_spec.specs.Lists.{keep, cons_if}
 use Rattle.fgo_spec.specs.Windows.{Scan, Prefix}
-use Rattle.fgo_spec.specs.Searching.{Search as Model, Pair, cons_pair, cuts, neighbours_of, neighbours, pair_step as onPair, track_step as onTrack, square}
+use Rattle.fgo_spec.specs.Searching.{Search as Model, Pair, cons_pair, cuts, neighbours_of, neighbours, pair_step as on_pair, track_step as on_track, square}
 use Rattle.fgo_spec.specs.Rule.{All}
 use Rattle.search_neighbours.specs.Near.{any_close}
 use Rattle.search_pair.specs.Pair.{cuts_of}
@@ -38,7 +38,7 @@ module _ (e : Scene) (ps : List (ℕ × Prefix)) (ss : List Scan) (laws : PassLa
         (a b : ℕ) → 0 < a → a < b → Usable a → Usable b → (n : ℕ) (s : Progress) (q : Model) → Tied e ss Out low p (suc n) s q →
         Tied e ss Out low p n (pair_if e (close_on e (row_on e is a) (row_on e is b)) a b s)
         (cond (filled (cuts e.hall.config e.hall.first.0 ps (scans_now e ss is) a b))
-        (onPair e.hall.config e.hall.first.0 ps q (record { a = a; b = b; cuts = cuts e.hall.config e.hall.first.0 ps (scans_now e ss is) a b })) q)
+        (on_pair e.hall.config e.hall.first.0 ps q (record { a = a; b = b; cuts = cuts e.hall.config e.hall.first.0 ps (scans_now e ss is) a b })) q)
     if-tied a b ha h ua ub n s q t =
         subst (λ (cs : List ℕ). Tied e ss Out low p n (pair_if e close a b s) (cond (filled cs) (moved cs) q)) (sym listed)
         (subst (λ (d : Bool). Tied e ss Out low p n (pair_if e close a b s) (cond d (moved those) q)) (sym noted) (go (any_close close)))
@@ -50,7 +50,7 @@ module _ (e : Scene) (ps : List (ℕ × Prefix)) (ss : List Scan) (laws : PassLa
         those = map (λ (k : ℕ). e.hall.first.0 + k) (cuts_of close)
 
         moved : List ℕ → Model
-        moved cs = onPair e.hall.config e.hall.first.0 ps q (record { a = a; b = b; cuts = cs })
+        moved cs = on_pair e.hall.config e.hall.first.0 ps q (record { a = a; b = b; cuts = cs })
 
         listed : cuts e.hall.config e.hall.first.0 ps (scans_now e ss is) a b ≡ those
         listed = laws.cut_rows next is st a b ha (omega arith)
@@ -65,11 +65,11 @@ module _ (e : Scene) (ps : List (ℕ × Prefix)) (ss : List Scan) (laws : PassLa
     sweep-one-tied :
         (a : ℕ) → 0 < a → Usable a → (l : List ℕ) → Ascends a l → All Usable l → (n : ℕ) (s : Progress) (q : Model) → Tied e ss Out low p (length l + n) s q →
         Tied e ss Out low p n (sweep_one e is a l s)
-        (foldl (onPair e.hall.config e.hall.first.0 ps) q (neighbours_of e.hall.config e.hall.first.0 ps (scans_now e ss is) a l))
+        (foldl (on_pair e.hall.config e.hall.first.0 ps) q (neighbours_of e.hall.config e.hall.first.0 ps (scans_now e ss is) a l))
     unfolding sweep_one neighbours_of
     sweep-one-tied a ha ua [] up us n s q t = tied_less e ss Out low p (0 + n) n (omega arith) t
     sweep-one-tied a ha ua (b ∷ l) up us n s q t =
-        subst (Tied e ss Out low p n (sweep_one e is a (b ∷ l) s)) (sym (fold_pair (onPair e.hall.config e.hall.first.0 ps) q a b cs rest))
+        subst (Tied e ss Out low p n (sweep_one e is a (b ∷ l) s)) (sym (fold_pair (on_pair e.hall.config e.hall.first.0 ps) q a b cs rest))
         (sweep-one-tied a ha ua l (ascends_lower a b l (let h = up.0 in omega arith) up.1) us.1 n (pair_if e (close_on e (row_on e is a) (row_on e is b)) a b s) _
         (if-tied a b ha up.0 ua us.0 (length l + n) s q (tied_less e ss Out low p (suc (length l) + n) (suc (length l + n)) (omega arith) t)))
       where
@@ -82,11 +82,11 @@ module _ (e : Scene) (ps : List (ℕ × Prefix)) (ss : List Scan) (laws : PassLa
     pub sweep_tied :
         (k : ℕ) (l : List ℕ) → Ascends k l → All Usable l → length l ≤ DETECTIONS → (n : ℕ) (s : Progress) (q : Model) → Tied e ss Out low p (length l * DETECTIONS + n) s q →
         Tied e ss Out low p n (sweep e is l s)
-        (foldl (onPair e.hall.config e.hall.first.0 ps) q (neighbours e.hall.config e.hall.first.0 ps (scans_now e ss is) l))
+        (foldl (on_pair e.hall.config e.hall.first.0 ps) q (neighbours e.hall.config e.hall.first.0 ps (scans_now e ss is) l))
     unfolding sweep neighbours
     sweep_tied k [] up us few n s q t = tied_less e ss Out low p (0 * DETECTIONS + n) n (omega arith) t
     sweep_tied k (a ∷ l) up us few n s q t =
-        subst (Tied e ss Out low p n (sweep e is (a ∷ l) s)) (sym (foldl-append (onPair e.hall.config e.hall.first.0 ps) q ones rest))
+        subst (Tied e ss Out low p n (sweep e is (a ∷ l) s)) (sym (foldl-append (on_pair e.hall.config e.hall.first.0 ps) q ones rest))
         (sweep_tied a l up.1 us.1 (omega arith) n (sweep_one e is a l s) _
         (sweep-one-tied a (let h = up.0 in omega arith) us.0 l up.1 us.1 (length l * DETECTIONS + n) s q
         (tied_less e ss Out low p (suc (length l) * DETECTIONS + n) (length l + (length l * DETECTIONS + n)) (omega arith) t)))
@@ -105,7 +105,7 @@ module _ (e : Scene) (ps : List (ℕ × Prefix)) (ss : List Scan) (laws : PassLa
 
     pub visit_tied :
         (l : List ℕ) → All (λ x. (0 < x) × (x < low)) l → (n : ℕ) (s : Progress) (q : Model) → Tied e ss Gone low p (length l + n) s q →
-        Tied e ss Gone low p n (visit e l s) (foldl (onTrack e.hall.config e.hall.first.0 ps) q (keep f l))
+        Tied e ss Gone low p n (visit e l s) (foldl (on_track e.hall.config e.hall.first.0 ps) q (keep f l))
     unfolding visit keep
     visit_tied [] us n s q t = tied_less e ss Gone low p (0 + n) n (omega arith) t
     visit_tied (a ∷ l) us n s q t = go (f a) refl (visit_tied l us.1 n)
@@ -115,12 +115,12 @@ module _ (e : Scene) (ps : List (ℕ × Prefix)) (ss : List Scan) (laws : PassLa
 
         go :
             (d : Bool) → f a ≡ d →
-            ((s : Progress) (q : Model) → Tied e ss Gone low p (length l + n) s q → Tied e ss Gone low p n (visit e l s) (foldl (onTrack e.hall.config e.hall.first.0 ps) q (keep f l))) →
-            Tied e ss Gone low p n (visit e l (track_step_on e a s)) (foldl (onTrack e.hall.config e.hall.first.0 ps) q (cons_if d a (keep f l)))
+            ((s : Progress) (q : Model) → Tied e ss Gone low p (length l + n) s q → Tied e ss Gone low p n (visit e l s) (foldl (on_track e.hall.config e.hall.first.0 ps) q (keep f l))) →
+            Tied e ss Gone low p n (visit e l (track_step_on e a s)) (foldl (on_track e.hall.config e.hall.first.0 ps) q (cons_if d a (keep f l)))
         go true h r =
-            r (track_step_on e a s) (onTrack e.hall.config e.hall.first.0 ps q a)
+            r (track_step_on e a s) (on_track e.hall.config e.hall.first.0 ps q a)
             (track_tied e ps ss laws Gone low p a us.0.0 us.0.1 (λ o. let z : ◌≡◌ {A = ℕ} 0 1 = cc (h, o.1) in omega arith) (λ x o. o.0) (length l + n) s q t')
         go false h r =
-            subst (λ s. Tied e ss Gone low p n (visit e l s) (foldl (onTrack e.hall.config e.hall.first.0 ps) q (keep f l)))
+            subst (λ s. Tied e ss Gone low p n (visit e l s) (foldl (on_track e.hall.config e.hall.first.0 ps) q (keep f l)))
             (sym (absent_tied e ps ss laws Gone low p a us.0.0 us.0.1 (us.0.1, h) (suc (length l + n)) s q t'))
             (r s q (tied_less e ss Gone low p (suc (length l + n)) (length l + n) (omega arith) t'))

@@ -53,17 +53,17 @@ rest-drop (d ∷ w) = refl
 
 module _ (c : FgoConfig) (v : View) (ps : List (ℕ × Prefix)) (ss : List Scan) (a x : ℕ) (p : Fold) (r : List ℕ) (sa : RowFor c v ps ss a p r) (base : Float) where
   -- both moves by the scan alone
-  splitMove : ℕ → TrackMove
-  splitMove f =
+  split_move : ℕ → TrackMove
+  split_move f =
       let t = swapped c v.first ps a x f ss in
       Split (record { 0 = f }) (sub binary64 (add binary64 (track_cost c v.first ps a t) (price c none (window x v.first t))) base)
 
-  dropMove : ℕ → TrackMove
-  dropMove f = Drop (record { 0 = f }) (sub binary64 (add binary64 (track_cost c v.first ps a (dropped c v.first ps a f ss)) (clutter c)) base)
+  drop_move : ℕ → TrackMove
+  drop_move f = Drop (record { 0 = f }) (sub binary64 (add binary64 (track_cost c v.first ps a (dropped c v.first ps a f ss)) (clutter c)) base)
 
   module _ (apart : a ≡ x → ⊥) (unused : window x v.first ss ≡ []) where
-    split-row : (k : ℕ) → splitMove (v.first + k) ≡ try_split_row c v p r base k
-    unfolding splitMove try_split_row price keep
+    split-row : (k : ℕ) → split_move (v.first + k) ≡ try_split_row c v p r base k
+    unfolding split_move try_split_row price keep
     split-row k =
         let f = v.first + k in
         let s = swap_says c v.first ps a x f base ss apart in
@@ -76,8 +76,8 @@ module _ (c : FgoConfig) (v : View) (ps : List (ℕ × Prefix)) (ss : List Scan)
         λ i. Split (record { 0 = f }) (sub binary64 (add binary64 (cost_dets c v.first ps a p sa.part _ _ head i) (cost c Fresh (tail i))) base)
 
   module _ (ha : 0 < a) (regular : All Regular ss) where
-    drop-slot : (k j : ℕ) → get_or r k 0 ≡ suc j → dropMove (v.first + k) ≡ try_drop_row c v p r base k
-    unfolding dropMove try_drop_row
+    drop-slot : (k j : ℕ) → get_or r k 0 ≡ suc j → drop_move (v.first + k) ≡ try_drop_row c v p r base k
+    unfolding drop_move try_drop_row
     drop-slot k j e =
         let t = unmap (measure c) (window a v.first ss) (measurements v 0 (take k r)) (measurement_at v k j) (measurements v (suc k) (drop (suc k) r)) (sa.row ∙ dets_at v k j r e) in
         let q : t.at.scan ≡ v.first + k = ap (λ (d : Measurement). d.scan) t.ats in
@@ -89,10 +89,10 @@ module _ (c : FgoConfig) (v : View) (ps : List (ℕ × Prefix)) (ss : List Scan)
         ∙ (λ i. t.heads i ++ t.tails i) in
         λ i. Drop (record { 0 = v.first + k }) (sub binary64 (add binary64 (cost_dets c v.first ps a p sa.part _ _ u i) (clutter c)) base)
 
-    drop-row : (k : ℕ) → T (has_slot r k) → dropMove (v.first + k) ≡ try_drop_row c v p r base k
+    drop-row : (k : ℕ) → T (has_slot r k) → drop_move (v.first + k) ≡ try_drop_row c v p r base k
     drop-row k h = go (get_or r k 0) refl
       where
-        go : (s : ℕ) → get_or r k 0 ≡ s → dropMove (v.first + k) ≡ try_drop_row c v p r base k
+        go : (s : ℕ) → get_or r k 0 ≡ s → drop_move (v.first + k) ≡ try_drop_row c v p r base k
         go zero e = absurd (let l : 0 < get_or r k 0 = ltb→lt 0 (get_or r k 0) h in omega arith)
         go (suc j) e = drop-slot k j e
 
@@ -113,23 +113,23 @@ module _ (c : FgoConfig) (v : View) (ps : List (ℕ × Prefix)) (ss : List Scan)
         sym (length-map (window a v.first ss) (λ (d : Detection). d.scan)) ∙ ap length scans-row ∙ length-map (marks r) (λ (k : ℕ). v.first + k)
 
     splits : (apart : a ≡ x → ⊥) (unused : window x v.first ss ≡ []) → map (try_split c v.first ps a x ss base) (rest (window a v.first ss)) ≡ map (try_split_row c v p r base) (drop 1 (marks r))
-    unfolding try_split splitMove
+    unfolding try_split split_move
     splits apart unused =
         ap (map (try_split c v.first ps a x ss base)) (rest-drop (window a v.first ss))
-        ∙ sym (map-map splitMove (λ (d : Detection). d.scan) (drop 1 (window a v.first ss)))
-        ∙ ap (map splitMove) (map-drop (λ (d : Detection). d.scan) (window a v.first ss) ∙ ap (drop 1) scans-row ∙ sym (map-drop (λ (k : ℕ). v.first + k) (marks r)))
-        ∙ map-map splitMove (λ (k : ℕ). v.first + k) (drop 1 (marks r))
+        ∙ sym (map-map split_move (λ (d : Detection). d.scan) (drop 1 (window a v.first ss)))
+        ∙ ap (map split_move) (map-drop (λ (d : Detection). d.scan) (window a v.first ss) ∙ ap (drop 1) scans-row ∙ sym (map-drop (λ (k : ℕ). v.first + k) (marks r)))
+        ∙ map-map split_move (λ (k : ℕ). v.first + k) (drop 1 (marks r))
         ∙ (λ i. map (λ (k : ℕ). split-row apart unused k i) (drop 1 (marks r)))
 
     drops : (ha : 0 < a) (regular : All Regular ss) → map (try_drop c v.first ps a ss base) (window a v.first ss) ≡ map (try_drop_row c v p r base) (marks r)
-    unfolding try_drop dropMove marks
+    unfolding try_drop drop_move marks
     drops ha regular =
-        sym (map-map dropMove (λ (d : Detection). d.scan) (window a v.first ss))
-        ∙ ap (map dropMove) scans-row
-        ∙ map-map dropMove (λ (k : ℕ). v.first + k) (marks r)
-        ∙ map_same (λ (k : ℕ). dropMove (v.first + k)) (try_drop_row c v p r base) (marks r)
-        (All-keep (λ (k : ℕ). dropMove (v.first + k) ≡ try_drop_row c v p r base k) (has_slot r) (up_from 0 SCANS)
-        (mem_All (λ (k : ℕ). T (has_slot r k) → dropMove (v.first + k) ≡ try_drop_row c v p r base k) (up_from 0 SCANS) (λ k m. drop-row ha regular k)))
+        sym (map-map drop_move (λ (d : Detection). d.scan) (window a v.first ss))
+        ∙ ap (map drop_move) scans-row
+        ∙ map-map drop_move (λ (k : ℕ). v.first + k) (marks r)
+        ∙ map_same (λ (k : ℕ). drop_move (v.first + k)) (try_drop_row c v p r base) (marks r)
+        (All-keep (λ (k : ℕ). drop_move (v.first + k) ≡ try_drop_row c v p r base k) (has_slot r) (up_from 0 SCANS)
+        (mem_All (λ (k : ℕ). T (has_slot r k) → drop_move (v.first + k) ≡ try_drop_row c v p r base k) (up_from 0 SCANS) (λ k m. drop-row ha regular k)))
 
     frozen-one : cond (is_some (find a ps)) 1 0 ≡ frozen_one p
     frozen-one = go (find a ps) ∙ ap frozen_one (sym sa.part)

@@ -13,7 +13,7 @@ use Rattle.fgo_spec.specs.declared.moves.PairMove.TheVariants.{Stay, Swap, Merge
 use Rattle.fgo_spec.specs.declared.moves.TrackMove.{TrackMove}
 use Rattle.fgo_spec.specs.declared.moves.TrackMove.TheVariants.{Split, Drop, Stay as Rest}
 use Rattle.fgo_spec.specs.Windows.{Scan, Prefix}
-use Rattle.fgo_spec.specs.Searching.{Search as Model, after_pair, after_track, count_pair, count_track, next_after, pair_moves, track_moves, best_of_pair, best_of_track, pair_step as onPair, track_step as onTrack}
+use Rattle.fgo_spec.specs.Searching.{Search as Model, after_pair, after_track, count_pair, count_track, next_after, pair_moves, track_moves, best_of_pair, best_of_track, pair_step as on_pair, track_step as on_track}
 use Rattle.search_rows.specs.declared.moves.Tally.{Tally}
 use Rattle.search_pair.specs.Pair.{cuts_of}
 use Rattle.search_rows.specs.Moves.{one_more, pair_stays, track_stays, pair_tally, track_tally}
@@ -222,8 +222,8 @@ module _ (e : Scene) (ps : List (ℕ × Prefix)) (ss : List Scan) (laws : PassLa
     pub pair_tied :
         (a b : ℕ) → 0 < a → 0 < b → (a ≡ b → ⊥) → a < low → b < low → (Out a → ⊥) → (Out b → ⊥) → (close : List Bool) →
         (n : ℕ) (s : Progress) (q : Model) → Tied e ss Out low p (suc n) s q →
-        Tied e ss Out low p n (pair_step_on e close a b s) (onPair e.hall.config e.hall.first.0 ps q (record { a = a; b = b; cuts = map (λ (k : ℕ). e.hall.first.0 + k) (cuts_of close) }))
-    unfolding pair_step_on onPair
+        Tied e ss Out low p n (pair_step_on e close a b s) (on_pair e.hall.config e.hall.first.0 ps q (record { a = a; b = b; cuts = map (λ (k : ℕ). e.hall.first.0 + k) (cuts_of close) }))
+    unfolding pair_step_on on_pair
     pair_tied a b ha hb apart la lb oa ob close n s q t =
         subst (λ m. Tied e ss Out low p n (pair_moved e (pair_best e close a b s.ids) a b s) (with_pair e ps a b m q)) (sym best)
         (pair-moved-tied a b ha hb apart la lb oa ob (pair_best e close a b s.ids) (laws.fits close a b s.ids) n s q t)
@@ -254,8 +254,8 @@ module _ (e : Scene) (ps : List (ℕ × Prefix)) (ss : List Scan) (laws : PassLa
 
     pub track_tied :
         (a : ℕ) → 0 < a → a < low → (Out a → ⊥) → ((x : ℕ) → Out x → x < low) → (n : ℕ) (s : Progress) (q : Model) →
-        Tied e ss Out low p (suc n) s q → Tied e ss Out low p n (track_step_on e a s) (onTrack e.hall.config e.hall.first.0 ps q a)
-    unfolding track_step_on onTrack
+        Tied e ss Out low p (suc n) s q → Tied e ss Out low p n (track_step_on e a s) (on_track e.hall.config e.hall.first.0 ps q a)
+    unfolding track_step_on on_track
     track_tied a ha la oa below n s q t =
         subst (λ m. Tied e ss Out low p n (track_moved e (track_best e a s.ids) a s) (with_track e ps a m q)) (sym best)
         (track-moved-tied a ha la oa below (track_best e a s.ids) n s q t)
