@@ -278,7 +278,7 @@ pub fn call<'a, 'b, 'c, 'd, 'e, 'f, 'g, 'h, 'i, 'j, 'k, 'l, 'm, 'n, 'o>(
     requires lends { Lends d words.old numbers.old × Kept d.last kept_words.old kept_numbers.old × Fits d.room }
     requires laid { Laid window.old values.old × Framed frame_words.old frame_numbers.old }
     requires sane { Sane call s.now × (TEXT ≤ length out.old) }
-    ensures lends_2 { Lends result.caller words.new numbers.new
+    ensures lent { Lends result.caller words.new numbers.new
         × Kept result.caller.last kept_words.new kept_numbers.new × Fits result.caller.room }
     ensures does { Does
         (desk d (memory bodies.old columns.old owners.old tracks.old filters.old)

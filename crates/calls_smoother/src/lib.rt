@@ -106,7 +106,7 @@ fn open<'a, 'b>(
 ) -> Smoothed
     requires { Laid window.now values.now × Fits room × (TEXT ≤ length out.old) × (length s.now ≡ SETTING * 3) }
     ensures fits { Fits result.room }
-    ensures by_index { (ws : List ℕ) (ns : List Float) → Opens state room (Smoothing.window window.now values.now) ws ns result
+    ensures opens { (ws : List ℕ) (ns : List Float) → Opens state room (Smoothing.window window.now values.now) ws ns result
         (Smoothing.window window.now values.now) ws ns out.new (settings_in s.now) }
 {
     let config = settings_in(s);

@@ -14,12 +14,15 @@ pub enum Input {
     Unreadable,
 }
 
+// Room for the system's words on an error.
+const REASON: usize = 96;
+
 // What failed, and the system's words for why, without the error's number.
 fn fail(rt: &impl Eprint, what: &str, error: io::Error) {
-    let mut text = [0u8; 96];
+    let mut text = [0u8; REASON];
     let mut rest: &mut [u8] = &mut text;
     let _ = write!(rest, "{error}");
-    let n = 96usize.saturating_sub(rest.len());
+    let n = REASON.saturating_sub(rest.len());
     let words = match std::str::from_utf8(&text[..n]) {
         Ok(t) => t,
         Err(_) => "",

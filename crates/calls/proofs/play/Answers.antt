@@ -63,7 +63,7 @@ pub loop-at-smaller : goal.loop-at-smaller
 loop-at-smaller g c = let p = next_placed c.next_at-n.result c.next_at-n.ensures c.loop-at-test.true in omega (arith, p.on c.loop-at-test.true, p.within)
 
 pub loop-at-preserved : goal.loop-at-preserved
-loop-at-preserved g c = going_on _ _ _ _ _ _ _ _ _ _ c.next_at-n.result c.loop-at.invariant (next_placed c.next_at-n.result c.next_at-n.ensures c.loop-at-test.true) c.call-t.ensures.lends_2 c.window-1.given c.values-1.given c.frame_words-1.given c.frame_numbers-1.given c.out-1.given
+loop-at-preserved g c = going_on _ _ _ _ _ _ _ _ _ _ c.next_at-n.result c.loop-at.invariant (next_placed c.next_at-n.result c.next_at-n.ensures c.loop-at-test.true) c.call-t.ensures.lent c.window-1.given c.values-1.given c.frame_words-1.given c.frame_numbers-1.given c.out-1.given
 
 pub shape_of-window : goal.shape_of-window
 shape_of-window g c = c.loop-at.invariant.laid.words ∙ sym c.requires.laid.0.words

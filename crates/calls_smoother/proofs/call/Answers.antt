@@ -50,7 +50,7 @@ pub write-smoother-requires : goal.write-smoother-requires
 write-smoother-requires c = (c.requires.0, sane_as c.args.s.now c.in-Write.is c.requires.5)
 
 pub returns-in-Open : goal.returns-in-Open
-returns-in-Open c = record { fits = c.open.ensures.fits; smooths = opens_by _ _ c.in-Open.is (c.open.ensures.by_index c.args.words.now c.args.numbers.now) }
+returns-in-Open c = record { fits = c.open.ensures.fits; smooths = opens_by _ _ c.in-Open.is (c.open.ensures.opens c.args.words.now c.args.numbers.now) }
 
 pub returns-in-PushLast : goal.returns-in-PushLast
 returns-in-PushLast c = record { fits = c.push.ensures.fits; smooths = last_by _ _ c.in-PushLast.is c.push.ensures.answers }

@@ -19,22 +19,22 @@ pub returns-in-Refiner : goal.returns-in-Refiner
 returns-in-Refiner c =
     let p : length c.call_refiner.new.words ≡ length c.args.words.now = search rules in
     let q : length c.call_refiner.new.numbers ≡ length c.args.numbers.now = search rules in
-    let both = by_refiner _ _ _ _ _ _ _ _ _ _ _ _ _ _ _ _ _ c.in-Refiner.is c.requires.lends.0 c.requires.lends.2 p q c.call_refiner.ensures.kept (c.call_refiner.ensures.calls_refiner _) in record { lends_2 = both.0; does = both.1 }
+    let both = by_refiner _ _ _ _ _ _ _ _ _ _ _ _ _ _ _ _ _ c.in-Refiner.is c.requires.lends.0 c.requires.lends.2 p q c.call_refiner.ensures.kept (c.call_refiner.ensures.calls_refiner _) in record { lent = both.0; does = both.1 }
 
 pub returns-in-Smoother : goal.returns-in-Smoother
 returns-in-Smoother c =
     let p : length c.call_smoother.new.words ≡ length c.args.words.now = search rules in
     let q : length c.call_smoother.new.numbers ≡ length c.args.numbers.now = search rules in
-    let both = by_smoother _ _ _ _ _ _ _ _ _ _ _ _ _ _ _ c.in-Smoother.is c.requires.lends.0 c.requires.lends.1 p q c.call_smoother.ensures.fits (c.call_smoother.ensures.calls_smoother _) in record { lends_2 = both.0; does = both.1 }
+    let both = by_smoother _ _ _ _ _ _ _ _ _ _ _ _ _ _ _ c.in-Smoother.is c.requires.lends.0 c.requires.lends.1 p q c.call_smoother.ensures.fits (c.call_smoother.ensures.calls_smoother _) in record { lent = both.0; does = both.1 }
 
 pub returns-in-Lend : goal.returns-in-Lend
-returns-in-Lend c = let both = by_lend _ _ _ _ _ _ _ _ _ _ _ c.requires.lends.0 c.requires.lends.1 c.requires.lends.2 _ _ c.in-Lend.is c.requires.sane.0 c.lend.ensures in record { lends_2 = both.0; does = both.1 }
+returns-in-Lend c = let both = by_lend _ _ _ _ _ _ _ _ _ _ _ c.requires.lends.0 c.requires.lends.1 c.requires.lends.2 _ _ c.in-Lend.is c.requires.sane.0 c.lend.ensures in record { lent = both.0; does = both.1 }
 
 pub returns-in-LendWindow : goal.returns-in-LendWindow
-returns-in-LendWindow c = let both = by_window _ _ _ _ _ _ _ _ _ _ _ c.requires.lends.0 c.requires.lends.1 c.requires.lends.2 _ _ c.in-LendWindow.is c.requires.sane.0 c.lend_window.ensures in record { lends_2 = both.0; does = both.1 }
+returns-in-LendWindow c = let both = by_window _ _ _ _ _ _ _ _ _ _ _ c.requires.lends.0 c.requires.lends.1 c.requires.lends.2 _ _ c.in-LendWindow.is c.requires.sane.0 c.lend_window.ensures in record { lent = both.0; does = both.1 }
 
 pub returns-in-Digest : goal.returns-in-Digest
-returns-in-Digest c = let both = by_digest _ _ _ _ _ _ _ _ _ _ _ c.requires.lends.0 c.requires.lends.1 c.requires.lends.2 c.in-Digest.is (c.tell_digest.ensures _ _) in record { lends_2 = both.0; does = both.1 }
+returns-in-Digest c = let both = by_digest _ _ _ _ _ _ _ _ _ _ _ c.requires.lends.0 c.requires.lends.1 c.requires.lends.2 c.in-Digest.is (c.tell_digest.ensures _ _) in record { lent = both.0; does = both.1 }
 
 pub returns-in-Bad : goal.returns-in-Bad
-returns-in-Bad c = let both = by_bad _ _ _ _ _ _ _ _ _ _ _ c.in-Bad.is c.requires.lends c.requires.sane.1 c.put_bad-end.ensures in record { lends_2 = both.0; does = both.1 }
+returns-in-Bad c = let both = by_bad _ _ _ _ _ _ _ _ _ _ _ c.in-Bad.is c.requires.lends c.requires.sane.1 c.put_bad-end.ensures in record { lent = both.0; does = both.1 }
