@@ -1,9 +1,11 @@
 -- What refiner and smoother answer alike: an opening, and a push or a take, with the buffers that are lent for a frame. Definitions only.
-use Rattle.std.specs.Prelude.{ℕ, zero, suc, ◌≤◌, ◌≡◌, Bool, ◌&&◌, List, length, leb, Float}
+use Rattle.std.specs.Prelude.{ℕ, zero, suc, ◌≤◌, ◌≡◌, Bool, ◌&&◌, List, length, leb, Float, Result, Ok, Err, Some, None}
+use Rattle.std.specs.Prelude.{Option as Maybe}
 use Rattle.std.proofs.Math.Option.{Option, none, some}
 use Rattle.bounds.specs.Bounds.{WORDS, NUMBERS}
-use Rattle.buffers.specs.declared.Answer.{Answer}
-use Rattle.buffers.specs.declared.Answer.TheVariants.{Refused, Held, Frame}
+use Rattle.refusals.specs.declared.Refusal.{Refusal}
+use Rattle.refusals.specs.Refusals as refusals
+use Rattle.buffers.specs.declared.FrameSize.{FrameSize}
 use Rattle.buffers.specs.Buffers.{over}
 
 -- ---- opening
@@ -12,6 +14,11 @@ use Rattle.buffers.specs.Buffers.{over}
 pub data Opening (S : Type 0) : Type 0 where
   unopened : ℕ → Opening S
   opened : S → Opening S
+
+-- what an opening in code gives, so read
+abbrev pub opening_of : {S : Type 0} → Result S Refusal → Opening S
+opening_of (Ok s) = opened s
+opening_of (Err r) = unopened (refusals.number_of r)
 
 -- by the refusal that the opening gets, 0 for none
 abbrev pub opened_by : {S : Type 0} → ℕ → S → Opening S
@@ -36,6 +43,18 @@ abbrev pub refusal_in : {E : Type 0} → Reply E → Option ℕ
 refusal_in (refused n) = some n
 refusal_in waits = none
 refusal_in (gives e) = none
+
+-- an answer, by value: a refusal's number, "held", or a frame of so many words and numbers
+pub data Answer : Type 0 where
+  Refused : ℕ → Answer
+  Held : Answer
+  Frame : ℕ → ℕ → Answer
+
+-- what push and take answer in code, so read
+abbrev pub answer_in : Result (Maybe FrameSize) Refusal → Answer
+answer_in (Err r) = Refused (refusals.number_of r)
+answer_in (Ok None) = Held
+answer_in (Ok (Some f)) = Frame f.words f.numbers
 
 -- a frame in "Emitted words" and "Numbers": the two lists at their exact length
 pub record Written : Type 0 where

@@ -6,7 +6,7 @@ use mathlib.Core.List.{List, [], ◌++◌}
 use lib.ListN.{length, take, drop}
 use lib.Ieee.{Float}
 use Rattle.bounds.specs.Bounds.{TEXT, LENT_WORDS, LENT_NUMBERS}
-use Rattle.fgo_state.specs.Memory.{Memory}
+use Rattle.fgo_state.specs.declared.state.Memory.{Memory}
 use Rattle.smoother.specs.Promise.{Window}
 use Rattle.print.specs.Text.{Puts, bad_line}
 use Rattle.print.proofs.Fitting.{bad_few, ready}

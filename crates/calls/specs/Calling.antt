@@ -2,7 +2,7 @@
 use Rattle.std.specs.Prelude.{ℕ, ◌≤◌, ◌≡◌, true, false, List, [], length, take, drop, replicate, Float}
 use Rattle.bounds.specs.Bounds.{WORDS, NUMBERS, LENT_WORDS, LENT_NUMBERS, REFINER, SMOOTHER}
 use Rattle.digest.specs.Digest.{BASIS}
-use Rattle.fgo_state.specs.Memory.{Memory}
+use Rattle.fgo_state.specs.declared.state.Memory.{Memory}
 use Rattle.smoother.specs.Promise.{Window}
 use Rattle.print.specs.Text.{Ready}
 use Rattle.calls_input.specs.declared.RefinerCall.{RefinerCall}

@@ -3,7 +3,7 @@
 // calls_refiner and calls_smoother say what the arrays hold; of words and numbers as much is lent as the caller says.
 ghost use Rattle.std.specs.Prelude.{◌≡◌, List, [], ℕ, ◌≤◌, length, Float};
 ghost use Rattle.bounds.specs.Bounds.{TEXT};
-ghost use Rattle.fgo_state.specs.Memory.{Memory, memory};
+ghost use Rattle.fgo_state.specs.declared.state.Memory.{Memory as Lent};
 ghost use Rattle.smoother.specs.Promise as Smoothing;
 ghost use Rattle.calls_input.specs.declared.Call.TheVariants as calls;
 ghost use Rattle.calls_input.specs.Input.{Sane};
@@ -11,12 +11,12 @@ ghost use Rattle.calls_refiner.specs.Refining.{Kept};
 ghost use Rattle.calls_smoother.specs.Smoothing.{Laid, Fits, Framed};
 ghost use Rattle.calls.specs.Calling.{desk, Lends, first, lending, lending_window, CallsRefiner, CallsSmoother, Does};
 
-use bounds::{BODIES, COLUMNS, FILTERS, NUMBERS, OWNERS, PARTS, REFINER, SMOOTHER, WORDS};
+use bounds::{NUMBERS, REFINER, SMOOTHER, WORDS};
+use buffers::FrameSize;
 use calls_cells::{cells, hashing};
 use calls_input::{Call, RefinerCall, SmootherCall};
-use calls_refiner::Last;
 use calls_smoother::Room;
-use fgo_state::state::FixedLagRefiner;
+use fgo_state::state::{FixedLagRefiner, Memory};
 use print::lines;
 use smoother_window::FixedLagSmoother;
 
@@ -29,7 +29,7 @@ pub struct Caller {
     pub words: usize,
     pub numbers: usize,
     pub room: Room,
-    pub last: Last,
+    pub last: FrameSize,
 }
 
 // A caller after a call, and where what it prints ends.
@@ -50,7 +50,7 @@ pub fn begin() -> Caller
         numbers: 0,
         said: false,
     };
-    let last = Last {
+    let last = FrameSize {
         words: 0,
         numbers: 0,
     };
@@ -65,28 +65,24 @@ pub fn begin() -> Caller
 }
 
 // A call of the refiner.
-fn call_refiner<'a, 'b, 'c, 'd, 'e, 'f, 'g, 'h, 'i, 'j, 'k>(
+fn call_refiner(
     d: Caller,
     call: RefinerCall,
-    s: &'k [u8],
-    bodies: &'a mut [u8; BODIES],
-    columns: &'b mut [u64; COLUMNS],
-    owners: &'c mut [u64; OWNERS],
-    tracks: &'d mut [u64; PARTS],
-    filters: &'e mut [f64; FILTERS],
-    words: &'f mut [u64],
-    numbers: &'g mut [f64],
-    kept_words: &'h mut [u64],
-    kept_numbers: &'i mut [f64],
-    out: &'j mut [u8],
+    s: &[u8],
+    memory: &mut Memory,
+    words: &mut [u64],
+    numbers: &mut [f64],
+    kept_words: &mut [u64],
+    kept_numbers: &mut [f64],
+    out: &mut [u8],
 ) -> Called
     requires lends { Lends d words.old numbers.old × Kept d.last kept_words.old kept_numbers.old }
     requires sane { Sane (calls.Refiner call) s.now × (TEXT ≤ length out.old) }
     ensures kept { Kept result.caller.last kept_words.new kept_numbers.new }
     ensures calls_refiner { (w : Smoothing.Window) → CallsRefiner
-        (desk d (memory bodies.old columns.old owners.old tracks.old filters.old) w
+        (desk d memory.old w
         words.old numbers.old kept_words.old kept_numbers.old)
-        (desk result.caller (memory bodies.new columns.new owners.new tracks.new filters.new) w
+        (desk result.caller memory.new w
         words.new numbers.new kept_words.new kept_numbers.new)
         result.end out.new call s.now }
 {
@@ -97,11 +93,7 @@ fn call_refiner<'a, 'b, 'c, 'd, 'e, 'f, 'g, 'h, 'i, 'j, 'k>(
         d.last,
         call,
         s,
-        bodies,
-        columns,
-        owners,
-        tracks,
-        filters,
+        memory,
         &mut words[..w],
         &mut numbers[..x],
         kept_words,
@@ -124,25 +116,25 @@ fn call_refiner<'a, 'b, 'c, 'd, 'e, 'f, 'g, 'h, 'i, 'j, 'k>(
 }
 
 // A call of the smoother.
-fn call_smoother<'a, 'b, 'c, 'd, 'e, 'f, 'g, 'h>(
+fn call_smoother(
     d: Caller,
     call: SmootherCall,
-    s: &'a [u8],
-    kept_words: &'a [u64],
-    kept_numbers: &'a [f64],
-    window: &'b mut [u64],
-    values: &'c mut [f64],
-    words: &'d mut [u64],
-    numbers: &'e mut [f64],
-    frame_words: &'f mut [u64],
-    frame_numbers: &'g mut [f64],
-    out: &'h mut [u8],
+    s: &[u8],
+    kept_words: &[u64],
+    kept_numbers: &[f64],
+    window: &mut [u64],
+    values: &mut [f64],
+    words: &mut [u64],
+    numbers: &mut [f64],
+    frame_words: &mut [u64],
+    frame_numbers: &mut [f64],
+    out: &mut [u8],
 ) -> Called
     requires lends { Lends d words.old numbers.old × Kept d.last kept_words.now kept_numbers.now × Fits d.room }
     requires laid { Laid window.old values.old × Framed frame_words.old frame_numbers.old }
     requires sane { Sane (calls.Smoother call) s.now × (TEXT ≤ length out.old) }
     ensures fits { Fits result.caller.room }
-    ensures calls_smoother { (m : Memory) → CallsSmoother
+    ensures calls_smoother { (m : Lent) → CallsSmoother
         (desk d m (Smoothing.window window.old values.old)
         words.old numbers.old kept_words.now kept_numbers.now)
         (desk result.caller m (Smoothing.window window.new values.new)
@@ -225,30 +217,26 @@ fn lend_window(d: Caller, words: usize, numbers: usize) -> Called
 }
 
 // The digest.
-fn tell_digest<'a, 'b>(
+fn tell_digest(
     d: Caller,
-    bodies: &'a [u8; BODIES],
-    columns: &'a [u64; COLUMNS],
-    owners: &'a [u64; OWNERS],
-    tracks: &'a [u64; PARTS],
-    filters: &'a [f64; FILTERS],
-    window: &'a [u64],
-    values: &'a [f64],
-    words: &'a [u64],
-    numbers: &'a [f64],
-    out: &'b mut [u8],
+    memory: &Memory,
+    window: &[u64],
+    values: &[f64],
+    words: &[u64],
+    numbers: &[f64],
+    out: &mut [u8],
 ) -> Called
     requires { TEXT ≤ length out.old }
     ensures { (kw : List ℕ) (kn : List Float) → Does
-        (desk d (memory bodies.now columns.now owners.now tracks.now filters.now)
+        (desk d memory.now
         (Smoothing.window window.now values.now)
         words.now numbers.now kw kn)
-        (desk result.caller (memory bodies.now columns.now owners.now tracks.now filters.now)
+        (desk result.caller memory.now
         (Smoothing.window window.now values.now)
         words.now numbers.now kw kn)
         result.end out.new calls.Digest [] }
 {
-    let a = hashing::hash_refiner(d.refiner, bodies, columns, owners, tracks, filters);
+    let a = hashing::hash_refiner(&d.refiner, memory);
     let b = hashing::hash_smoother(d.smoother, window, values);
     let c = hashing::hash_output(words, numbers);
     let end = lines::put_digest(out, a, b, c);
@@ -256,24 +244,20 @@ fn tell_digest<'a, 'b>(
 }
 
 // A call, with what follows it.
-pub fn call<'a, 'b, 'c, 'd, 'e, 'f, 'g, 'h, 'i, 'j, 'k, 'l, 'm, 'n, 'o>(
+pub fn call(
     d: Caller,
     call: Call,
-    s: &'o [u8],
-    bodies: &'a mut [u8; BODIES],
-    columns: &'b mut [u64; COLUMNS],
-    owners: &'c mut [u64; OWNERS],
-    tracks: &'d mut [u64; PARTS],
-    filters: &'e mut [f64; FILTERS],
-    window: &'f mut [u64],
-    values: &'g mut [f64],
-    words: &'h mut [u64],
-    numbers: &'i mut [f64],
-    kept_words: &'j mut [u64],
-    kept_numbers: &'k mut [f64],
-    frame_words: &'l mut [u64],
-    frame_numbers: &'m mut [f64],
-    out: &'n mut [u8],
+    s: &[u8],
+    memory: &mut Memory,
+    window: &mut [u64],
+    values: &mut [f64],
+    words: &mut [u64],
+    numbers: &mut [f64],
+    kept_words: &mut [u64],
+    kept_numbers: &mut [f64],
+    frame_words: &mut [u64],
+    frame_numbers: &mut [f64],
+    out: &mut [u8],
 ) -> Called
     requires lends { Lends d words.old numbers.old × Kept d.last kept_words.old kept_numbers.old × Fits d.room }
     requires laid { Laid window.old values.old × Framed frame_words.old frame_numbers.old }
@@ -281,10 +265,10 @@ pub fn call<'a, 'b, 'c, 'd, 'e, 'f, 'g, 'h, 'i, 'j, 'k, 'l, 'm, 'n, 'o>(
     ensures lent { Lends result.caller words.new numbers.new
         × Kept result.caller.last kept_words.new kept_numbers.new × Fits result.caller.room }
     ensures does { Does
-        (desk d (memory bodies.old columns.old owners.old tracks.old filters.old)
+        (desk d memory.old
         (Smoothing.window window.old values.old)
         words.old numbers.old kept_words.old kept_numbers.old)
-        (desk result.caller (memory bodies.new columns.new owners.new tracks.new filters.new)
+        (desk result.caller memory.new
         (Smoothing.window window.new values.new)
         words.new numbers.new kept_words.new kept_numbers.new)
         result.end out.new call s.now }
@@ -294,11 +278,7 @@ pub fn call<'a, 'b, 'c, 'd, 'e, 'f, 'g, 'h, 'i, 'j, 'k, 'l, 'm, 'n, 'o>(
             d,
             c,
             s,
-            bodies,
-            columns,
-            owners,
-            tracks,
-            filters,
+            memory,
             words,
             numbers,
             kept_words,
@@ -327,9 +307,7 @@ pub fn call<'a, 'b, 'c, 'd, 'e, 'f, 'g, 'h, 'i, 'j, 'k, 'l, 'm, 'n, 'o>(
             words: w,
             numbers: x,
         } => lend_window(d, w, x),
-        Call::Digest => tell_digest(
-            d, bodies, columns, owners, tracks, filters, window, values, words, numbers, out,
-        ),
+        Call::Digest => tell_digest(d, memory, window, values, words, numbers, out),
         Call::Bad => {
             let end = lines::put_bad(out);
             Called { caller: d, end }

@@ -8,34 +8,28 @@ ghost use Rattle.bounds.specs.Bounds.{TEXT};
 ghost use Rattle.calls_smoother.specs.Smoothing.{Laid, Framed};
 ghost use Rattle.calls.specs.Calling.{Roomy};
 
-use bounds::{
-    BODIES, CALLS, COLUMNS, FILTERS, LENT_NUMBERS, LENT_WORDS, NUMBERS, OWNERS, PARTS, TEXT,
-    VALUES, WINDOW, WORDS,
-};
+use bounds::{CALLS, LENT_NUMBERS, LENT_WORDS, NUMBERS, TEXT, VALUES, WINDOW, WORDS};
 use calls_input::Call;
+use fgo_state::state::Memory;
 use print::lines;
 
 // A list of the greatest length, and one byte that tells a longer one.
 const INPUT: usize = CALLS + 1;
 
 // The calls of a list, one after the other; a bad one ends it.
-fn play<'a, 'b, 'c, 'd, 'e, 'f, 'g, 'h, 'i, 'j, 'k, 'l, 'm, 'n, 'o>(
+fn play(
     rt: &(impl Print + Eprint),
-    s: &'o [u8],
-    bodies: &'a mut [u8; BODIES],
-    columns: &'b mut [u64; COLUMNS],
-    owners: &'c mut [u64; OWNERS],
-    tracks: &'d mut [u64; PARTS],
-    filters: &'e mut [f64; FILTERS],
-    window: &'f mut [u64],
-    values: &'g mut [f64],
-    words: &'h mut [u64],
-    numbers: &'i mut [f64],
-    kept_words: &'j mut [u64],
-    kept_numbers: &'k mut [f64],
-    frame_words: &'l mut [u64],
-    frame_numbers: &'m mut [f64],
-    out: &'n mut [u8],
+    s: &[u8],
+    memory: &mut Memory,
+    window: &mut [u64],
+    values: &mut [f64],
+    words: &mut [u64],
+    numbers: &mut [f64],
+    kept_words: &mut [u64],
+    kept_numbers: &mut [f64],
+    frame_words: &mut [u64],
+    frame_numbers: &mut [f64],
+    out: &mut [u8],
 )
     requires roomy { Roomy words.old numbers.old kept_words.old kept_numbers.old }
     requires laid { Laid window.old values.old × Framed frame_words.old frame_numbers.old × (TEXT ≤ length out.old) }
@@ -52,11 +46,7 @@ fn play<'a, 'b, 'c, 'd, 'e, 'f, 'g, 'h, 'i, 'j, 'k, 'l, 'm, 'n, 'o>(
             d,
             call,
             &s[from..end],
-            bodies,
-            columns,
-            owners,
-            tracks,
-            filters,
+            memory,
             window,
             values,
             words,
@@ -78,11 +68,7 @@ fn play<'a, 'b, 'c, 'd, 'e, 'f, 'g, 'h, 'i, 'j, 'k, 'l, 'm, 'n, 'o>(
 
 // A list that is not too long, played over memory that is all zero.
 fn play_list(rt: &(impl Print + Eprint), s: &[u8]) {
-    let mut bodies = [0u8; BODIES];
-    let mut columns = [0u64; COLUMNS];
-    let mut owners = [0u64; OWNERS];
-    let mut tracks = [0u64; PARTS];
-    let mut filters = [0.0; FILTERS];
+    let mut memory = Memory::new();
     let mut window = [0u64; WINDOW];
     let mut values = [0.0; VALUES];
     let mut words = [0u64; LENT_WORDS];
@@ -95,11 +81,7 @@ fn play_list(rt: &(impl Print + Eprint), s: &[u8]) {
     play(
         rt,
         s,
-        &mut bodies,
-        &mut columns,
-        &mut owners,
-        &mut tracks,
-        &mut filters,
+        &mut memory,
         &mut window,
         &mut values,
         &mut words,
@@ -121,14 +103,11 @@ fn print_bad(rt: &(impl Print + Eprint)) {
 
 fn main(rt: HostRuntime) {
     let mut buffer = [0u8; INPUT];
-    match console::read_all(&rt, &mut buffer) {
-        console::Input::Bytes(n) => {
-            if CALLS < n {
-                print_bad(&rt);
-            } else {
-                play_list(&rt, &buffer[..n]);
-            }
+    if let Some(n) = console::read_all(&rt, &mut buffer) {
+        if CALLS < n {
+            print_bad(&rt);
+        } else {
+            play_list(&rt, &buffer[..n]);
         }
-        console::Input::Unreadable => {}
     }
 }

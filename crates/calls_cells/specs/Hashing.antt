@@ -2,7 +2,7 @@
 use Rattle.std.specs.Prelude.{ℕ, List, ◌++◌, Float}
 use Rattle.digest.specs.Digest.{BASIS, fnv1a, words_bytes, numbers_bytes}
 use Rattle.fgo_state.specs.declared.state.FixedLagRefiner.{FixedLagRefiner}
-use Rattle.fgo_state.specs.Memory.{Memory}
+use Rattle.fgo_state.specs.declared.state.Memory.{Memory}
 use Rattle.smoother_window.specs.declared.FixedLagSmoother.{FixedLagSmoother}
 use Rattle.smoother.specs.Promise.{Window}
 use Rattle.calls_cells.specs.Cells.{refiner_fields, smoother_fields}
@@ -16,7 +16,7 @@ unfoldable pub refiner_hash : FixedLagRefiner → Memory → ℕ
 refiner_hash r m =
     fnv1a BASIS
     (words_bytes (refiner_fields r)
-    ++ (m.bodies ++ (words_bytes m.columns ++ (words_bytes m.owners ++ (words_bytes m.tracks ++ numbers_bytes m.filters)))))
+    ++ (m.scans.bodies ++ (words_bytes m.scans.columns ++ (words_bytes m.owners ++ (words_bytes m.parts.tracks ++ numbers_bytes m.parts.filters)))))
 
 -- a smoother with its window
 unfoldable pub smoother_hash : FixedLagSmoother → Window → ℕ

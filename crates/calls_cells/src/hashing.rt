@@ -1,12 +1,11 @@
 // The hashes of what a caller keeps: fields first, then the arrays.
 ghost use Rattle.std.specs.Prelude.{◌≡◌};
-ghost use Rattle.fgo_state.specs.Memory.{memory};
 ghost use Rattle.smoother.specs.Promise as Smoothing;
 ghost use Rattle.digest.specs.Digest.{BASIS};
 ghost use Rattle.calls_cells.specs.Hashing.{refiner_hash, smoother_hash, buffers_hash};
 
 use crate::cells;
-use fgo_state::state::FixedLagRefiner;
+use fgo_state::state::{FixedLagRefiner, Memory};
 use smoother_window::FixedLagSmoother;
 
 // Two buffers, after a hash.
@@ -24,23 +23,15 @@ pub fn hash_output<'a>(words: &'a [u64], numbers: &'a [f64]) -> u64
 }
 
 // A refiner with its memory.
-pub fn hash_refiner<'a>(
-    r: FixedLagRefiner,
-    bodies: &'a [u8],
-    columns: &'a [u64],
-    owners: &'a [u64],
-    tracks: &'a [u64],
-    filters: &'a [f64],
-) -> u64
-    ensures { result ≡ refiner_hash r
-        (memory bodies.now columns.now owners.now tracks.now filters.now) }
+pub fn hash_refiner(r: &FixedLagRefiner, memory: &Memory) -> u64
+    ensures { result ≡ refiner_hash r.now memory.now }
 {
-    let fields = cells::refiner_fields(r);
+    let fields = cells::refiner_fields(*r);
     let a = digest::hash_words(digest::begin(), &fields);
-    let b = digest::hash_bytes(a, bodies);
-    let c = digest::hash_words(b, columns);
-    let d = digest::hash_words(c, owners);
-    hash_buffers(d, tracks, filters)
+    let b = digest::hash_bytes(a, &memory.scans.bodies);
+    let c = digest::hash_words(b, &memory.scans.columns);
+    let d = digest::hash_words(c, &memory.owners);
+    hash_buffers(d, &memory.parts.tracks, &memory.parts.filters)
 }
 
 // A smoother with its window.

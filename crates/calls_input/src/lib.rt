@@ -14,6 +14,7 @@ use bounds::{
 use engine::little;
 
 // One cell of what a caller keeps, and what is written there.
+// As it is: the place is a number, which the list of calls gives and README's table has.
 #[derive(Clone, Copy)]
 pub struct Cell {
     pub place: usize,

@@ -7,9 +7,7 @@ use lib.ListN.{length, take}
 use lib.Seq.{length-take-le}
 use lib.Ieee.{Float}
 use Rattle.bounds.specs.Bounds.{TEXT}
-use Rattle.buffers.specs.declared.Answer.{Answer}
-use Rattle.buffers.specs.declared.Answer.TheVariants.{Frame}
-use Rattle.buffers.specs.Answer.{Opening, opened, unopened, opened_by, pushed, taken, Written}
+use Rattle.buffers.specs.Answer.{Opening, opened, unopened, opened_by, pushed, taken, Written, Answer, Frame}
 use Rattle.buffers.specs.Buffers.{over}
 use Rattle.buffers.proofs.Over.{length_over}
 use Rattle.engine.specs.declared.types.BodyKind.TheVariants.{Narrow}
@@ -17,10 +15,8 @@ use Rattle.engine.specs.Body.{body}
 use Rattle.recording.specs.Recording.{settings}
 use Rattle.fgo_spec.specs.declared.moves.FgoCounters.{FgoCounters}
 use Rattle.fgo_state.specs.declared.state.FixedLagRefiner.{FixedLagRefiner}
-use Rattle.fgo_state.specs.Memory.{Memory}
-use Rattle.fgo.specs.declared.Counted.{Counted}
-use Rattle.fgo.specs.declared.Counted.TheVariants.{Refused as NotCounted, Moves}
-use Rattle.fgo.specs.Promise.{new_by, open_refusal, count_refusal, counted_by}
+use Rattle.fgo_state.specs.declared.state.Memory.{Memory}
+use Rattle.fgo.specs.Promise.{new_by, open_refusal, count_refusal, counted_by, Counted, NotCounted, Moves}
 use Rattle.print.specs.Text.{Puts, Ready, refused_line, counters_line, opened_line, call_answer}
 use Rattle.print.specs.Printed.{Shown, Stands}
 use Rattle.print.proofs.Fitting.{refused_few, counters_few, opened_few, call_answer_few, ready}
@@ -28,7 +24,7 @@ use Rattle.print.proofs.Showing.{front}
 use Rattle.calls_input.specs.declared.RefinerCall.{RefinerCall}
 use Rattle.calls_input.specs.declared.RefinerCall.TheVariants.{Open, Push, Take, Counters, Write}
 use Rattle.calls_input.specs.declared.Cell.{Cell}
-use Rattle.calls_refiner.specs.declared.Last.{Last}
+use Rattle.buffers.specs.declared.FrameSize.{FrameSize}
 use Rattle.calls_refiner.specs.declared.Refined.{Refined}
 use Rattle.calls_refiner.specs.Refining.{
   Kept,
@@ -88,7 +84,7 @@ abbrev is_counted : Counted → ℕ
 is_counted (NotCounted n) = 0
 is_counted (Moves k) = 1
 
-module _ {out out' : List ℕ} {e : ℕ} (room : TEXT ≤ length out) (r : FixedLagRefiner) (last : Last) where
+module _ {out out' : List ℕ} {e : ℕ} (room : TEXT ≤ length out) (r : FixedLagRefiner) (last : FrameSize) where
   pub not_opened :
       (new : FixedLagRefiner) (n code : ℕ) → unopened code ≡ opened_by n new → Puts (refused_line code) 0 out out' e →
       Said (opening n new r) last (opening_text n) (record { refiner = r; last = last; end = e }) out'
@@ -141,7 +137,7 @@ module _ {w x : ℕ} {ws : List ℕ} {ns : List Float} (s : Stands w x ws ns) wh
   pub numbers_long_lem : x ≡ length (take x ns)
   numbers_long_lem = sym (length-take-le x ns s.numbers)
 
-  module _ {last : Last} {kw : List ℕ} {kn : List Float} (k : Kept last kw kn) where
+  module _ {last : FrameSize} {kw : List ℕ} {kn : List Float} (k : Kept last kw kn) where
     pub words_fit : 0 + length (take w ws) ≤ length kw
     words_fit = omega (arith, words_long_lem, s.wide, k.wide)
 
@@ -171,7 +167,7 @@ kept_as ws ns f e h = sym (ap (λ (t : Answer). kept_after t ws ns f) e ∙ h)
 -- ---- the calls
 
 module _ (r : FixedLagRefiner) (m : Memory) (ws : List ℕ) (ns : List Float) (f : List ℕ) where
-  module _ (last : Last) (kw : List ℕ) (kn : List Float) {t : Refined} {out' : List ℕ} where
+  module _ (last : FrameSize) (kw : List ℕ) (kn : List Float) {t : Refined} {out' : List ℕ} where
     tells :
         {refiner : FixedLagRefiner} {text : List ℕ} → Said refiner last text t out' →
         Tells r m ws ns (kept_frame last kw kn) t m ws ns (kept_frame t.last kw kn) out' refiner m text
@@ -181,7 +177,7 @@ module _ (r : FixedLagRefiner) (m : Memory) (ws : List ℕ) (ns : List Float) (f
           memory_is = refl;
           words = refl;
           numbers = refl;
-          frame = ap (λ (l : Last). kept_frame l kw kn) s.last_is;
+          frame = ap (λ (l : FrameSize). kept_frame l kw kn) s.last_is;
           text_is = s.text_is;
         }
 
@@ -191,7 +187,7 @@ module _ (r : FixedLagRefiner) (m : Memory) (ws : List ℕ) (ns : List Float) (f
         Refines r m ws ns (kept_frame last kw kn) t m ws ns (kept_frame t.last kw kn) out' c f →
         Kept t.last kw kn × Refines r m ws ns (kept_frame last kw kn) t m ws ns (kept_frame t.last kw kn) out' call f
     stays c e k s h = (
-      subst (λ (l : Last). Kept l kw kn) (sym s.last_is) k,
+      subst (λ (l : FrameSize). Kept l kw kn) (sym s.last_is) k,
       subst (λ (d : RefinerCall). Refines r m ws ns (kept_frame last kw kn) t m ws ns (kept_frame t.last kw kn) out' d f) (sym e) h,
     )
 
@@ -215,7 +211,7 @@ module _ (r : FixedLagRefiner) (m : Memory) (ws : List ℕ) (ns : List Float) (f
       takes e a = subst (λ (c : RefinerCall). Refines r m ws ns l t m' ws' ns' l' out' c f) (sym e) a
 
     pub writes :
-        {q : FixedLagRefiner} (last : Last) (out' : List ℕ) {call : RefinerCall} (c : Cell) → call ≡ Write c → q ≡ refiner_with c r → m' ≡ memory_with c m →
+        {q : FixedLagRefiner} (last : FrameSize) (out' : List ℕ) {call : RefinerCall} (c : Cell) → call ≡ Write c → q ≡ refiner_with c r → m' ≡ memory_with c m →
         Refines r m ws ns l (record { refiner = q; last = last; end = 0 }) m' ws ns l out' call f
     writes {q} last out' c e h g =
         subst (λ (d : RefinerCall). Refines r m ws ns l (record { refiner = q; last = last; end = 0 }) m' ws ns l out' d f) (sym e)

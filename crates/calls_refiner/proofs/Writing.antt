@@ -7,7 +7,7 @@ use lib.Dec.{eqb, leb, ltb}
 use borrow.Author.Tests.{eqb-true, ne_eqb, ltb-true, leb-true}
 use Rattle.engine.proofs.Every.{both}
 use Rattle.fgo_state.specs.declared.state.FixedLagRefiner.{FixedLagRefiner}
-use Rattle.fgo_state.specs.Memory.{Memory}
+use Rattle.fgo_state.specs.declared.state.Memory.{Memory}
 use Rattle.calls_input.specs.declared.Cell.{Cell}
 use Rattle.calls_input.specs.Input.{refiner_cells, refiner_has}
 use Rattle.calls_refiner.specs.Refining.{refiner_with, memory_with}

@@ -3,22 +3,20 @@ use Rattle.std.specs.Prelude.{ℕ, zero, suc, ◌≤◌, ◌≡◌, cond, List, 
 use Rattle.std.specs.Float.{binary64}
 use Rattle.std.specs.Float.Ieee.{of_bits}
 use Rattle.bounds.specs.Bounds.{WORDS, NUMBERS}
-use Rattle.buffers.specs.declared.Answer.{Answer}
-use Rattle.buffers.specs.declared.Answer.TheVariants.{Refused, Held, Frame}
-use Rattle.buffers.specs.Answer.{Op, pushed, taken, Written}
+use Rattle.buffers.specs.Answer.{Op, pushed, taken, Written, Answer, Refused, Held, Frame}
 use Rattle.engine.specs.declared.types.BodyKind.TheVariants.{Narrow}
 use Rattle.engine.specs.Body.{Body, body}
 use Rattle.recording.specs.Recording.{settings}
 use Rattle.fgo_spec.specs.declared.moves.FgoCounters.{FgoCounters}
 use Rattle.fgo_state.specs.declared.state.FixedLagRefiner.{FixedLagRefiner}
-use Rattle.fgo_state.specs.Memory.{Memory, memory}
-use Rattle.fgo.specs.declared.Pushed.{Pushed}
+use Rattle.fgo_state.specs.declared.state.Memory.{Memory}
+use Rattle.fgo_state.specs.Memory.{memory}
 use Rattle.fgo.specs.Promise.{new_by, open_refusal, due, Promised, count_refusal}
 use Rattle.print.specs.Text.{Ready, refused_line, counters_line}
 use Rattle.calls_input.specs.declared.Cell.{Cell}
 use Rattle.calls_input.specs.declared.RefinerCall.{RefinerCall}
 use Rattle.calls_input.specs.declared.RefinerCall.TheVariants.{Open, Push, Take, Counters, Write}
-use Rattle.calls_refiner.specs.declared.Last.{Last}
+use Rattle.buffers.specs.declared.FrameSize.{FrameSize}
 use Rattle.calls_refiner.specs.declared.Refined.{Refined}
 use Rattle.calls_cells.specs.Cells.{refiner_fields, refiner_of}
 use Rattle.print.specs.Text.{opened_line, call_answer}
@@ -26,14 +24,14 @@ use Rattle.print.specs.Text.{opened_line, call_answer}
 -- ---- the frame that the refiner gave last
 
 -- so many words and numbers, at the front of two lists that have room for any frame
-pub record Kept (last : Last) (kw : List ℕ) (kn : List Float) : Type 0 where
+pub record Kept (last : FrameSize) (kw : List ℕ) (kn : List Float) : Type 0 where
   pub words : last.words ≤ WORDS
   pub numbers : last.numbers ≤ NUMBERS
   pub wide : length kw ≡ WORDS
   pub deep : length kn ≡ NUMBERS
 
 -- it
-abbrev pub kept_frame : Last → List ℕ → List Float → Written
+abbrev pub kept_frame : FrameSize → List ℕ → List Float → Written
 kept_frame last kw kn = record { words = take last.words kw; numbers = take last.numbers kn }
 
 -- after an answer: the frame that it gives, or the one before
@@ -72,25 +70,25 @@ array_with place c v l = cond (eqb c.place place) (set l c.index v) l
 -- in its memory: the arrays are the places 1 to 5
 abbrev pub memory_with : Cell → Memory → Memory
 memory_with c m =
-    memory (array_with 1 c c.value m.bodies) (array_with 2 c c.value m.columns) (array_with 3 c c.value m.owners)
-    (array_with 4 c c.value m.tracks)
-    (array_with 5 c (of_bits binary64 c.value) m.filters)
+    memory (array_with 1 c c.value m.scans.bodies) (array_with 2 c c.value m.scans.columns) (array_with 3 c c.value m.owners)
+    (array_with 4 c c.value m.parts.tracks)
+    (array_with 5 c (of_bits binary64 c.value) m.parts.filters)
 
 -- ---- the calls
 
 -- what a call says that leaves the frame that was given last: the refiner after it, and what is printed
-pub record Said (refiner : FixedLagRefiner) (last : Last) (text : List ℕ) (t : Refined) (out' : List ℕ) : Type 0 where
+pub record Said (refiner : FixedLagRefiner) (last : FrameSize) (text : List ℕ) (t : Refined) (out' : List ℕ) : Type 0 where
   pub refiner_is : t.refiner ≡ refiner
   pub last_is : t.last ≡ last
   pub text_is : Ready text out' t.end
 
--- after a push or a take that gave p, with ws and ns in the output buffers: its frame is kept, and its answer printed
-pub record Told (last : Last) (p : Pushed) (ws : List ℕ) (ns : List Float) (kw : List ℕ) (kn : List Float)
+-- after a push or a take that left the refiner u and answered o, with ws and ns in the output buffers: its frame is kept, and its answer printed
+pub record Told (last : FrameSize) (u : FixedLagRefiner) (o : Answer) (ws : List ℕ) (ns : List Float) (kw : List ℕ) (kn : List Float)
     (t : Refined) (kw' : List ℕ) (kn' : List Float) (out' : List ℕ) : Type 0 where
-  pub refiner_is : t.refiner ≡ p.state
+  pub refiner_is : t.refiner ≡ u
   pub kept : Kept t.last kw' kn'
-  pub frame : kept_frame t.last kw' kn' ≡ kept_after p.answer ws ns (kept_frame last kw kn)
-  pub text_is : Ready (call_answer p.answer ws ns) out' t.end
+  pub frame : kept_frame t.last kw' kn' ≡ kept_after o ws ns (kept_frame last kw kn)
+  pub text_is : Ready (call_answer o ws ns) out' t.end
 
 -- with the refiner r, its memory m, the output buffers ws and ns and the frame last that it gave last, and what is left of them
 module _ (r : FixedLagRefiner) (m : Memory) (ws : List ℕ) (ns : List Float) (last : Written)
@@ -106,11 +104,10 @@ module _ (r : FixedLagRefiner) (m : Memory) (ws : List ℕ) (ns : List Float) (l
 
   -- a push or a take, by its contract: its frame is kept, and its answer printed
   pub record Answers (o : Op Body) : Type 0 where
-    pub given : Pushed
-    pub promised : Promised (due r m o ws ns) r m ws ns given m' ws' ns'
-    pub refiner_is : t.refiner ≡ given.state
-    pub frame : last' ≡ kept_after given.answer ws' ns' last
-    pub text_is : Ready (call_answer given.answer ws' ns') out' t.end
+    pub given : Answer
+    pub promised : Promised (due r m o ws ns) r m ws ns given t.refiner m' ws' ns'
+    pub frame : last' ≡ kept_after given ws' ns' last
+    pub text_is : Ready (call_answer given ws' ns') out' t.end
 
   -- a call, and what follows it
   abbrev pub Refines : RefinerCall → List ℕ → Type 0

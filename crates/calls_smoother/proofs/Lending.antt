@@ -8,8 +8,7 @@ use Rattle.buffers.specs.Answer.{Op, Written}
 use Rattle.print.specs.Printed.{Shown}
 use Rattle.print.proofs.Showing.{shown}
 use Rattle.smoother_window.specs.declared.FixedLagSmoother.{FixedLagSmoother}
-use Rattle.smoother.specs.declared.Pushed.{Pushed}
-use Rattle.smoother.specs.Promise.{Window, window, state_in, Promised}
+use Rattle.smoother.specs.Promise.{Window, window, state_in, Promised, Pushed}
 use Rattle.calls_input.proofs.Lent.{front, behind}
 use Rattle.calls_smoother.specs.declared.Room.{Room}
 use Rattle.calls_smoother.specs.declared.Smoothed.{Smoothed}

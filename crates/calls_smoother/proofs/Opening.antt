@@ -5,14 +5,15 @@ use mathlib.Core.List.{List}
 use mathlib.Core.Option.{Option, none, some, some-injective, none-ne-some}
 use lib.ListN.{length}
 use lib.Ieee.{Float}
+use Rattle.std.specs.Prelude.{Result, Ok, Err}
 use Rattle.bounds.specs.Bounds.{TEXT}
+use Rattle.refusals.specs.declared.Refusal.{Refusal}
+use Rattle.refusals.specs.Refusals.{number_of}
 use Rattle.buffers.specs.Answer.{Opening, unopened, opened, opened_by}
 use Rattle.buffers.proofs.Checking.{open_passed}
 use Rattle.print.specs.Text.{Puts, Ready, refused_line, opened_line}
 use Rattle.smoother_window.specs.declared.FixedLagSmoother.{FixedLagSmoother}
 use Rattle.smoother_window.specs.declared.SmootherConfig.{SmootherConfig}
-use Rattle.smoother.specs.declared.Opened.{Opened}
-use Rattle.smoother.specs.declared.Opened.TheVariants as answers
 use Rattle.smoother.specs.Smoother.{new, open_refusal, opens}
 use Rattle.smoother.specs.Promise.{Window, state_in, opening_of}
 use Rattle.calls_refiner.specs.Refining.{opening, opening_text}
@@ -57,29 +58,29 @@ module _ (state : FixedLagSmoother) (room lent : Room) (w : Window) (out' : List
 
 module _ {state : FixedLagSmoother} {room : Room} {w : Window} {out out' : List ℕ} {r : ℕ}
     (k : TEXT ≤ length out) {config settings : SmootherConfig} (same : config ≡ settings)
-    {lent : Room} (has : (lent ≡ room_for room config) × Fits lent) {answer : Opened}
+    {lent : Room} (has : (lent ≡ room_for room config) × Fits lent) {answer : Result FixedLagSmoother Refusal}
     (gives : opening_of answer (lent_of lent w) ≡ opens config (length (lent_of lent w).words) (length (lent_of lent w).numbers)) where
   -- of an opening that is refused
-  pub refuses : {n : ℕ} → answer ≡ answers.Refused n → Puts (refused_line n) 0 out out' r
+  pub refuses : {n : Refusal} → answer ≡ Err n → Puts (refused_line (number_of n)) 0 out out' r
       → Fits lent × ((ws : List ℕ) (ns : List Float) → Opens state room w ws ns (after state lent r) w ws ns out' settings)
   unfolding opens
   refuses {n} e p =
       let m = refusal w lent config in
-      let g : unopened n ≡ opened_by m (new config) = ap (λ (a : Opened). opening_of a (lent_of lent w)) (sym e) ∙ gives in
-      let q = refused_by_lem m n (new config) (fresh config) state g in (
+      let g : unopened (number_of n) ≡ opened_by m (new config) = ap (λ (a : Result FixedLagSmoother Refusal). opening_of a (lent_of lent w)) (sym e) ∙ gives in
+      let q = refused_by_lem m (number_of n) (new config) (fresh config) state g in (
         has.1,
         λ ws ns.
             leaves state room lent w out' r state ws ns config settings same has.0 q.0
-            (subst (λ (text : List ℕ). Ready text out' r) q.1 (refused_ready k n p)),
+            (subst (λ (text : List ℕ). Ready text out' r) q.1 (refused_ready k (number_of n) p)),
       )
 
   -- of one that is not
-  pub begins : {s : FixedLagSmoother} → answer ≡ answers.Ready s → Puts opened_line 0 out out' r
+  pub begins : {s : FixedLagSmoother} → answer ≡ Ok s → Puts opened_line 0 out out' r
       → Fits lent × ((ws : List ℕ) (ns : List Float) → Opens state room w ws ns (after (fresh config) lent r) w ws ns out' settings)
   unfolding opens
   begins {s} e p =
       let m = refusal w lent config in
-      let g : opened_by m (new config) ≡ opened (state_in s (lent_of lent w)) = sym (ap (λ (a : Opened). opening_of a (lent_of lent w)) (sym e) ∙ gives) in
+      let g : opened_by m (new config) ≡ opened (state_in s (lent_of lent w)) = sym (ap (λ (a : Result FixedLagSmoother Refusal). opening_of a (lent_of lent w)) (sym e) ∙ gives) in
       let z : 0 ≡ m = sym (open_passed m (new config) (state_in s (lent_of lent w)) g).0 in (
         has.1,
         λ ws ns.

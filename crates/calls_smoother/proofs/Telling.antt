@@ -9,9 +9,9 @@ use Rattle.bounds.specs.Bounds.{TEXT}
 use Rattle.print.specs.Text.{Puts, Ready, call_answer, opened_line, refused_line}
 use Rattle.print.specs.Printed.{Shown}
 use Rattle.print.proofs.Fitting.{call_answer_few, refused_few, opened_few, ready}
-use Rattle.smoother.specs.declared.Pushed.{Pushed}
 use Rattle.calls_smoother.specs.declared.Room.{Room}
 use Rattle.calls_smoother.specs.Smoothing.{Told}
+use Rattle.smoother.specs.Promise.{Pushed}
 
 -- after a push or a take
 pub told : {room : Room} {p : Pushed} {ws : List ℕ} {ns : List Float} {out out' : List ℕ} {r : ℕ} → Shown p.answer ws ns → TEXT ≤ length out

@@ -10,9 +10,8 @@ use Rattle.smoother_frame.specs.Frame.{frame}
 use Rattle.smoother_window.specs.declared.FixedLagSmoother.{FixedLagSmoother}
 use Rattle.smoother_window.specs.declared.SmootherConfig.{SmootherConfig}
 use Rattle.smoother_window.specs.Config.{lag, most, bounded}
-use Rattle.smoother.specs.declared.Pushed.{Pushed}
 use Rattle.smoother.specs.Smoother.{open_refusal}
-use Rattle.smoother.specs.Promise.{Window, window, Promised}
+use Rattle.smoother.specs.Promise.{Window, window, Promised, Pushed}
 use Rattle.print.specs.Text.{Ready}
 use Rattle.calls_input.specs.declared.Cell.{Cell}
 use Rattle.calls_input.specs.declared.SmootherCall.{SmootherCall}

@@ -9,7 +9,7 @@ ghost use Rattle.std.specs.Prelude.{◌≡◌, true, List, ℕ, ◌+◌, ◌*◌
 ghost use Rattle.std.specs.Float.{binary64};
 ghost use Rattle.std.specs.Float.Ieee.{of_bits};
 ghost use Rattle.bounds.specs.Bounds.{SETTING, TEXT, SMOOTHER};
-ghost use Rattle.buffers.specs.Answer.{pushed, taken};
+ghost use Rattle.buffers.specs.Answer.{answer_in, pushed, taken};
 ghost use Rattle.engine.specs.Body.{rows};
 ghost use Rattle.engine.specs.Little.{little};
 ghost use Rattle.smoother_frame.specs.Frame.{frame};
@@ -23,14 +23,13 @@ ghost use Rattle.calls_refiner.specs.Refining.{Kept, kept_frame};
 ghost use Rattle.calls_smoother.specs.Smoothing.{Laid, Fits, Framed, settings_in, room_for, smoother_with, window_with, Told, Answers, Opens, Smooths};
 
 use bounds::{LAG, SETTING, TRACKS};
+use buffers::{Answer, FrameSize};
 use calls_cells::cells;
 use calls_input::{Cell, SmootherCall};
-use calls_refiner::Last;
 use engine::little;
 use print::{answers, lines};
 use scalar::bits;
-use smoother::{Opened, Pushed};
-use smoother_window::window::{window_numbers, window_words};
+use smoother_window::size::window_size;
 use smoother_window::{FixedLagSmoother, SmootherConfig};
 
 // How many words and numbers of a window are lent, and whether a call has said so.
@@ -88,9 +87,10 @@ fn room_for(room: Room, c: SmootherConfig) -> Room
             said: false,
         };
     }
+    let size = window_size(c.lag_frames, c.max_tracks);
     Room {
-        words: window_words(c.lag_frames, c.max_tracks),
-        numbers: window_numbers(c.lag_frames, c.max_tracks),
+        words: size.words,
+        numbers: size.numbers,
         said: false,
     }
 }
@@ -114,12 +114,12 @@ fn open<'a, 'b>(
     let w = lent.words;
     let x = lent.numbers;
     match smoother::open(config, &window[..w], &values[..x]) {
-        Opened::Refused(code) => Smoothed {
+        Err(refusal) => Smoothed {
             smoother: state,
             room: lent,
-            end: lines::put_refused(out, 0, code),
+            end: lines::put_refused(out, 0, refusal),
         },
-        Opened::Ready(_) => {
+        Ok(_) => {
             let smoother = FixedLagSmoother {
                 config,
                 first: 0,
@@ -138,17 +138,16 @@ fn open<'a, 'b>(
 
 // After a push or a take its answer is printed.
 fn tell<'a, 'b>(
+    smoother: FixedLagSmoother,
     room: Room,
-    t: Pushed,
+    answer: Answer,
     words: &'a [u64],
     numbers: &'a [f64],
     out: &'b mut [u8],
 ) -> Smoothed
-    requires { Shown t.answer words.now numbers.now × (TEXT ≤ length out.old) }
-    ensures { Told room t words.now numbers.now result out.new }
+    requires { Shown (answer_in answer) words.now numbers.now × (TEXT ≤ length out.old) }
+    ensures { Told room (Smoothing.pushed_as answer smoother) words.now numbers.now result out.new }
 {
-    let answer = t.answer;
-    let smoother = t.state;
     let end = answers::put_call(out, answer, words, numbers);
     Smoothed {
         smoother,
@@ -178,8 +177,9 @@ fn push<'a, 'b, 'c, 'd, 'e, 'f>(
 {
     let w = room.words;
     let x = room.numbers;
-    let t = smoother::push(
-        state,
+    let mut smoother = state;
+    let answer = smoother::push(
+        &mut smoother,
         &mut window[..w],
         &mut values[..x],
         fw,
@@ -187,7 +187,7 @@ fn push<'a, 'b, 'c, 'd, 'e, 'f>(
         words,
         numbers,
     );
-    tell(room, t, words, numbers, out)
+    tell(smoother, room, answer, words, numbers, out)
 }
 
 // As many words of the input as fill the list, from place n on.
@@ -195,10 +195,8 @@ fn read_words(s: &[u8], n: usize, words: &mut [u64])
     requires { n + SETTING * length words.old ≤ length s.now }
     ensures { words.new ≡ rows (λ i. little SETTING s.now (n + SETTING * i)) 0 (length words.old) }
 {
-    let mut i: usize = 0;
-    while i < words.len() {
+    for i in 0..words.len() {
         words[i] = little::u64_at(s, n + SETTING * i);
-        i += 1;
     }
 }
 
@@ -207,10 +205,8 @@ fn read_numbers(s: &[u8], n: usize, numbers: &mut [f64])
     requires { n + SETTING * length numbers.old ≤ length s.now }
     ensures { numbers.new ≡ rows (λ i. of_bits binary64 (little SETTING s.now (n + SETTING * i))) 0 (length numbers.old) }
 {
-    let mut i: usize = 0;
-    while i < numbers.len() {
+    for i in 0..numbers.len() {
         numbers[i] = little::f64_at(s, n + SETTING * i);
-        i += 1;
     }
 }
 
@@ -233,8 +229,9 @@ fn take<'a, 'b, 'c, 'd>(
 {
     let w = room.words;
     let x = room.numbers;
-    let t = smoother::take(state, &window[..w], &values[..x], words, numbers);
-    tell(room, t, words, numbers, out)
+    let mut smoother = state;
+    let answer = smoother::take(&mut smoother, &window[..w], &values[..x], words, numbers);
+    tell(smoother, room, answer, words, numbers, out)
 }
 
 // ---- cells
@@ -282,7 +279,7 @@ fn write<'a, 'b>(
 pub fn call<'a, 'b, 'c, 'd, 'e, 'f, 'g, 'h>(
     state: FixedLagSmoother,
     room: Room,
-    last: Last,
+    last: FrameSize,
     call: SmootherCall,
     s: &'a [u8],
     kept_words: &'a [u64],

@@ -1,99 +1,81 @@
 // Cholesky's factor of a matrix, and the inverse by it.
 #![tactic(auto)]
 
-ghost use Rattle.std.specs.Prelude.{◌≡◌, ◌+◌, ◌*◌, ◌≤◌, ◌<◌};
+ghost use Rattle.std.specs.Prelude.{◌≡◌, ◌+◌, ◌*◌, ◌≤◌, ◌<◌, true};
+ghost use Rattle.std.specs.Option.{SomeIff};
 ghost use Rattle.scalar.specs.F64.{f64};
 ghost use Rattle.linalg.specs.Cholesky as Cholesky;
 ghost use Rattle.linalg.specs.Rows as Rows;
 
 use linalg::rows::{put_row, row};
+use std::array::from_fn;
 
-// All six are above 0.
-fn above6(d0: f64, d1: f64, d2: f64, d3: f64, d4: f64, d5: f64) -> bool
-    ensures { result ≡ Cholesky.above6 f64 d0 d1 d2 d3 d4 d5 }
+// The root of a pivot, which has to be above 0.
+fn root(pivot: f64) -> Option<f64>
+    ensures { SomeIff result (f64.lt f64.zero pivot ≡ true) (f64.root pivot) }
 {
-    if 0.0 < d0 {
-        if 0.0 < d1 {
-            if 0.0 < d2 {
-                if 0.0 < d3 {
-                    if 0.0 < d4 {
-                        return 0.0 < d5;
-                    }
-                }
-            }
-        }
+    if 0.0 < pivot {
+        Some(sqrt::sqrt(pivot))
+    } else {
+        None
     }
-    false
 }
 
 // Cholesky's factor, by columns of the lower triangle: column j subtracts L(j,k)·column k, k rising, and the root of the pivot divides it.
-// The answer says whether each pivot is above 0. Where one is not, l gets what the definition gives, which nobody should use.
+// A pivot that is not above 0 fails.
 #[rattlefmt::skip]
-pub fn cholesky6(a: &[f64; 36], l: &mut [f64; 36]) -> bool
-    ensures { (result ≡ Cholesky.positive f64 a.now) × (l.new ≡ Cholesky.cholesky f64 a.now) }
+pub fn cholesky6(a: &[f64; 36]) -> Option<[f64; 36]>
+    ensures { SomeIff result (Cholesky.positive f64 a.now ≡ true) (Cholesky.cholesky f64 a.now) }
 {
-    let d0 = a[0];
-    let l00 = sqrt::sqrt(d0);
+    let l00 = root(a[0])?;
     let l10 = a[6] / l00;
     let l20 = a[12] / l00;
     let l30 = a[18] / l00;
     let l40 = a[24] / l00;
     let l50 = a[30] / l00;
-    let d1 = a[7] - l10 * l10;
-    let l11 = sqrt::sqrt(d1);
+    let l11 = root(a[7] - l10 * l10)?;
     let l21 = (a[13] - l10 * l20) / l11;
     let l31 = (a[19] - l10 * l30) / l11;
     let l41 = (a[25] - l10 * l40) / l11;
     let l51 = (a[31] - l10 * l50) / l11;
-    let d2 = a[14] - l20 * l20 - l21 * l21;
-    let l22 = sqrt::sqrt(d2);
+    let l22 = root(a[14] - l20 * l20 - l21 * l21)?;
     let l32 = (a[20] - l20 * l30 - l21 * l31) / l22;
     let l42 = (a[26] - l20 * l40 - l21 * l41) / l22;
     let l52 = (a[32] - l20 * l50 - l21 * l51) / l22;
-    let d3 = a[21] - l30 * l30 - l31 * l31 - l32 * l32;
-    let l33 = sqrt::sqrt(d3);
+    let l33 = root(a[21] - l30 * l30 - l31 * l31 - l32 * l32)?;
     let l43 = (a[27] - l30 * l40 - l31 * l41 - l32 * l42) / l33;
     let l53 = (a[33] - l30 * l50 - l31 * l51 - l32 * l52) / l33;
-    let d4 = a[28] - l40 * l40 - l41 * l41 - l42 * l42 - l43 * l43;
-    let l44 = sqrt::sqrt(d4);
+    let l44 = root(a[28] - l40 * l40 - l41 * l41 - l42 * l42 - l43 * l43)?;
     let l54 = (a[34] - l40 * l50 - l41 * l51 - l42 * l52 - l43 * l53) / l44;
-    let d5 = a[35] - l50 * l50 - l51 * l51 - l52 * l52 - l53 * l53 - l54 * l54;
-    let l55 = sqrt::sqrt(d5);
-    *l = [
+    let l55 = root(a[35] - l50 * l50 - l51 * l51 - l52 * l52 - l53 * l53 - l54 * l54)?;
+    Some([
         l00, 0.0, 0.0, 0.0, 0.0, 0.0,
         l10, l11, 0.0, 0.0, 0.0, 0.0,
         l20, l21, l22, 0.0, 0.0, 0.0,
         l30, l31, l32, l33, 0.0, 0.0,
         l40, l41, l42, l43, l44, 0.0,
         l50, l51, l52, l53, l54, l55,
-    ];
-    above6(d0, d1, d2, d3, d4, d5)
+    ])
 }
 
-// Takes s times row i of w from r.
-fn less_row(r: &mut [f64; 6], s: f64, w: &[f64; 36], i: usize)
+// r less s times row i of w.
+fn less_row(r: &[f64; 6], s: f64, w: &[f64; 36], i: usize) -> [f64; 6]
     requires { i < 6 }
-    ensures { r.new ≡ Rows.less_row f64 r.old s w.now i }
+    ensures { result ≡ Rows.less_row f64 r.now s w.now i }
 {
     let v = row(w, i);
-    *r = [
-        r[0] - s * v[0],
-        r[1] - s * v[1],
-        r[2] - s * v[2],
-        r[3] - s * v[3],
-        r[4] - s * v[4],
-        r[5] - s * v[5],
-    ];
+    from_fn(|c| r[c] - s * v[c])
 }
 
 // The row divided by d.
 fn divide_row(r: &[f64; 6], d: f64) -> [f64; 6]
     ensures { result ≡ Rows.divided_by f64 r.now d }
 {
-    [r[0] / d, r[1] / d, r[2] / d, r[3] / d, r[4] / d, r[5] / d]
+    from_fn(|c| r[c] / d)
 }
 
 // Row i of w less l's number at p times row q, the one at p + s times row q + 1, .., n of them.
+#[tactic(auto, unfolding(linalg::specs::Cholesky::less, linalg::specs::Rows::less_rows))]
 fn less_rows(
     l: &[f64; 36],
     w: &[f64; 36],
@@ -107,15 +89,14 @@ fn less_rows(
     ensures { result ≡ Rows.less_rows f64 l.now w.now i p s q n }
 {
     let mut r = row(w, i);
-    let mut k = 0usize;
-    while k < n {
-        less_row(&mut r, l[p + k * s], w, q + k);
-        k += 1;
+    for k in 0..n {
+        r = less_row(&r, l[p + k * s], w, q + k);
     }
     r
 }
 
 // Row i of w is solved: less l's number at p times row q, the one at p + s times row q + 1, .., n of them, then divided by the diagonal.
+#[tactic(auto, unfolding(linalg::specs::Rows::solved_row))]
 fn solve_row(l: &[f64; 36], w: &mut [f64; 36], i: usize, p: usize, s: usize, q: usize, n: usize)
     requires { (i < 6) × (p + n * s < 36 + s) × (q + n ≤ 6) }
     ensures { w.new ≡ Rows.put_row f64 w.old i (Rows.solved_row f64 l.now w.old i p s q n) }
@@ -140,10 +121,8 @@ fn forward6(l: &[f64; 36], w: &mut [f64; 36])
     ensures { w.new ≡ Cholesky.half_way f64 l.now }
 {
     *w = IDENTITY;
-    let mut i = 0usize;
-    while i < 6 {
+    for i in 0..6 {
         solve_row(l, w, i, i * 6, 1, 0, i);
-        i += 1;
     }
 }
 
@@ -152,14 +131,13 @@ fn backward6(l: &[f64; 36], w: &mut [f64; 36])
     requires { w.old ≡ Cholesky.half_way f64 l.now }
     ensures { w.new ≡ Cholesky.inverse f64 l.now }
 {
-    let mut i = 6usize;
-    while 0 < i {
-        i -= 1;
+    for i in (0..6).rev() {
         solve_row(l, w, i, i * 6 + 6 + i, 6, i + 1, 5 - i);
     }
 }
 
 // The inverse of the matrix that has the factor l: per unit column, forward then backward substitution.
+// As it is: given back by value the inverse would be copied, which costs instructions in each step; so it is written where it is wanted.
 pub fn inverse6(l: &[f64; 36], w: &mut [f64; 36])
     ensures { w.new ≡ Cholesky.inverse f64 l.now }
 {

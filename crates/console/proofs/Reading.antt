@@ -10,11 +10,10 @@ use Rattle.std.proofs.lemmas.Slice.{take-put_mid_below}
 use Rattle.std.proofs.KnownBytes.{Consumes-trans}
 use Rattle.std.specs.Io.KnownBytes.{Consumes}
 use borrow.Rule.Slice.PartMut.{put_mid, post_of}
-use Rattle.console.specs.declared.Input.{Input}
-use Rattle.console.specs.declared.Input.TheVariants.{Bytes}
+use Rattle.std.specs.Prelude.{Some, None}
 use Rattle.console.specs.Input.{Within}
 
-pub read_within : (buf : List ℕ) {r : Input} {n : ℕ} → r ≡ Bytes n → Within r buf → (n ≤ length buf) × (n ≡ length (take n buf))
+pub read_within : (buf : List ℕ) {r : Option ℕ} {n : ℕ} → r ≡ Some n → Within r buf → (n ≤ length buf) × (n ≡ length (take n buf))
 read_within buf e h = subst (λ r. Within r buf) e h
 
 -- n bytes, and more of what a part of the buffer from place n on was made

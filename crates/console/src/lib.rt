@@ -5,14 +5,7 @@ ghost use Rattle.std.specs.Prelude.{◌≤◌, length};
 ghost use Rattle.console.specs.Input.{Within, Gives, Exhausts};
 
 use std::io;
-use std::io::{Input as StandardInput, Read, Write};
-
-// What reading gives: so many bytes at the front of the buffer, which is full where there may be more; or that the input cannot be read.
-#[derive(Clone, Copy)]
-pub enum Input {
-    Bytes(usize),
-    Unreadable,
-}
+use std::io::{Input, Read, Write};
 
 // Room for the system's words on an error.
 const REASON: usize = 96;
@@ -23,10 +16,7 @@ fn fail(rt: &impl Eprint, what: &str, error: io::Error) {
     let mut rest: &mut [u8] = &mut text;
     let _ = write!(rest, "{error}");
     let n = REASON.saturating_sub(rest.len());
-    let words = match std::str::from_utf8(&text[..n]) {
-        Ok(t) => t,
-        Err(_) => "",
-    };
+    let words = std::str::from_utf8(&text[..n]).unwrap_or("");
     let reason = match words.split_once(" (os error ") {
         Some((front, _)) => front,
         None => words,
@@ -34,40 +24,38 @@ fn fail(rt: &impl Eprint, what: &str, error: io::Error) {
     let _ = eprintln!(rt; "{what}: {reason}");
 }
 
-// One read, to the front of the buffer: no bytes where the input has ended. What fails is said.
-fn read_some<R: Read>(rt: &impl Eprint, input: &mut R, buf: &mut [u8]) -> Input
+// One read, to the front of the buffer: how many bytes it gave, 0 where the input has ended. What fails is said.
+fn read_some<R: Read>(rt: &impl Eprint, input: &mut R, buf: &mut [u8]) -> Option<usize>
     ensures within { Within result buf.new }
     ensures gives { Gives (R.remaining input.old) (R.remaining input.new) result buf.new }
 {
     match input.read(buf) {
-        Ok(n) => Input::Bytes(n),
+        Ok(n) => Some(n),
         Err(e) => {
             fail(rt, "standard input", e);
-            Input::Unreadable
+            None
         }
     }
 }
 
-// What is read until the input ends or the buffer is full.
-pub fn read_from<R: Read>(rt: &impl Eprint, input: &mut R, buf: &mut [u8]) -> Input
+// What is read until the input ends or the buffer is full, which may then be longer: so many bytes at the front of the buffer, unless the input cannot be read.
+pub fn read_from<R: Read>(rt: &impl Eprint, input: &mut R, buf: &mut [u8]) -> Option<usize>
     ensures within { Within result buf.new }
     ensures exhausts { Exhausts (R.remaining input.old) (R.remaining input.new) result buf.new }
 {
     let mut n: usize = 0;
     while n < buf.len() {
-        let Input::Bytes(more) = read_some(rt, input, &mut buf[n..]) else {
-            return Input::Unreadable;
-        };
+        let more = read_some(rt, input, &mut buf[n..])?;
         if more == 0 {
-            return Input::Bytes(n);
+            return Some(n);
         }
         n += more;
     }
-    Input::Bytes(n)
+    Some(n)
 }
 
 // Standard input, until it ends or the buffer is full.
-pub fn read_all(rt: &(impl StandardInput + Eprint), buf: &mut [u8]) -> Input
+pub fn read_all(rt: &(impl Input + Eprint), buf: &mut [u8]) -> Option<usize>
     ensures { Within result buf.new }
 {
     read_from(rt, &mut rt.reader(), buf)

@@ -1,3 +1,2 @@
-pub mod Lending
-pub mod Logs
+pub mod LogTable
 pub mod Steps

@@ -1,23 +1,19 @@
 -- Document 01, "Cost", and the windows that the code lends. Definitions only.
-use Rattle.std.specs.Prelude.{◌≡◌, ℕ, zero, suc, ◌+◌, ◌-◌, ◌*◌, ◌%◌, ◌<◌, true, not, T, List, [], ◌∷◌, length, pos, from_bits, is_nan, slice_index_or, Float}
+use Rattle.std.specs.Prelude.{ℕ, zero, suc, ◌+◌, ◌-◌, ◌*◌, ◌%◌, List, [], ◌∷◌, pos, from_bits, slice_index_or, Float}
 use mathlib.Core.List.{foldl}
 use Rattle.std.specs.Float.{nan, binary64}
-use Rattle.std.specs.Float.Ieee.{fits, of_int, add, mul, lt}
-use Rattle.bounds.specs.Bounds.{DETECTIONS, DOT, KEPT, LOG, LOGS, KF}
+use Rattle.std.specs.Float.Ieee.{of_int, add, mul}
+use Rattle.bounds.specs.Bounds.{DETECTIONS, DOT}
 use Rattle.engine.specs.declared.config.FgoConfig.{FgoConfig}
 use Rattle.engine.specs.declared.types.ScanIndex.{ScanIndex}
 use Rattle.engine.specs.Config.{birth, miss, density, variance}
 use Rattle.kf.specs.declared.filter.Kf.{Kf}
+use Rattle.cost.specs.declared.prices.Prices.{Prices}
 use Rattle.cost.specs.declared.Sums.{Sums}
 use Rattle.cost.specs.declared.Dot.{Dot}
 use Rattle.cost.specs.declared.Fold.{Fold}
 use Rattle.cost.specs.declared.Fold.TheVariants.{Fresh, Frozen, Going}
-use Rattle.cost.specs.declared.LentSums.{LentSums}
-use Rattle.cost.specs.declared.LentFold.{LentFold}
-use Rattle.cost.specs.declared.LentFold.TheVariants as lent
-use Rattle.scalar.specs.F64.{f64}
-use Rattle.kf.specs.Plain.{log_term}
-use Rattle.kf.specs.Filter.{started, worked, kf_in}
+use Rattle.kf.specs.Filter.{started, worked}
 
 -- a detection of a window: the number of its scan, that scan's time in seconds, where it lies, and the variance of its position
 pub record Measurement : Type 0 where
@@ -82,6 +78,10 @@ dot_at ds i =
     let o = DOT * (i % DETECTIONS) in
     record { x = slice_index_or ds o nan; y = slice_index_or ds (o + 1) nan; r = slice_index_or ds (o + 2) nan; t = slice_index_or ds (o + 3) nan }
 
+-- the view of what prices windows
+abbrev pub view_in : Prices → View
+view_in p = view_of p.first p.dots.now
+
 -- a dot, as the detection of a scan
 abbrev pub measurement_of : ScanIndex → Dot → Measurement
 measurement_of scan d = record { scan = scan.0; t = d.t; x = d.x; y = d.y; r = d.r }
@@ -96,18 +96,6 @@ measurements v k [] = []
 measurements v k (zero ∷ r) = measurements v (suc k) r
 measurements v k (suc j ∷ r) = measurement_at v k j ∷ measurements v (suc k) r
 
--- ---- a fold that is lent: the numbers of its filter, the NLLs so far, and what stands beside them
-
--- sums: their filter and, after its numbers, their total; the last scan and the misses stand beside them
-abbrev pub sums_in : LentSums → List Float → Sums
-sums_in c ns = record { kf = kf_in ns 0; total = slice_index_or ns KF nan; last = c.last; misses = c.misses }
-
--- a fold, with the numbers that are lent
-abbrev pub fold_in : LentFold → List Float → Fold
-fold_in lent.Fresh ns = Fresh
-fold_in (lent.Frozen last) ns = Frozen (kf_in ns 0) last
-fold_in (lent.Going c) ns = Going (sums_in c ns)
-
 -- ---- what the inner functions ask, beside the meaning
 
 -- the scans without a detection that a fold has counted
@@ -115,14 +103,3 @@ abbrev pub misses_of : Fold → ℕ
 misses_of Fresh = 0
 misses_of (Frozen k l) = 0
 misses_of (Going s) = s.misses
-
--- logarithms worked out before: a variance s above 0, and beside it ln((2·pi)·s); 0.0 where there is none
-pub record LogsKept (logs : List Float) : Type 0 where
-  pub long : length logs ≡ LOGS
-  pub variance : (i : ℕ) → i < KEPT → T (fits binary64 (slice_index_or logs (LOG * i) nan)) × T (not (is_nan (slice_index_or logs (LOG * i) nan)))
-  pub right : (i : ℕ) → i < KEPT → lt (from_bits binary64 0) (slice_index_or logs (LOG * i) nan) ≡ true → slice_index_or logs (LOG * i + 1) nan ≡ log_term f64 (slice_index_or logs (LOG * i) nan)
-
--- l is the logarithm that an update of variance s adds, and the table is right
-pub record Recalled (s l : Float) (logs : List Float) : Type 0 where
-  pub is : l ≡ log_term f64 s
-  pub kept : LogsKept logs

@@ -1,8 +1,11 @@
 -- How the fold over a row goes on: what is left of it, and the misses it counts. Assumes nothing.
+use Rattle.std.specs.Prelude.{Option, Some, None, MatchOption}
+use Rattle.std.specs.List.{AllWithin, HoldsAt}
+use Rattle.std.specs.Option.{unwrap_or}
 use mathlib.Core.Path.{◌≡◌, refl, sym, ap, ◌∙◌}
 use mathlib.Core.List.{List, [], ◌∷◌, foldl}
 use Prim.Native.Nat.{ℕ, zero, suc, ◌+◌, ◌-◌, ◌*◌, ◌^◌, ◌≤◌, ◌<◌}
-use native.Mathlib.Nat.{add-suc, suc-add}
+use native.Mathlib.Nat.{add-zero, add-suc, suc-add}
 use native.Mathlib.Omega.{arith}
 use native.Mathlib.Numerals.{add-one}
 use lib.ListN.{length, get_or, drop}
@@ -79,12 +82,15 @@ pub none_skipped : (q : Float) (s : Sums) (d : Measurement) (n : ℕ) → n ≡ 
 unfolding added
 none_skipped q s d n e = omega (arith, e)
 
--- a loop over leading slots: none so far has a detection
-pub record Passed (r : List ℕ) (i : ℕ) : Type 0 where
-  pub rest : (v : View) (k : ℕ) → measurements v k r ≡ measurements v (k + i) (drop i r)
+-- slots without a detection are left out
+passed : (r : List ℕ) (n : ℕ) → n ≤ length r → ((j : ℕ) → j < n → get_or r j 0 ≤ 0) → (v : View) (k : ℕ) → measurements v k r ≡ measurements v (k + n) (drop n r)
+passed r zero h z v k = ap (λ n. measurements v n r) (sym (add-zero k))
+passed r (suc n) h z v k = passed r n (omega arith) (λ j g. z j (omega arith)) v k ∙ rest_skips v k n r (omega arith) (z n (omega arith)) ∙ ap (λ m. measurements v (k + m) (drop m r)) (add-one n)
 
-pub passes : (r : List ℕ) (i : ℕ) → Passed r i → i < length r → get_or r i 0 ≤ 0 → Passed r (i + 1)
-passes r i p h z = record { rest = λ v k. p.rest v k ∙ rest_skips v k i r h z }
+-- where the first detection stands, or none does
+pub leading_by : (r : List ℕ) (o : Option ℕ) → MatchOption o (AllWithin (λ x. x ≤ 0) r 0 (length r)) (λ i. (i < length r) × HoldsAt (λ x. 0 < x) r i × AllWithin (λ x. x ≤ 0) r 0 i) → Leading r (unwrap_or o (length r))
+leading_by r None a = record { rest = passed r (length r) (omega arith) (λ j g. a j 0 (omega arith) g); found = λ h. absurd (omega arith) }
+leading_by r (Some i) a = record { rest = passed r i (omega (arith, a.0)) (λ j g. a.2 j 0 (omega arith) g); found = λ h. a.1 0 }
 
 -- the fold over a row after its leading slots: where nothing is left, where the first detection starts it, and where it goes on from a frozen part
 module _ (c : FgoConfig) (v : View) (k n : ℕ) (r : List ℕ) (l : Leading r n) where

@@ -1,16 +1,13 @@
 -- What the fold over a row asks. Definitions only.
-use Rattle.std.specs.Prelude.{ℕ, ◌+◌, ◌^◌, ◌<◌, ◌≤◌, ◌≡◌, List, length, get_or, drop, Float}
+use Rattle.std.specs.Prelude.{ℕ, ◌+◌, ◌^◌, ◌<◌, ◌≤◌, ◌≡◌, List, length, get_or, drop}
 use Rattle.bounds.specs.Bounds.{SCANS}
-use Rattle.engine.specs.declared.types.ScanIndex.{ScanIndex}
 use Rattle.cost.specs.declared.Fold.{Fold}
-use Rattle.cost.specs.Cost.{View, measurements, misses_of, LogsKept}
+use Rattle.cost.specs.Cost.{View, measurements, misses_of}
 
--- a row's part of few slots, scan numbers far below 2^64, and few misses so far
-pub record Asks (slots : List ℕ) (k : ℕ) (first : ScanIndex) (from : Fold) (logs : List Float) : Type 0 where
+-- a row's part of few slots, and few misses so far
+pub record Asks (slots : List ℕ) (k : ℕ) (from : Fold) : Type 0 where
   pub short : k + length slots ≤ SCANS
-  pub early : first.0 < 2 ^ 33
   pub few : misses_of from < 2 ^ 60
-  pub kept : LogsKept logs
 
 -- the slots before the first detection of a row: they are left out, and if any slot follows, it has a detection
 pub record Leading (slots : List ℕ) (n : ℕ) : Type 0 where

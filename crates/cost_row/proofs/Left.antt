@@ -46,21 +46,21 @@ kept_map {M} t f g n (suc m) h = go (t n) (h n) (kept_map t f g (suc n) m h)
     go false e r = r
 
 -- none from g on is better than b
-keep_idle : {M : Type 0} (better : M → M → M) (f : ℕ → M) (t : ℕ → Bool) (b : M) (g n : ℕ) → ((j : ℕ) → g ≤ j → better b (f j) ≡ b) → foldl better b (map f (keep t (up_from g n))) ≡ b
+keep_idle : {M O : Type 0} (better : O → M → O) (f : ℕ → M) (t : ℕ → Bool) (b : O) (g n : ℕ) → ((j : ℕ) → g ≤ j → better b (f j) ≡ b) → foldl better b (map f (keep t (up_from g n))) ≡ b
 unfolding keep up_from
 keep_idle better f t b g zero h = refl
-keep_idle {M} better f t b g (suc n) h = go (t g) (h g (le_refl g)) (keep_idle better f t b (suc g) n (λ j l. h j (omega arith)))
+keep_idle {M} {O} better f t b g (suc n) h = go (t g) (h g (le_refl g)) (keep_idle better f t b (suc g) n (λ j l. h j (omega arith)))
   where
     go : (c : Bool) → better b (f g) ≡ b → foldl better b (map f (keep t (up_from (suc g) n))) ≡ b → foldl better b (map f (cons_if c g (keep t (up_from (suc g) n)))) ≡ b
-    go true q r = ap (λ (x : M). foldl better x (map f (keep t (up_from (suc g) n)))) q ∙ r
+    go true q r = ap (λ (x : O). foldl better x (map f (keep t (up_from (suc g) n)))) q ∙ r
     go false q r = r
 
 -- the best of b and of what those left give
-module _ {M : Type 0} (better : M → M → M) (f : ℕ → M) (t : ℕ → Bool) (e : ℕ) where
-  abbrev pub best_from : ℕ → M → M
+module _ {M O : Type 0} (better : O → M → O) (f : ℕ → M) (t : ℕ → Bool) (e : ℕ) where
+  abbrev pub best_from : ℕ → O → O
   best_from g b = foldl better b (map f (left t e g))
 
-  module _ (g : ℕ) (b : M) where
+  module _ (g : ℕ) (b : O) where
     pub best_yes : g < e → t g ≡ true → best_from (g + 1) (better b (f g)) ≡ best_from g b
     best_yes h p = sym (ap (λ (l : List ℕ). foldl better b (map f l)) (left_yes t e g h p))
 

@@ -5,10 +5,9 @@ use Rattle.engine.specs.declared.config.FgoConfig.{FgoConfig}
 use Rattle.engine.specs.declared.types.ScanIndex.{ScanIndex}
 use Rattle.cost.specs.declared.Fold.{Fold}
 use Rattle.cost.specs.declared.Fold.TheVariants.{Fresh, Frozen}
-use Rattle.cost.specs.Cost.{View, view_of, measurements, fold_over, cost, misses_of, LogsKept}
+use Rattle.cost.specs.Cost.{View, measurements, fold_over, cost, misses_of}
 use Rattle.fgo_spec.specs.Lists.{segment}
 use Rattle.fgo_part.specs.Parts.{part_id, part_last_frame, part_kf}
-use Rattle.cost_row.specs.declared.Hall.{Hall}
 
 -- ---- the frozen parts
 
@@ -50,15 +49,6 @@ abbrev pub on_to : FgoConfig → View → ℕ → ℕ → List ℕ → Fold → 
 on_to c v k g r f = fold_over c f (measurements v k (segment k g r))
 
 -- ---- what the inner functions ask
-
--- the view of the dots that are lent for a search
-abbrev pub view_in : Hall → List Float → View
-view_in h dots = view_of h.first dots
-
--- scan numbers far below 2^64, and logarithms kept
-pub record Priced (h : Hall) (logs : List Float) : Type 0 where
-  pub early : h.first.0 < 2 ^ 33
-  pub kept : LogsKept logs
 
 -- a frozen part or none, and a row of SCANS scans
 pub record Fit (p : Fold) (r : List ℕ) : Type 0 where

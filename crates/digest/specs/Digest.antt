@@ -1,6 +1,6 @@
 -- The 64-bit FNV-1a hash, and the bytes that it goes over: a word is eight bytes, least first, and a number is the word of its bits. Definitions only.
 use Rattle.std.specs.Prelude.{ℕ, ◌*◌, ◌/◌, ◌%◌, ◌^◌, List, [], ◌∷◌, bit_xor, Float}
-use mathlib.Core.List.{foldl, flat_map}
+use Rattle.std.specs.List.{flat_map, fold}
 use Rattle.scalar.specs.Scalar.{bits_of}
 
 -- where it begins
@@ -12,12 +12,12 @@ abbrev pub PRIME : ℕ
 PRIME = 0x100_0000_01b3
 
 -- a byte more
-unfoldable pub mixed : ℕ → ℕ → ℕ
+abbrev pub mixed : ℕ → ℕ → ℕ
 mixed h b = bit_xor h b * PRIME % 2 ^ 64
 
 -- bytes more, one after the other
 unfoldable pub fnv1a : ℕ → List ℕ → ℕ
-fnv1a h bytes = foldl mixed h bytes
+fnv1a h bytes = fold mixed h bytes
 
 -- the bytes of a word
 abbrev pub word_bytes : ℕ → List ℕ

@@ -1,7 +1,8 @@
 -- Little-endian numbers of any width: how one splits, and how large it is. Assumes nothing.
 use Prim.Native.Nat.{ℕ, zero, suc, ◌+◌, ◌*◌, ◌^◌, ◌<◌}
-use mathlib.Core.Path.{◌≡◌}
+use mathlib.Core.Path.{◌≡◌, refl}
 use mathlib.Core.List.{List}
+use native.Mathlib.Numerals.{add-one}
 use native.Mathlib.Omega.{arith}
 use native.Mathlib.Nat.{pow-suc, mul_assoc, mul-add, add_assoc, add-suc, mul_comm, suc-add, zero-add, add-zero, one-mul}
 use lib.ListN.{get_or}
@@ -9,6 +10,7 @@ use lib.Dec.{lit<}
 use mir.Syntax.{w8, w64}
 use mir.Val.{Fits, to_z, of_z}
 use mir.Facts.{to_z-of_z, sfits_to_z}
+use Rattle.std.specs.Int.{byte_worth, sum_through}
 use Rattle.scalar.specs.Scalar.{signed}
 use Rattle.engine.specs.Little.{little}
 
@@ -30,6 +32,13 @@ little_below (suc w) s o h = rw pow-suc (omega (arith, (h o).fits, little_below 
 pub little-one : (s : List ℕ) (o : ℕ) → little 1 s o ≡ get_or s o 0
 unfolding little
 little-one s o = add-zero (get_or s o 0)
+
+-- bytes, each at its worth, as `from_le_bytes` adds them up
+pub little-bytes : (w : ℕ) (s : List ℕ) (o : ℕ) → little (suc w) s o ≡ sum_through (λ i. byte_worth i (get_or s (o + i) 0)) w
+little-bytes zero s o = rw (little-one s o, add-zero) refl
+little-bytes (suc w) s o =
+    let more = little-add (suc w) 1 s o in
+    rw (← add-one (suc w), more, little-bytes w s o, little-one s (o + suc w), mul_comm (256 ^ suc w) (get_or s (o + suc w) 0)) refl
 
 -- a signed number of eight bytes, passed on
 pub signed_passed : (s : List ℕ) (o : ℕ) → ((i : ℕ) → Fits w8 (get_or s i 0)) → to_z w64 (of_z w64 (signed (little 8 s o))) ≡ signed (little 8 s o)

@@ -20,17 +20,6 @@ pub never : (b : Bool) → (b ≡ true → ⊥) → false ≡ b
 never true h = absurd (h refl)
 never false h = refl
 
--- a refusal that is 0 or 5 is 0 just where its test holds
-tested : (b : Bool) {n : ℕ} → n ≡ cond b 0 5 → b ≡ eqb n 0
-tested true e = sym (eq-eqb _ 0 e)
-tested false {n} e = sym (ne_eqb n 0 (λ (z : n ≡ 0). omega arith))
-
-pub code_tested : (b : ℕ) {n : ℕ} → n ≡ cond (code_ok b) 0 5 → code_ok b ≡ eqb n 0
-code_tested b e = tested (code_ok b) e
-
-pub present_tested : (b : ℕ) {v u n : ℕ} → n ≡ cond (present_ok b v) 0 5 → v ≡ u → present_ok b u ≡ eqb n 0
-present_tested b {v} {u} e q = tested (present_ok b u) (rw q at e)
-
 pub all_none : (p : ℕ → Bool) → all p 0 ≡ true
 unfolding all
 all_none p = refl

@@ -22,23 +22,18 @@ use Rattle.engine.specs.declared.types.TrackingMode.{TrackingMode}
 use Rattle.engine.specs.declared.types.TrackingMode.TheVariants.{LidarOnly, CameraAssociated, CameraAssisted}
 use Rattle.engine.specs.declared.types.Outcome.{Outcome}
 use Rattle.engine.specs.declared.types.Outcome.TheVariants.{Updated, Spawned, Unmatched}
-use Rattle.engine.specs.declared.types.Associated.{Associated}
-use Rattle.engine.specs.declared.types.Associated.TheVariants.{Nobody, Track}
-use Rattle.engine.specs.declared.types.ClassLabel.{ClassLabel}
-use Rattle.engine.specs.declared.types.ClassLabel.TheVariants.{Unknown, Known}
-use Rattle.engine.specs.declared.types.Cost.{Cost}
-use Rattle.engine.specs.declared.types.Cost.TheVariants.{Absent, Paid}
 use Rattle.engine.specs.declared.types.EngineTrack.{EngineTrack}
 use Rattle.engine.specs.declared.types.Observation.{Observation}
 use Rattle.engine.specs.declared.types.Association.{Association}
 use Rattle.engine.specs.Little.{little}
-use Rattle.engine.specs.Frame.{Frame, mode_number, mode_of, outcome_number, outcome_of, associated_of, class_of, cost_of, engine_of, no_track, no_observation, no_association}
+use Rattle.engine.specs.Frame.{Frame, mode_number, mode_of, outcome_number, outcome_of, associated_of, class_of, cost_of, engine_of, no_track, no_observation, no_association, Associated, ClassLabel, Cost}
 use Rattle.engine.specs.Body.{Layout, narrow, layout_of, all, code_ok, present_ok, time_ok, zeros_ok, track_ok, association_ok, observation_ok, index_at, index_ok, track_count, sensor_count, observation_count, association_count, sensors_from, observations_from, associations_from, size, head_ok, tracks_ok, associations_ok, observations_ok, indices_ok, refusal, rows, track_at, observation_at, association_at, frame_of, read, decode}
 use Rattle.engine.specs.Encode.{laid, class_present, class_value, id_present, cost_present, cost_value, track_fields, sensor_fields, observation_fields, association_fields, track_bytes, sensor_bytes, observation_bytes, association_bytes, row_bytes, head_fields, encode, Binary64, HeldCost, TrackOk, ObservationOk, AssociationOk, FrameOk, ReadBack, OneFrame}
 use Rattle.engine.proofs.Bytes.{little-one}
 use Rattle.engine.proofs.Every.{all_true}
 use Rattle.engine.proofs.Layouts.{within}
 use Rattle.engine.proofs.Laid.{Lies, lies_left, lies_right, Fit, Reads, length-laid, read_fields, length-flat, lies_row, lies_after, rows_back}
+use Rattle.std.specs.Prelude.{None, Some}
 
 -- ---- codes and present bytes
 
@@ -63,22 +58,22 @@ outcome_code Spawned = omega arith
 outcome_code Unmatched = omega arith
 
 class_back : (c : ClassLabel) → class_of (class_present c) (class_value c) ≡ c
-class_back Unknown = refl
-class_back (Known v) = refl
+class_back None = refl
+class_back (Some v) = refl
 
 class_present_lem : (c : ClassLabel) → (class_present c < 256) × (present_ok (class_present c) (class_value c) ≡ true)
 unfolding present_ok
-class_present_lem Unknown = (lit< tt, refl)
-class_present_lem (Known v) = (lit< tt, refl)
+class_present_lem None = (lit< tt, refl)
+class_present_lem (Some v) = (lit< tt, refl)
 
 id_back : (a : Associated) → associated_of (id_present a) (engine_of a) ≡ a
-id_back Nobody = refl
-id_back (Track x) = refl
+id_back None = refl
+id_back (Some x) = refl
 
 id_present_lem : (a : Associated) → (id_present a < 256) × (present_ok (id_present a) (engine_of a) ≡ true)
 unfolding present_ok
-id_present_lem Nobody = (lit< tt, refl)
-id_present_lem (Track x) = (lit< tt, refl)
+id_present_lem None = (lit< tt, refl)
+id_present_lem (Some x) = (lit< tt, refl)
 
 float_back : (x : Float) → Binary64 x → of_bits binary64 (bits_of x) ≡ x
 float_back x h = of_bits-to_bits binary64 x (subst T (sym h) tt)
@@ -87,17 +82,17 @@ float_fits : (x : Float) → Binary64 x → bits_of x < 2 ^ 64
 float_fits x h = to_bits-lt binary64 x (subst T (sym h) tt)
 
 cost-back : (c : Cost) → HeldCost c → cost_of (cost_present c) (of_bits binary64 (cost_value c)) ≡ c
-cost-back Absent h = refl
-cost-back (Paid x) h = let e = float_back x h in rw e
+cost-back None h = refl
+cost-back (Some x) h = let e = float_back x h in rw e
 
 cost_fits : (c : Cost) → HeldCost c → cost_value c < 2 ^ 64
-cost_fits Absent h = lit< tt
-cost_fits (Paid x) h = float_fits x h
+cost_fits None h = lit< tt
+cost_fits (Some x) h = float_fits x h
 
 cost-present : (c : Cost) → (cost_present c < 256) × (present_ok (cost_present c) (cost_value c) ≡ true)
 unfolding present_ok
-cost-present Absent = (lit< tt, refl)
-cost-present (Paid x) = (lit< tt, refl)
+cost-present None = (lit< tt, refl)
+cost-present (Some x) = (lit< tt, refl)
 
 pub time_fits : (t : ℤ) → time_ok t ≡ true → SFits w64 t
 unfolding time_ok

@@ -1,5 +1,5 @@
 -- The body that says a frame: its bytes, what a frame must be so that a body can say it, and the law that reading gives it back. Definitions only.
-use Rattle.std.specs.Prelude.{ℕ, zero, suc, ◌-◌, ◌/◌, ◌%◌, ◌^◌, ◌<◌, ◌≤◌, ◌≡◌, true, cond, length, get_or, eqb, Float}
+use Rattle.std.specs.Prelude.{ℕ, zero, suc, ◌-◌, ◌/◌, ◌%◌, ◌^◌, ◌<◌, ◌≤◌, ◌≡◌, true, cond, length, get_or, eqb, Float, None, Some}
 use mathlib.Core.List.{List, [], ◌∷◌, ◌++◌, flat_map}
 use Rattle.std.specs.Float.{binary64}
 use Rattle.std.specs.Float.Ieee.{fits}
@@ -7,16 +7,10 @@ use Rattle.scalar.specs.Scalar.{finite, bits_of, word}
 use Rattle.bounds.specs.Bounds.{ENGINES, SENSORS, SENSOR}
 use Rattle.engine.specs.declared.types.BodyKind.{BodyKind}
 use Rattle.engine.specs.declared.types.BodyKind.TheVariants.{Narrow}
-use Rattle.engine.specs.declared.types.Associated.{Associated}
-use Rattle.engine.specs.declared.types.Associated.TheVariants.{Nobody, Track}
-use Rattle.engine.specs.declared.types.ClassLabel.{ClassLabel}
-use Rattle.engine.specs.declared.types.ClassLabel.TheVariants.{Unknown, Known}
-use Rattle.engine.specs.declared.types.Cost.{Cost}
-use Rattle.engine.specs.declared.types.Cost.TheVariants.{Absent, Paid}
 use Rattle.engine.specs.declared.types.EngineTrack.{EngineTrack}
 use Rattle.engine.specs.declared.types.Observation.{Observation}
 use Rattle.engine.specs.declared.types.Association.{Association}
-use Rattle.engine.specs.Frame.{Frame, mode_number, outcome_number, engine_of, no_track, no_observation, no_association}
+use Rattle.engine.specs.Frame.{Frame, mode_number, outcome_number, engine_of, no_track, no_observation, no_association, Associated, ClassLabel, Cost}
 use Rattle.engine.specs.Body.{Layout, layout_of, time_ok, read, decode}
 
 -- ---- bytes
@@ -36,28 +30,28 @@ laid (x ∷ l) = bytes_of x.0 x.1 ++ laid l
 
 -- "byte class present"
 abbrev pub class_present : ClassLabel → ℕ
-class_present Unknown = 0
-class_present (Known v) = 1
+class_present None = 0
+class_present (Some v) = 1
 
 -- "u32 class"
 abbrev pub class_value : ClassLabel → ℕ
-class_value Unknown = 0
-class_value (Known v) = v
+class_value None = 0
+class_value (Some v) = v
 
 -- "id present"
 abbrev pub id_present : Associated → ℕ
-id_present Nobody = 0
-id_present (Track x) = 1
+id_present None = 0
+id_present (Some x) = 1
 
 -- "cost present"
 abbrev pub cost_present : Cost → ℕ
-cost_present Absent = 0
-cost_present (Paid x) = 1
+cost_present None = 0
+cost_present (Some x) = 1
 
 -- "f64 cost", as its pattern
 abbrev pub cost_value : Cost → ℕ
-cost_value Absent = 0
-cost_value (Paid x) = bits_of x
+cost_value None = 0
+cost_value (Some x) = bits_of x
 
 -- "Tracks: u64 id, u32 class, byte class present, three zeros"
 abbrev pub track_fields : EngineTrack → List (ℕ × ℕ)
@@ -127,8 +121,8 @@ Binary64 x = fits binary64 x ≡ true
 
 -- a cost that is there is a float of the format
 abbrev pub HeldCost : Cost → Type 0
-HeldCost Absent = Unit
-HeldCost (Paid x) = Binary64 x
+HeldCost None = Unit
+HeldCost (Some x) = Binary64 x
 
 -- an engine track whose numbers have room
 pub record TrackOk (t : EngineTrack) : Type 0 where

@@ -1,19 +1,26 @@
 -- Document 01, "types.rs (502 lines), engine.rs (931): records": what a frame says. Definitions only.
-use Rattle.std.specs.Prelude.{ℕ, zero, suc, List, ℤ, Float}
+use Rattle.std.specs.Prelude.{ℕ, zero, suc, List, ℤ, Float, Option, None, Some}
 use Rattle.std.specs.Float.{nan}
+use Rattle.engine.specs.declared.types.EngineId.{EngineId}
 use Rattle.engine.specs.declared.types.TrackingMode.{TrackingMode}
 use Rattle.engine.specs.declared.types.TrackingMode.TheVariants.{LidarOnly, CameraAssociated, CameraAssisted}
 use Rattle.engine.specs.declared.types.Outcome.{Outcome}
 use Rattle.engine.specs.declared.types.Outcome.TheVariants.{Updated, Spawned, Unmatched}
-use Rattle.engine.specs.declared.types.Associated.{Associated}
-use Rattle.engine.specs.declared.types.Associated.TheVariants.{Nobody, Track}
-use Rattle.engine.specs.declared.types.ClassLabel.{ClassLabel}
-use Rattle.engine.specs.declared.types.ClassLabel.TheVariants.{Unknown, Known}
-use Rattle.engine.specs.declared.types.Cost.{Cost}
-use Rattle.engine.specs.declared.types.Cost.TheVariants.{Absent, Paid}
 use Rattle.engine.specs.declared.types.EngineTrack.{EngineTrack}
 use Rattle.engine.specs.declared.types.Observation.{Observation}
 use Rattle.engine.specs.declared.types.Association.{Association}
+
+-- the engine track of an association, if it has one
+abbrev pub Associated : Type 0
+Associated = Option EngineId
+
+-- a class, if it is known
+abbrev pub ClassLabel : Type 0
+ClassLabel = Option ℕ
+
+-- what the engine paid for an association, if it says
+abbrev pub Cost : Type 0
+Cost = Option Float
 
 -- a frame: its mode, its time in nanoseconds, engine tracks, sensors, observations and associations
 pub record Frame : Type 0 where
@@ -51,27 +58,27 @@ outcome_of (suc (suc n)) = Unmatched
 
 -- a present byte, and the value that it speaks of
 abbrev pub associated_of : ℕ → ℕ → Associated
-associated_of zero v = Nobody
-associated_of (suc n) v = Track (record { 0 = v })
+associated_of zero v = None
+associated_of (suc n) v = Some (record { 0 = v })
 
 -- likewise the class of an engine track
 abbrev pub class_of : ℕ → ℕ → ClassLabel
-class_of zero v = Unknown
-class_of (suc n) v = Known v
+class_of zero v = None
+class_of (suc n) v = Some v
 
 -- and the cost of an association
 abbrev pub cost_of : ℕ → Float → Cost
-cost_of zero v = Absent
-cost_of (suc n) v = Paid v
+cost_of zero v = None
+cost_of (suc n) v = Some v
 
 -- the engine id of an association, 0 where it has none
 abbrev pub engine_of : Associated → ℕ
-engine_of Nobody = 0
-engine_of (Track e) = e.0
+engine_of None = 0
+engine_of (Some e) = e.0
 
 -- what an accessor answers past the last row
 abbrev pub no_track : EngineTrack
-no_track = record { id = record { 0 = 0 }; class = Unknown }
+no_track = record { id = record { 0 = 0 }; class = None }
 
 -- a dot that is nowhere
 abbrev pub no_observation : Observation
@@ -79,4 +86,4 @@ no_observation = record { x = nan; y = nan; z = nan }
 
 -- an association of nothing
 abbrev pub no_association : Association
-no_association = record { index = record { 0 = 0 }; track = Nobody; outcome = Unmatched; cost = Absent }
+no_association = record { index = record { 0 = 0 }; track = None; outcome = Unmatched; cost = None }

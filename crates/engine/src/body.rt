@@ -1,13 +1,13 @@
 // A frame's body: its header and its fields.
 ghost use Rattle.std.specs.Prelude.{◌≡◌, ◌+◌, ◌≤◌, length, get_or};
-ghost use Rattle.engine.specs.Frame.{mode_of, outcome_of, associated_of, class_of, cost_of, no_track, no_observation, no_association};
+ghost use Rattle.engine.specs.Frame.{associated_of, class_of, cost_of, no_track, no_observation, no_association};
 ghost use Rattle.bounds.specs.Bounds.{ENGINE, OBSERVATION, ASSOCIATION};
 ghost use Rattle.engine.specs.Body.{layout_of, track_count, sensor_count, observation_count, association_count, sensors_from, observations_from, associations_from, refusal, frame_of, track_at, observation_at, association_at, time_read, sensor_read, track_read, observation_read, association_read};
 
 use crate::little;
 use crate::types::{
-    Associated, Association, BodyKind, ClassLabel, Cost, EngineId, EngineTrack, Observation,
-    ObservationIndex, Outcome, TrackingMode,
+    Association, BodyKind, EngineId, EngineTrack, Observation, ObservationIndex, Outcome,
+    TrackingMode,
 };
 use bounds::{ASSOCIATION, ENGINE, HEADER, OBSERVATION, SENSOR};
 
@@ -82,23 +82,13 @@ pub fn associations_from(kind: BodyKind, s: &[u8]) -> usize
 // ---- the fields: each reader answers, on any bytes, the field where its bytes are all there, and else 0 or the value for none; for a body that passes this
 // is what the frame says
 
-fn mode_of(b: u8) -> TrackingMode
-    ensures { result ≡ mode_of b }
-{
-    match b {
-        0 => TrackingMode::LidarOnly,
-        1 => TrackingMode::CameraAssociated,
-        2..=255 => TrackingMode::CameraAssisted,
-    }
-}
-
 pub fn mode(kind: BodyKind, s: &[u8]) -> TrackingMode
     ensures { result ≡ (frame_of (layout_of kind) s.now).mode }
 {
     if s.len() == 0 {
         return TrackingMode::LidarOnly;
     }
-    mode_of(s[0])
+    TrackingMode::from(s[0])
 }
 
 pub fn time_of(kind: BodyKind, s: &[u8]) -> i64
@@ -112,7 +102,8 @@ pub fn time_of(kind: BodyKind, s: &[u8]) -> i64
 
 // The id of sensor i; 0 past the last.
 pub fn sensor(kind: BodyKind, s: &[u8], i: usize) -> u64
-    ensures { (result ≡ sensor_read (layout_of kind) s.now i) × (refusal (layout_of kind) s.now ≡ 0 → result ≡ get_or (frame_of (layout_of kind) s.now).sensors i 0) }
+    ensures { (result ≡ sensor_read (layout_of kind) s.now i)
+        × (refusal (layout_of kind) s.now ≡ 0 → result ≡ get_or (frame_of (layout_of kind) s.now).sensors i 0) }
 {
     if sensor_count(kind, s) <= i {
         return 0;
@@ -124,12 +115,12 @@ pub fn sensor(kind: BodyKind, s: &[u8], i: usize) -> u64
     little::u32_at(s, o)
 }
 
-fn class_of(b: u8, v: u32) -> ClassLabel
+fn class_of(b: u8, v: u32) -> Option<u32>
     ensures { result ≡ class_of b v }
 {
     match b {
-        0 => ClassLabel::Unknown,
-        1..=255 => ClassLabel::Known(v),
+        0 => None,
+        1..=255 => Some(v),
     }
 }
 
@@ -146,15 +137,13 @@ fn no_track() -> EngineTrack
     ensures { result ≡ no_track }
 {
     let id = EngineId(0);
-    EngineTrack {
-        id,
-        class: ClassLabel::Unknown,
-    }
+    EngineTrack { id, class: None }
 }
 
 // Engine track i.
 pub fn track(kind: BodyKind, s: &[u8], i: usize) -> EngineTrack
-    ensures { (result ≡ track_read (layout_of kind) s.now i) × (refusal (layout_of kind) s.now ≡ 0 → result ≡ get_or (frame_of (layout_of kind) s.now).tracks i no_track) }
+    ensures { (result ≡ track_read (layout_of kind) s.now i)
+        × (refusal (layout_of kind) s.now ≡ 0 → result ≡ get_or (frame_of (layout_of kind) s.now).tracks i no_track) }
 {
     if track_count(kind, s) <= i {
         return no_track();
@@ -189,7 +178,8 @@ fn no_observation() -> Observation
 
 // The observation at an index.
 pub fn observation(kind: BodyKind, s: &[u8], index: ObservationIndex) -> Observation
-    ensures { (result ≡ observation_read (layout_of kind) s.now index.0) × (refusal (layout_of kind) s.now ≡ 0 → result ≡ get_or (frame_of (layout_of kind) s.now).observations index.0 no_observation) }
+    ensures { (result ≡ observation_read (layout_of kind) s.now index.0)
+        × (refusal (layout_of kind) s.now ≡ 0 → result ≡ get_or (frame_of (layout_of kind) s.now).observations index.0 no_observation) }
 {
     let i = index.0;
     if observation_count(kind, s) <= i {
@@ -202,31 +192,21 @@ pub fn observation(kind: BodyKind, s: &[u8], index: ObservationIndex) -> Observa
     observation_at(s, o)
 }
 
-fn outcome_of(b: u8) -> Outcome
-    ensures { result ≡ outcome_of b }
-{
-    match b {
-        0 => Outcome::Updated,
-        1 => Outcome::Spawned,
-        2..=255 => Outcome::Unmatched,
-    }
-}
-
-fn associated_of(b: u8, v: u64) -> Associated
+fn associated_of(b: u8, v: u64) -> Option<EngineId>
     ensures { result ≡ associated_of b v }
 {
     match b {
-        0 => Associated::Nobody,
-        1..=255 => Associated::Track(EngineId(v)),
+        0 => None,
+        1..=255 => Some(EngineId(v)),
     }
 }
 
-fn cost_of(b: u8, v: f64) -> Cost
+fn cost_of(b: u8, v: f64) -> Option<f64>
     ensures { result ≡ cost_of b v }
 {
     match b {
-        0 => Cost::Absent,
-        1..=255 => Cost::Paid(v),
+        0 => None,
+        1..=255 => Some(v),
     }
 }
 
@@ -238,7 +218,7 @@ fn association_at(kind: BodyKind, s: &[u8], o: usize) -> Association
         BodyKind::Narrow => {
             let index = ObservationIndex(s[o] as usize);
             let track = associated_of(s[o + 1], little::u64_at(s, o + 8));
-            let outcome = outcome_of(s[o + 2]);
+            let outcome = Outcome::from(s[o + 2]);
             let cost = cost_of(s[o + 3], little::f64_at(s, o + 16));
             Association {
                 index,
@@ -256,15 +236,16 @@ fn no_association() -> Association
     let index = ObservationIndex(0);
     Association {
         index,
-        track: Associated::Nobody,
+        track: None,
         outcome: Outcome::Unmatched,
-        cost: Cost::Absent,
+        cost: None,
     }
 }
 
 // Association j, in the frame's order.
 pub fn association(kind: BodyKind, s: &[u8], j: usize) -> Association
-    ensures { (result ≡ association_read (layout_of kind) s.now j) × (refusal (layout_of kind) s.now ≡ 0 → result ≡ get_or (frame_of (layout_of kind) s.now).associations j no_association) }
+    ensures { (result ≡ association_read (layout_of kind) s.now j)
+        × (refusal (layout_of kind) s.now ≡ 0 → result ≡ get_or (frame_of (layout_of kind) s.now).associations j no_association) }
 {
     if association_count(kind, s) <= j {
         return no_association();

@@ -31,10 +31,10 @@ pub struct FgoConfig {
     pub max_passes: usize,
 }
 
-impl FgoConfig {
-    pub fn default() -> FgoConfig
-        ensures { result ≡ defaults }
-    {
+impl Default for FgoConfig {
+    ghost is_default = { λ c. c ≡ defaults };
+
+    fn default() -> FgoConfig {
         FgoConfig {
             lag_frames: 10,
             radius_m: 1.5,
@@ -49,7 +49,9 @@ impl FgoConfig {
             max_passes: 20,
         }
     }
+}
 
+impl FgoConfig {
     // The variance of a detection's position.
     pub fn position_variance(self) -> f64
         ensures { result ≡ position_variance self }

@@ -7,45 +7,41 @@ ghost use Rattle.engine.specs.Little.{little};
 
 use scalar::bits;
 
-fn wide(x: u8) -> u64
-    ensures { result ≡ x }
-{
-    x as u64
-}
-
-fn u8_at(s: &[u8], o: usize) -> u64
-    requires { o + 1 ≤ length s.now }
-    ensures { result ≡ little 1 s.now o }
-{
-    wide(s[o])
-}
-
 pub fn u16_at(s: &[u8], o: usize) -> u64
     requires { o + 2 ≤ length s.now }
     ensures { result ≡ little 2 s.now o }
 {
-    u8_at(s, o) + 256 * u8_at(s, o + 1)
+    u64::from(u16::from_le_bytes([s[o], s[o + 1]]))
 }
 
 pub fn u24_at(s: &[u8], o: usize) -> u64
     requires { o + 3 ≤ length s.now }
     ensures { result ≡ little 3 s.now o }
 {
-    u8_at(s, o) + 256 * u16_at(s, o + 1)
+    u64::from(u32::from_le_bytes([s[o], s[o + 1], s[o + 2], 0]))
 }
 
 pub fn u32_at(s: &[u8], o: usize) -> u64
     requires { o + 4 ≤ length s.now }
     ensures { result ≡ little 4 s.now o }
 {
-    u16_at(s, o) + 65536 * u16_at(s, o + 2)
+    u64::from(u32::from_le_bytes([s[o], s[o + 1], s[o + 2], s[o + 3]]))
 }
 
 pub fn u64_at(s: &[u8], o: usize) -> u64
     requires { o + 8 ≤ length s.now }
     ensures { result ≡ little 8 s.now o }
 {
-    u32_at(s, o) + 4294967296 * u32_at(s, o + 4)
+    u64::from_le_bytes([
+        s[o],
+        s[o + 1],
+        s[o + 2],
+        s[o + 3],
+        s[o + 4],
+        s[o + 5],
+        s[o + 6],
+        s[o + 7],
+    ])
 }
 
 pub fn i64_at(s: &[u8], o: usize) -> i64

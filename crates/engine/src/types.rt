@@ -1,17 +1,17 @@
 // Ids, codes and the rows of a frame.
 ghost use Rattle.std.specs.Prelude.{◌≡◌};
-ghost use Rattle.engine.specs.Frame.{mode_number, outcome_number};
+ghost use Rattle.engine.specs.Frame.{mode_of, mode_number, outcome_of, outcome_number};
 
 // The id that the engine gave a track.
-#[derive(Clone, Copy)]
+#[derive(Clone, Copy, PartialEq, Eq)]
 pub struct EngineId(pub u64);
 
 // The id that the refiner gives a track.
-#[derive(Clone, Copy)]
+#[derive(Clone, Copy, PartialEq, Eq, PartialOrd, Ord)]
 pub struct RefinedId(pub u64);
 
 // The number of a scan, counted from the first one that the refiner accepted.
-#[derive(Clone, Copy)]
+#[derive(Clone, Copy, PartialEq, Eq, PartialOrd, Ord)]
 pub struct ScanIndex(pub u64);
 
 // The place of an observation in its scan.
@@ -41,31 +41,11 @@ pub enum Outcome {
     Unmatched,
 }
 
-// The engine track that an observation belongs to, if any.
-#[derive(Clone, Copy)]
-pub enum Associated {
-    Nobody,
-    Track(EngineId),
-}
-
-// A class, if it is known.
-#[derive(Clone, Copy)]
-pub enum ClassLabel {
-    Unknown,
-    Known(u32),
-}
-
-// The price that the engine paid for an association, if it says.
-#[derive(Clone, Copy)]
-pub enum Cost {
-    Absent,
-    Paid(f64),
-}
-
 #[derive(Clone, Copy)]
 pub struct EngineTrack {
     pub id: EngineId,
-    pub class: ClassLabel,
+    // The class, if it is known.
+    pub class: Option<u32>,
 }
 
 // Where a dot lies, in metres.
@@ -79,17 +59,32 @@ pub struct Observation {
 #[derive(Clone, Copy)]
 pub struct Association {
     pub index: ObservationIndex,
-    pub track: Associated,
+    // The engine track that it belongs to, if any.
+    pub track: Option<EngineId>,
     pub outcome: Outcome,
-    pub cost: Cost,
+    // The price that the engine paid for it, if it says.
+    pub cost: Option<f64>,
 }
 
-impl TrackingMode {
-    // The number that stands for the mode in a body and in an emitted frame.
-    pub fn number(self) -> u64
-        ensures { result ≡ mode_number self }
-    {
-        match self {
+// The mode of a byte; every byte above 1 is read as the last.
+impl From<u8> for TrackingMode {
+    ghost from_gives = { λ b r. r ≡ mode_of b };
+
+    fn from(b: u8) -> TrackingMode {
+        match b {
+            0 => TrackingMode::LidarOnly,
+            1 => TrackingMode::CameraAssociated,
+            2..=255 => TrackingMode::CameraAssisted,
+        }
+    }
+}
+
+// The number that stands for the mode in a body and in an emitted frame.
+impl From<TrackingMode> for u64 {
+    ghost from_gives = { λ m r. r ≡ mode_number m };
+
+    fn from(m: TrackingMode) -> u64 {
+        match m {
             TrackingMode::LidarOnly => 0,
             TrackingMode::CameraAssociated => 1,
             TrackingMode::CameraAssisted => 2,
@@ -97,12 +92,25 @@ impl TrackingMode {
     }
 }
 
-impl Outcome {
-    // The number that stands for the outcome in a body and in an emitted frame.
-    pub fn number(self) -> u64
-        ensures { result ≡ outcome_number self }
-    {
-        match self {
+// The outcome of a byte; every byte above 1 is read as the last.
+impl From<u8> for Outcome {
+    ghost from_gives = { λ b r. r ≡ outcome_of b };
+
+    fn from(b: u8) -> Outcome {
+        match b {
+            0 => Outcome::Updated,
+            1 => Outcome::Spawned,
+            2..=255 => Outcome::Unmatched,
+        }
+    }
+}
+
+// The number that stands for the outcome in a body and in an emitted frame.
+impl From<Outcome> for u64 {
+    ghost from_gives = { λ o r. r ≡ outcome_number o };
+
+    fn from(o: Outcome) -> u64 {
+        match o {
             Outcome::Updated => 0,
             Outcome::Spawned => 1,
             Outcome::Unmatched => 2,

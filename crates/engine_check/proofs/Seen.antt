@@ -2,7 +2,7 @@
 use Prim.Native.Nat.{ℕ, ◌+◌, ◌<◌, ◌≤◌}
 use mathlib.Core.Path.{◌≡◌, refl, sym, ◌∙◌}
 use mathlib.Core.List.{List}
-use mathlib.Core.Bool.{Bool, true, false, cond, ◌&&◌, not, and-true, and-false}
+use mathlib.Core.Bool.{Bool, true, false, ◌&&◌, not, and-true, and-false, true≢false}
 use native.Mathlib.Omega.{arith}
 use native.Mathlib.Numerals.{add-one}
 use borrow.Author.Tests.{eqb-true, eqb-false, lt-ltb, le-ltb}
@@ -11,12 +11,12 @@ use lib.ListN.{length, get_or, set, replicate, get_or-replicate, length-replicat
 use lib.Seq.{get_or-set_same, get_or-set_other}
 use Rattle.engine.specs.Body.{all, index_at, index_ok}
 
-fresh_of : (b : Bool) → ◌≡◌ {A = ℕ} (cond b 0 1) 0 → b ≡ true
+fresh_of : (b : Bool) → not b ≡ false → b ≡ true
 fresh_of true e = refl
-fresh_of false e = absurd (omega arith)
+fresh_of false e = absurd (true≢false e)
 
-seen_of : (b : Bool) → (◌≡◌ {A = ℕ} (cond b 0 1) 0 → ⊥) → b ≡ false
-seen_of true e = absurd (e refl)
+seen_of : (b : Bool) → not b ≡ true → b ≡ false
+seen_of true e = absurd (true≢false (sym e))
 seen_of false e = refl
 
 module _ (w : ℕ) (s : List ℕ) (a most : ℕ) where
@@ -24,27 +24,27 @@ module _ (w : ℕ) (s : List ℕ) (a most : ℕ) where
   abbrev fresh : ℕ → ℕ → Bool
   fresh j v = all (λ i. not (eqb (index_at w s a i) v)) j
 
-  pub record Marks (j : ℕ) (seen : List ℕ) : Type 0 where
+  pub record Marks (j : ℕ) (seen : List Bool) : Type 0 where
     pub long : length seen ≡ most
-    pub says : (v : ℕ) → v < most → get_or seen v 0 ≡ cond (fresh j v) 0 1
+    pub says : (v : ℕ) → v < most → get_or seen v false ≡ not (fresh j v)
 
-  pub marks_none : Marks 0 (replicate most 0)
+  pub marks_none : Marks 0 (replicate most false)
   unfolding all
-  marks_none = record { long = length-replicate most 0; says = λ v h. get_or-replicate most v 0 0 h }
+  marks_none = record { long = length-replicate most false; says = λ v h. get_or-replicate most v false false h }
 
   -- x is the index of association j
-  module _ (j : ℕ) {seen : List ℕ} (m : Marks j seen) {x : ℕ} (is : index_at w s a j ≡ x) where
-    said : (v : ℕ) (t : Bool) → eqb x v ≡ t → x < most → v < most → get_or (set seen x 1) v 0 ≡ cond (fresh j v && not (eqb x v)) 0 1
+  module _ (j : ℕ) {seen : List Bool} (m : Marks j seen) {x : ℕ} (is : index_at w s a j ≡ x) where
+    said : (v : ℕ) (t : Bool) → eqb x v ≡ t → x < most → v < most → get_or (set seen x true) v false ≡ not (fresh j v && not (eqb x v))
     said v true e f h =
         let d = eqb-true x v e in
         let r : fresh j v && not (eqb x v) ≡ false = rw e (and-false (fresh j v)) in
-        rw r (rw (← d) (get_or-set_same seen x 1 0 (rw m.long f)))
+        rw r (rw (← d) (get_or-set_same seen x true false (rw m.long f)))
     said v false e f h =
         let d = eqb-false x v e in
         let r : fresh j v && not (eqb x v) ≡ fresh j v = rw e (and-true (fresh j v)) in
-        rw r (get_or-set_other seen x v 1 0 (λ q. d (sym q)) ∙ m.says v h)
+        rw r (get_or-set_other seen x v true false (λ q. d (sym q)) ∙ m.says v h)
 
-    pub marks-more : x < most → Marks (j + 1) (set seen x 1)
+    pub marks-more : x < most → Marks (j + 1) (set seen x true)
     unfolding all
     marks-more f = record { long = simp length-set m.long; says = λ v h. rw (add-one, is) (said v (eqb x v) refl f h) }
 
@@ -55,16 +55,16 @@ module _ (w : ℕ) (s : List ℕ) (a most : ℕ) where
       index_past h = let t = le-ltb x n h in rw (is, t)
 
       module _ (h : x < n) (f : n ≤ most) where
-        pub index_new : get_or seen x 0 ≡ 0 → index_ok w s a n j ≡ true
+        pub index_new : get_or seen x false ≡ false → index_ok w s a n j ≡ true
         unfolding index_ok
         index_new e =
             let t = lt-ltb x n h in
             let r = fresh_of (fresh j x) (sym (m.says x (omega arith)) ∙ e) in
             rw (is, t, r)
 
-        pub index_old : (get_or seen x 0 ≡ 0 → ⊥) → index_ok w s a n j ≡ false
+        pub index_old : get_or seen x false ≡ true → index_ok w s a n j ≡ false
         unfolding index_ok
         index_old e =
             let t = lt-ltb x n h in
-            let r = seen_of (fresh j x) (λ z. e (m.says x (omega arith) ∙ z)) in
+            let r = seen_of (fresh j x) (sym (m.says x (omega arith)) ∙ e) in
             rw (is, t, r)

@@ -3,6 +3,7 @@
 
 ghost use Rattle.std.specs.Prelude.{◌≡◌, cond, eqb, ◌+◌, ◌*◌, ◌≤◌, length};
 ghost use Rattle.bounds.specs.Bounds.{SENSORS, OBSERVATIONS, ENGINE, OBSERVATION, ASSOCIATION};
+ghost use Rattle.refusals.specs.Refusals.{refused};
 ghost use Rattle.engine.specs.Little.{little};
 ghost use Rattle.engine.specs.Body.{layout_of, all, code_ok, present_ok, time_ok, zeros_ok, track_ok, association_ok, observation_ok, index_ok, size, head_ok, refusal};
 
@@ -11,28 +12,28 @@ use bounds::{
 };
 use engine::types::BodyKind;
 use engine::{body, little};
+use refusals::Refusal;
 use scalar::bits;
 
 // ---- one byte
 
-// The mode byte, or an outcome byte: all byte ranges but the three codes give refusal 5.
-fn code_refusal(b: u8) -> u8
-    ensures { result ≡ cond (code_ok b) 0 5 }
+// The mode byte, or an outcome byte.
+#[tactic(auto, unfolding(engine::specs::Body::code_ok))]
+fn code_ok(b: u8) -> bool
+    ensures { result ≡ code_ok b }
 {
-    match b {
-        0 | 1 | 2 => 0,
-        3..=255 => 5,
-    }
+    matches!(b, 0..=2)
 }
 
-// A present byte and the value that it speaks of: all byte ranges but 0 and 1 give refusal 5, and so does an absent value that is not zero.
-fn present_refusal(b: u8, v: u64) -> u8
-    ensures { result ≡ cond (present_ok b v) 0 5 }
+// A present byte and the value that it speaks of: an absent value is zero.
+#[tactic(auto, unfolding(engine::specs::Body::present_ok))]
+fn present_ok(b: u8, v: u64) -> bool
+    ensures { result ≡ present_ok b v }
 {
     match b {
-        0 => { if v == 0 { 0 } else { 5 } }
-        1 => 0,
-        2..=255 => 5,
+        0 => v == 0,
+        1 => true,
+        2..=255 => false,
     }
 }
 
@@ -93,7 +94,7 @@ fn head_ok(kind: BodyKind, s: &[u8]) -> bool
     if s.len() < body::header_size(kind) {
         return false;
     }
-    if code_refusal(s[0]) != 0 {
+    if !code_ok(s[0]) {
         return false;
     }
     let tracks = body::track_count(kind, s);
@@ -124,7 +125,7 @@ fn track_ok(s: &[u8], o: usize) -> bool
     requires { o + ENGINE ≤ length s.now }
     ensures { result ≡ track_ok s.now o }
 {
-    if present_refusal(s[o + 12], little::u32_at(s, o + 8)) != 0 {
+    if !present_ok(s[o + 12], little::u32_at(s, o + 8)) {
         return false;
     }
     little::u24_at(s, o + 13) == 0
@@ -134,12 +135,10 @@ fn tracks_ok(s: &[u8], from: usize, n: usize) -> bool
     requires { from + ENGINE * n ≤ length s.now }
     ensures { result ≡ all (λ i. track_ok s.now (from + ENGINE * i)) n }
 {
-    let mut i = 0;
-    while i < n {
+    for i in 0..n {
         if !track_ok(s, from + ENGINE * i) {
             return false;
         }
-        i += 1;
     }
     true
 }
@@ -149,13 +148,13 @@ fn narrow_association_ok(s: &[u8], o: usize) -> bool
     requires { o + ASSOCIATION ≤ length s.now }
     ensures { result ≡ association_ok 1 s.now o }
 {
-    if present_refusal(s[o + 1], little::u64_at(s, o + 8)) != 0 {
+    if !present_ok(s[o + 1], little::u64_at(s, o + 8)) {
         return false;
     }
-    if code_refusal(s[o + 2]) != 0 {
+    if !code_ok(s[o + 2]) {
         return false;
     }
-    if present_refusal(s[o + 3], little::u64_at(s, o + 16)) != 0 {
+    if !present_ok(s[o + 3], little::u64_at(s, o + 16)) {
         return false;
     }
     little::u32_at(s, o + 4) == 0
@@ -174,12 +173,10 @@ fn associations_ok(kind: BodyKind, s: &[u8], from: usize, n: usize) -> bool
     requires { from + ASSOCIATION * n ≤ length s.now }
     ensures { result ≡ all (λ j. association_ok (layout_of kind).width s.now (from + ASSOCIATION * j)) n }
 {
-    let mut j = 0;
-    while j < n {
+    for j in 0..n {
         if !association_ok(kind, s, from + ASSOCIATION * j) {
             return false;
         }
-        j += 1;
     }
     true
 }
@@ -201,12 +198,10 @@ fn observations_ok(s: &[u8], from: usize, n: usize) -> bool
     requires { from + OBSERVATION * n ≤ length s.now }
     ensures { result ≡ all (λ i. observation_ok s.now (from + OBSERVATION * i)) n }
 {
-    let mut i = 0;
-    while i < n {
+    for i in 0..n {
         if !observation_ok(s, from + OBSERVATION * i) {
             return false;
         }
-        i += 1;
     }
     true
 }
@@ -226,43 +221,41 @@ fn indices_ok(kind: BodyKind, s: &[u8], from: usize, n: usize, m: usize) -> bool
     requires { (from + ASSOCIATION * m ≤ length s.now) × (n ≤ OBSERVATIONS) }
     ensures { result ≡ all (index_ok (layout_of kind).width s.now from n) m }
 {
-    let mut seen = [0u8; OBSERVATIONS];
-    let mut j = 0;
-    while j < m {
+    let mut seen = [false; OBSERVATIONS];
+    for j in 0..m {
         let x = index_at(kind, s, from + ASSOCIATION * j);
         if n <= x {
             return false;
         }
-        if seen[x] != 0 {
+        if seen[x] {
             return false;
         }
-        seen[x] = 1;
-        j += 1;
+        seen[x] = true;
     }
     true
 }
 
-// The refusal that a body gets, in the table's order: 0 for none, 5, 6 or 7.
-pub fn refusal_of(kind: BodyKind, s: &[u8]) -> u8
-    ensures { result ≡ refusal (layout_of kind) s.now }
+// Whether bytes are a frame's body; or the refusal that they get, in the table's order: 5, 6 or 7.
+pub fn check_body(kind: BodyKind, s: &[u8]) -> Result<(), Refusal>
+    ensures { refused result ≡ refusal (layout_of kind) s.now }
 {
     if !head_ok(kind, s) {
-        return 5;
+        return Err(Refusal::Frame);
     }
     if !tracks_ok(s, body::header_size(kind), body::track_count(kind, s)) {
-        return 5;
+        return Err(Refusal::Frame);
     }
     let from = body::associations_from(kind, s);
     let associations = body::association_count(kind, s);
     if !associations_ok(kind, s, from, associations) {
-        return 5;
+        return Err(Refusal::Frame);
     }
     let observations = body::observation_count(kind, s);
     if !observations_ok(s, body::observations_from(kind, s), observations) {
-        return 6;
+        return Err(Refusal::Coordinate);
     }
     if !indices_ok(kind, s, from, observations, associations) {
-        return 7;
+        return Err(Refusal::Index);
     }
-    0
+    Ok(())
 }

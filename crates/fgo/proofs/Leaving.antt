@@ -14,7 +14,7 @@ use lib.Ieee.{Float}
 use mir.Syntax.{w64}
 use mir.Val.{to_z, of_z}
 use mir.Facts.{to_z-of_z}
-use Rattle.bounds.specs.Bounds.{ACCEPTED, DETECTIONS, FROZEN, OWNED, OWNERS}
+use Rattle.bounds.specs.Bounds.{ACCEPTED, DETECTIONS, FROZEN, OWNED}
 use Rattle.engine.specs.declared.config.FgoConfig.{FgoConfig}
 use Rattle.engine.specs.declared.types.Association.{Association}
 use Rattle.engine.specs.Frame.{Frame}
@@ -34,11 +34,11 @@ use Rattle.fgo_spec.proofs.Counting.{count-le, keep_same}
 use Rattle.fgo_spec.proofs.Windows.{detections_cons}
 use Rattle.fgo_spec.proofs.Growing.{freeze-length}
 use Rattle.fgo_state.specs.declared.state.FixedLagRefiner.{FixedLagRefiner}
-use Rattle.fgo_emit.specs.declared.Size.{Size}
-use Rattle.buffers.specs.declared.Answer.TheVariants.{Frame as Gives}
-use Rattle.buffers.specs.Answer.{Reply, gives}
+use Rattle.buffers.specs.declared.FrameSize.{FrameSize}
+use Rattle.buffers.specs.Answer.{Reply, gives, Frame as Gives}
 use Rattle.fgo_part.specs.Parts.{entry_in, table_in}
-use Rattle.fgo_state.specs.Memory.{Memory, memory, body_at, scan_in, scans_in, live_in, owners_in, state_of}
+use Rattle.fgo_state.specs.declared.state.Memory.{Memory}
+use Rattle.fgo_state.specs.Memory.{memory, body_at, scan_in, scans_in, live_in, owners_in, state_of}
 use Rattle.fgo_freeze.specs.Frozen.{FreezesScan, PartOk, PartsOk}
 use Rattle.fgo_emit.specs.Writing.{Roomy, emitted_in, PutsFrame, PutFrame}
 use Rattle.fgo_state.specs.Sound.{bodies_ok}
@@ -94,45 +94,45 @@ module _ (r : FixedLagRefiner) (m : Memory) (ready : Ready r m) (some : 1 ≤ r.
   n = r.first.0
 
   abbrev s : Scan
-  s = scan_in m.bodies m.columns n
+  s = scan_in m.scans.bodies m.scans.columns n
 
   -- the frozen parts before and after
   abbrev ps : List (ℕ × Prefix)
-  ps = table_in m.tracks m.filters r.frozen
+  ps = table_in m.parts.tracks m.parts.filters r.frozen
 
   abbrev fs : List (ℕ × Prefix)
   fs = freeze_scan r.config n s ps
 
   -- the scans that stay
   abbrev ss : List Scan
-  ss = scans_in m.bodies m.columns (n + 1) (r.held - 1)
+  ss = scans_in m.scans.bodies m.scans.columns (n + 1) (r.held - 1)
 
-  pub oldest-passes : body_refusal (body_at m.bodies m.columns n) ≡ 0
-  oldest-passes = subst (λ (i : ℕ). body_refusal (body_at m.bodies m.columns i) ≡ 0) (add-zero n) (ready.passes 0 some)
+  pub oldest-passes : body_refusal (body_at m.scans.bodies m.scans.columns n) ≡ 0
+  oldest-passes = subst (λ (i : ℕ). body_refusal (body_at m.scans.bodies m.scans.columns i) ≡ 0) (add-zero n) (ready.passes 0 some)
 
   timed : time_ok s.frame.time ≡ true
   unfolding scan_in frame_of
-  timed = (let b = body_at m.bodies m.columns n in (sized-body (layout b) b.bytes oldest-passes).time)
+  timed = (let b = body_at m.scans.bodies m.scans.columns n in (sized-body (layout b) b.bytes oldest-passes).time)
 
   -- its time, as the machine passes it on
-  pub time-is : {b : Body} {t : ℤ} → b ≡ body_at m.bodies m.columns n → (body_refusal b ≡ 0 → t ≡ (frame_in b).time) → to_z w64 (of_z w64 t) ≡ s.frame.time
+  pub time-is : {b : Body} {t : ℤ} → b ≡ body_at m.scans.bodies m.scans.columns n → (body_refusal b ≡ 0 → t ≡ (frame_in b).time) → to_z w64 (of_z w64 t) ≡ s.frame.time
   unfolding scan_in
   time-is {b} {t} e h =
       let u : t ≡ s.frame.time = h (ap (λ (k : Body). body_refusal k) e ∙ oldest-passes) ∙ ap (λ (k : Body). (frame_in k).time) e in
       to_z-of_z (time_fits t (ap time_ok u ∙ timed)) ∙ u
 
-  scans-are : scans_in m.bodies m.columns n r.held ≡ s ∷ ss
-  scans-are = rows-first (scan_in m.bodies m.columns) n r.held some ∙ ap (λ (i : ℕ). s ∷ scans_in m.bodies m.columns i (r.held - 1)) (sym (add-one n))
+  scans-are : scans_in m.scans.bodies m.scans.columns n r.held ≡ s ∷ ss
+  scans-are = rows-first (scan_in m.scans.bodies m.scans.columns) n r.held some ∙ ap (λ (i : ℕ). s ∷ scans_in m.scans.bodies m.scans.columns i (r.held - 1)) (sym (add-one n))
 
   room : length ps + window_count (s ∷ ss) ≤ DETECTIONS
-  room = omega (arith, ready.room, ap window_count scans-are, table_long m.tracks m.filters r.frozen)
+  room = omega (arith, ready.room, ap window_count scans-are, table_long m.parts.tracks m.parts.filters r.frozen)
 
-  pub freezes : FreezesScan m.bodies m.columns n m.tracks m.filters r.frozen
+  pub freezes : FreezesScan m.scans.bodies m.scans.columns n m.parts.tracks m.parts.filters r.frozen
   freezes =
       record {
         passes = oldest-passes;
         ordered = ready.ordered;
-        room = omega (arith, room, detections_cons s ss, table_long m.tracks m.filters r.frozen);
+        room = omega (arith, room, detections_cons s ss, table_long m.parts.tracks m.parts.filters r.frozen);
       }
 
   frozen-few : length fs ≤ FROZEN
@@ -141,7 +141,7 @@ module _ (r : FixedLagRefiner) (m : Memory) (ready : Ready r m) (some : 1 ≤ r.
   frozen-parts : All PartOk fs
   frozen-parts =
       parts-frozen r.config n s.frame timed s.frame.associations s.ids ps
-      (rows_all PartOk (entry_in m.tracks m.filters) 0 r.frozen (λ k l. subst (λ (i : ℕ). PartOk (entry_in m.tracks m.filters i)) (sym (zero-add k)) (ready.parts k l)))
+      (rows_all PartOk (entry_in m.parts.tracks m.parts.filters) 0 r.frozen (λ k l. subst (λ (i : ℕ). PartOk (entry_in m.parts.tracks m.parts.filters i)) (sym (zero-add k)) (ready.parts k l)))
 
   -- ---- after freezing
 
@@ -157,11 +157,11 @@ module _ (r : FixedLagRefiner) (m : Memory) (ready : Ready r m) (some : 1 ≤ r.
               (row_of PartOk (entry_in tracks filters) 0 frozen k (subst (All PartOk) (sym froze) frozen-parts) l);
         }
 
-    pub puts : {ws : List ℕ} {ns : List Float} → Roomy ws ns → PutsFrame m.bodies m.columns n tracks filters frozen ws ns
+    pub puts : {ws : List ℕ} {ns : List Float} → Roomy ws ns → PutsFrame m.scans.bodies m.scans.columns n tracks filters frozen ws ns
     puts room = record { passes = oldest-passes; parts = parts refl; room = room }
 
     -- what is written is what is emitted
-    emits : emitted_in r.config m.bodies m.columns n tracks filters frozen ≡ spec.emit r.config n ps s
+    emits : emitted_in r.config m.scans.bodies m.scans.columns n tracks filters frozen ≡ spec.emit r.config n ps s
     unfolding spec.emit
     emits = rw froze
 
@@ -181,18 +181,18 @@ module _ (r : FixedLagRefiner) (m : Memory) (ready : Ready r m) (some : 1 ≤ r.
 
       -- ---- the owners
 
-      pub keeps : (owners : List ℕ) → length owners ≡ OWNERS → (n + 1 + (r.held - 1) ≤ ACCEPTED + 1) × (kept ≤ FROZEN) × (r.owned ≤ OWNED) × (length owners ≡ OWNERS)
-      keeps owners long = ((forgets refl).0, kept-few, ready.owners, long)
+      pub keeps : (n + 1 + (r.held - 1) ≤ ACCEPTED + 1) × (kept ≤ FROZEN) × (r.owned ≤ OWNED)
+      keeps = ((forgets refl).0, kept-few, ready.owners)
 
-      module _ (owners' : List ℕ) (owned : ℕ) (alive : owners_in owners' owned ≡ kept_owners m.bodies m.columns (n + 1) (r.held - 1) tracks' kept (owners_in m.owners r.owned)) where
+      module _ (owners' : List ℕ) (owned : ℕ) (alive : owners_in owners' owned ≡ kept_owners m.scans.bodies m.scans.columns (n + 1) (r.held - 1) tracks' kept (owners_in m.owners r.owned)) where
         owners-left : owners_in owners' owned ≡ live_owners (table_in tracks' filters' kept) ss (owners_in m.owners r.owned)
         unfolding kept_owners
         owners-left =
             let os = owners_in m.owners r.owned in
             alive
-            ∙ keep_same (λ o. live_in m.bodies m.columns (n + 1) (r.held - 1) tracks' kept o.1) (λ o. live (table_in tracks' filters' kept) ss o.1) os
-            (mem_All (λ o. live_in m.bodies m.columns (n + 1) (r.held - 1) tracks' kept o.1 ≡ live (table_in tracks' filters' kept) ss o.1) os
-            (λ o i. live_rule m.bodies m.columns (n + 1) (r.held - 1) tracks' filters' kept o.1))
+            ∙ keep_same (λ o. live_in m.scans.bodies m.scans.columns (n + 1) (r.held - 1) tracks' kept o.1) (λ o. live (table_in tracks' filters' kept) ss o.1) os
+            (mem_All (λ o. live_in m.scans.bodies m.scans.columns (n + 1) (r.held - 1) tracks' kept o.1 ≡ live (table_in tracks' filters' kept) ss o.1) os
+            (λ o i. live_rule m.scans.bodies m.scans.columns (n + 1) (r.held - 1) tracks' filters' kept o.1))
 
         -- ---- the end
 
@@ -209,45 +209,45 @@ module _ (r : FixedLagRefiner) (m : Memory) (ready : Ready r m) (some : 1 ≤ r.
             }
 
         abbrev after : Memory
-        after = memory m.bodies m.columns owners' tracks' filters'
+        after = memory m.scans.bodies m.scans.columns owners' tracks' filters'
 
         state-left : state_of refiner after ≡ spec.leave r.config (state_of r m) s ss
         unfolding state_of spec.leave
         state-left = rw (owners-left, left, add-one n)
 
-        bodies-left : bodies_ok m.bodies m.columns n r.held ≡ true → bodies_ok m.bodies m.columns (n + 1) (r.held - 1) ≡ true
+        bodies-left : bodies_ok m.scans.bodies m.scans.columns n r.held ≡ true → bodies_ok m.scans.bodies m.scans.columns (n + 1) (r.held - 1) ≡ true
         unfolding bodies_ok
         bodies-left h =
             all_true _ (r.held - 1)
             (λ i l.
             let q : n + suc i ≡ n + 1 + i = omega arith in
-            subst (λ (k : ℕ). eqb (body_refusal (body_at m.bodies m.columns k)) 0 ≡ true) q
-            (all-at (λ j. eqb (body_refusal (body_at m.bodies m.columns (n + j))) 0) r.held (suc i) h (omega arith)))
+            subst (λ (k : ℕ). eqb (body_refusal (body_at m.scans.bodies m.scans.columns k)) 0 ≡ true) q
+            (all-at (λ j. eqb (body_refusal (body_at m.scans.bodies m.scans.columns (n + j))) 0) r.held (suc i) h (omega arith)))
 
         -- a frame lists no more than the frozen parts
         sized : Sized (spec.emit r.config n ps s)
         unfolding spec.emit listing scan_in
         sized =
-            let b = body_at m.bodies m.columns n in
+            let b = body_at m.scans.bodies m.scans.columns n in
             let passing = keep (freezing.listable r.config s.frame.time) fs in
             record {
               tracks = omega (arith, frozen-few, length-map passing (λ e. report r.config s.frame.time e.0 e.1), count-le (freezing.listable r.config s.frame.time) fs);
               associations = rw (associations_long b) (associations_few b oldest-passes);
               sensors = rw (sensors_long b) (sensors_few b oldest-passes);
-              complete = scan_complete m.bodies m.columns n;
+              complete = scan_complete m.scans.bodies m.scans.columns n;
             }
 
         pub leaving_ends :
-            {z : Size} {ws ws' : List ℕ} {ns ns' : List Float} →
-            PutFrame (emitted_in r.config m.bodies m.columns n tracks filters frozen) z ws ns ws' ns' →
-            Promised (spec.takes r.config (state_of r m)) r m ws ns (record { answer = Gives z.words z.numbers; state = refiner }) after ws' ns'
+            {z : FrameSize} {ws ws' : List ℕ} {ns ns' : List Float} →
+            PutFrame (emitted_in r.config m.scans.bodies m.scans.columns n tracks filters frozen) z ws ns ws' ns' →
+            Promised (spec.takes r.config (state_of r m)) r m ws ns (Gives z.words z.numbers) refiner after ws' ns'
         unfolding state_of spec.takes spec.freeze_oldest
         leaving_ends {z} {ws} {ws'} {ns} {ns'} w =
             let g : Emitted = spec.emit r.config n ps s in
             let a : Reply Emitted × spec.State = (gives g, spec.leave r.config (state_of r m) s ss) in
             let is : spec.takes r.config (state_of r m) ≡ a = ap (spec.freeze_oldest r.config (state_of r m)) scans-are in
             let put = subst (λ e. PutFrame e z ws ns ws' ns') emits w in
-            subst (λ x. Promised x r m ws ns (record { answer = Gives z.words z.numbers; state = refiner }) after ws' ns') (sym is)
+            subst (λ x. Promised x r m ws ns (Gives z.words z.numbers) refiner after ws' ns') (sym is)
             (record {
               ends = record { answered = rw (put.words_count, put.numbers_count); state = state-left; words = put.words; numbers = put.numbers; small = sized-small g sized; unchanged = tt };
               settings = refl;

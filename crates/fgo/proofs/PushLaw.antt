@@ -8,8 +8,7 @@ use lib.ListN.{length}
 use lib.Dec.{ltb}
 use lib.Ieee.{Float}
 use borrow.Author.Tests.{lt-ltb, le-ltb, eq-eqb}
-use Rattle.buffers.specs.declared.Answer.TheVariants.{Held}
-use Rattle.buffers.specs.Answer.{pushed, Reply, refused, waits, Unchanged}
+use Rattle.buffers.specs.Answer.{pushed, Reply, refused, waits, Unchanged, Answer, Held}
 use Rattle.engine.specs.Config.{lag}
 use Rattle.engine.specs.Body.{Body}
 use Rattle.engine.proofs.Every.{all_true}
@@ -18,13 +17,13 @@ use Rattle.fgo_spec.specs.Windows.{Scan}
 use Rattle.fgo_spec.specs.Emitting.{Emitted}
 use Rattle.fgo_spec.specs.Refiner.{State, freeze_oldest, settle, takes}
 use Rattle.fgo_state.specs.declared.state.FixedLagRefiner.{FixedLagRefiner}
-use Rattle.fgo_state.specs.Memory.{Memory, scan_in, state_of}
+use Rattle.fgo_state.specs.declared.state.Memory.{Memory}
+use Rattle.fgo_state.specs.Memory.{scan_in, state_of}
 use Rattle.fgo_state.specs.Sound.{bodies_ok, sound_ok}
 use Rattle.fgo_refuse.specs.Refusing.{Refuses, push_refusal}
 use Rattle.fgo_refuse.proofs.Refusals.{push_refused, push-accepted}
 use Rattle.fgo_arrive.specs.Arriving.{Arrived}
 use Rattle.fgo_arrive.proofs.ReadyLaw.{sound_tells, sound_ready}
-use Rattle.fgo.specs.declared.Pushed.{Pushed}
 use Rattle.fgo.specs.Promise.{later_refusal, due, Promised}
 use Rattle.fgo.proofs.Answering.{due_passed}
 
@@ -43,30 +42,30 @@ module _ (r : FixedLagRefiner) (m : Memory) (b : Body) (ws : List ℕ) (ns : Lis
   replied = due r m (pushed b) ws ns
 
   -- 5 to 10
-  pub push_numbered : (k : ℕ) → k ≡ push_refusal r m.bodies m.columns m.owners b → (k ≡ 0 → ⊥) → replied ≡ (refused k, t)
+  pub push_numbered : (k : ℕ) → k ≡ push_refusal r m.scans.bodies m.scans.columns m.owners b → (k ≡ 0 → ⊥) → replied ≡ (refused k, t)
   push_numbered zero h n = absurd (n refl)
   push_numbered (suc k) h n = due_passed r m ws ns (pushed b) none ∙ push_refused r m b k (sym h)
 
   -- ---- a frame that is accepted
 
-  module _ (accepted : push_refusal r m.bodies m.columns m.owners b ≡ 0) (u : FixedLagRefiner) (m' : Memory) (a : Arrived r m b u m') where
+  module _ (accepted : push_refusal r m.scans.bodies m.scans.columns m.owners b ≡ 0) (u : FixedLagRefiner) (m' : Memory) (a : Arrived r m b u m') where
     push-settles : replied ≡ settle r.config (state_of u m') (ltb (lag r.config) u.held)
     unfolding state_of
     push-settles =
         due_passed r m ws ns (pushed b) none ∙ push-accepted r m b accepted
         ∙ ap (λ x. settle r.config x (ltb (lag r.config) (length x.scans))) (sym a.state)
-        ∙ ap (λ (n : ℕ). settle r.config (state_of u m') (ltb (lag r.config) n)) (length-rows (scan_in m'.bodies m'.columns) u.first.0 u.held)
+        ∙ ap (λ (n : ℕ). settle r.config (state_of u m') (ltb (lag r.config) n)) (length-rows (scan_in m'.scans.bodies m'.scans.columns) u.first.0 u.held)
 
-    bodies-pass : bodies_ok m'.bodies m'.columns u.first.0 u.held ≡ true
+    bodies-pass : bodies_ok m'.scans.bodies m'.scans.columns u.first.0 u.held ≡ true
     unfolding bodies_ok
     bodies-pass = all_true _ u.held (λ i l. eq-eqb _ 0 (a.ready.passes i l))
 
     -- no more are held than the lag
-    pub push-held : u.held ≤ lag u.config → Promised replied r m ws ns (record { answer = Held; state = u }) m' ws ns
+    pub push-held : u.held ≤ lag u.config → Promised replied r m ws ns Held u m' ws ns
     unfolding settle
     push-held h =
         let e : replied ≡ (waits, state_of u m') = push-settles ∙ ap (settle r.config (state_of u m')) (le-ltb _ _ (subst (λ c. u.held ≤ lag c) a.settings h)) in
-        subst (λ x. Promised x r m ws ns (record { answer = Held; state = u }) m' ws ns) (sym e)
+        subst (λ x. Promised x r m ws ns Held u m' ws ns) (sym e)
         (record {
           ends = record { answered = refl; state = refl; words = refl; numbers = refl; small = tt; unchanged = tt };
           settings = a.settings;
@@ -81,14 +80,14 @@ module _ (r : FixedLagRefiner) (m : Memory) (b : Body) (ws : List ℕ) (ns : Lis
     oldest-gives x (z ∷ ss) q n h = tt
 
     pub push_leaves :
-        lag u.config < u.held → {p : Pushed} {n : Memory} {ws' : List ℕ} {ns' : List Float} → Promised (takes u.config (state_of u m')) u m' ws ns p n ws' ns' →
-        Promised replied r m ws ns p n ws' ns'
+        lag u.config < u.held → {g : Answer} {v : FixedLagRefiner} {n : Memory} {ws' : List ℕ} {ns' : List Float} → Promised (takes u.config (state_of u m')) u m' ws ns g v n ws' ns' →
+        Promised replied r m ws ns g v n ws' ns'
     unfolding settle state_of takes
-    push_leaves h {p} {n} {ws'} {ns'} k =
+    push_leaves h {g} {v} {n} {ws'} {ns'} k =
         let e : replied ≡ takes u.config (state_of u m') =
         push-settles ∙ ap (settle r.config (state_of u m')) (lt-ltb _ _ (subst (λ c. lag c < u.held) a.settings h))
         ∙ ap (λ c. freeze_oldest c (state_of u m') (state_of u m').scans) (sym a.settings) in
-        subst (λ x. Promised x r m ws ns p n ws' ns') (sym e)
+        subst (λ x. Promised x r m ws ns g v n ws' ns') (sym e)
         (record {
           ends =
               record {
@@ -98,8 +97,8 @@ module _ (r : FixedLagRefiner) (m : Memory) (b : Body) (ws : List ℕ) (ns : Lis
                 numbers = k.ends.numbers;
                 small = k.ends.small;
                 unchanged =
-                    oldest-gives (state_of u m') (state_of u m').scans p.state n
-                    (omega (arith, length-rows (scan_in m'.bodies m'.columns) u.first.0 u.held));
+                    oldest-gives (state_of u m') (state_of u m').scans v n
+                    (omega (arith, length-rows (scan_in m'.scans.bodies m'.scans.columns) u.first.0 u.held));
               };
           settings = k.settings ∙ a.settings;
           bodies = λ h. k.bodies bodies-pass;

@@ -1,8 +1,9 @@
 -- What open, push, take and counters promise, for any refiner value, any bytes, any buffers and any contents of the lent memory. Definitions only.
-use Rattle.std.specs.Prelude.{ℕ, zero, suc, ◌≤◌, ◌≡◌, true, cond, List, length, Float}
+use Rattle.std.specs.Prelude.{ℕ, zero, suc, ◌≤◌, ◌≡◌, true, cond, List, length, Float, Result, Ok, Err}
 use Rattle.bounds.specs.Bounds.{ASSOCIATIONS, SENSORS, TRACKS}
-use Rattle.buffers.specs.declared.Answer.TheVariants.{Refused}
-use Rattle.buffers.specs.Answer.{Opening, opened, unopened, Op, Reply, refused, waits, gives, roomy, checked, Ends}
+use Rattle.refusals.specs.declared.Refusal.{Refusal}
+use Rattle.refusals.specs.Refusals.{number_of}
+use Rattle.buffers.specs.Answer.{Op, Reply, refused, waits, gives, roomy, checked, Ends, Answer}
 use Rattle.engine.specs.declared.config.FgoConfig.{FgoConfig}
 use Rattle.engine.specs.Config.{legal}
 use Rattle.engine.specs.Body.{Body}
@@ -10,13 +11,9 @@ use Rattle.fgo_spec.specs.declared.moves.FgoCounters.{FgoCounters}
 use Rattle.fgo_spec.specs.Emitting.{Emitted, written}
 use Rattle.fgo_spec.specs.Refiner.{State, reply}
 use Rattle.fgo_state.specs.declared.state.FixedLagRefiner.{FixedLagRefiner}
-use Rattle.fgo_state.specs.Memory.{Memory, state_of}
+use Rattle.fgo_state.specs.declared.state.Memory.{Memory}
+use Rattle.fgo_state.specs.Memory.{state_of}
 use Rattle.fgo_state.specs.Sound.{bodies_ok, sound_ok}
-use Rattle.fgo.specs.declared.Opened.{Opened}
-use Rattle.fgo.specs.declared.Opened.TheVariants.{Refused as NotOpened, Ready}
-use Rattle.fgo.specs.declared.Counted.{Counted}
-use Rattle.fgo.specs.declared.Counted.TheVariants.{Refused as NotCounted, Moves}
-use Rattle.fgo.specs.declared.Pushed.{Pushed}
 
 -- ---- opening
 
@@ -36,11 +33,6 @@ new_by c =
 -- 1: "a setting out of bounds or not finite"; 0 for none
 abbrev pub open_refusal : FgoConfig → ℕ
 open_refusal c = cond (legal c) 0 1
-
--- document 01's number for an opening that is refused, or the new refiner
-abbrev pub opening_of : Opened → Opening FixedLagRefiner
-opening_of (NotOpened n) = unopened n
-opening_of (Ready r) = opened r
 
 -- ---- push and take
 
@@ -65,21 +57,27 @@ GivenSized (refused n) = Unit {0}
 GivenSized waits = Unit {0}
 GivenSized (gives e) = Sized e
 
--- A call that is due a, and is given the refiner r, the memory m and the output buffers ws and ns, gives p and leaves m', ws' and ns': answer, state and
--- output. Settings stay, bodies that pass stay the only ones held, and a frame that is given is sized so.
-pub record Promised (a : Reply Emitted × State) (r : FixedLagRefiner) (m : Memory) (ws : List ℕ) (ns : List Float) (p : Pushed) (m' : Memory) (ws' : List ℕ) (ns' : List Float) : Type 0 where
-  pub ends : Ends written state_of a r m ws ns p.answer p.state m' ws' ns'
-  pub settings : p.state.config ≡ r.config
+-- A call that is due a, and is given the refiner r, the memory m and the output buffers ws and ns, answers o and leaves u, m', ws' and ns': state,
+-- memory and output. Settings stay, bodies that pass stay the only ones held, and a frame that is given is sized so.
+pub record Promised (a : Reply Emitted × State) (r : FixedLagRefiner) (m : Memory) (ws : List ℕ) (ns : List Float) (o : Answer) (u : FixedLagRefiner) (m' : Memory) (ws' : List ℕ) (ns' : List Float) : Type 0 where
+  pub ends : Ends written state_of a r m ws ns o u m' ws' ns'
+  pub settings : u.config ≡ r.config
   pub bodies :
-      bodies_ok m.bodies m.columns r.first.0 r.held ≡ true →
-      bodies_ok m'.bodies m'.columns p.state.first.0 p.state.held ≡ true
+      bodies_ok m.scans.bodies m.scans.columns r.first.0 r.held ≡ true →
+      bodies_ok m'.scans.bodies m'.scans.columns u.first.0 u.held ≡ true
   pub sized : GivenSized a.0
 
--- a refusal, which keeps the refiner
-abbrev pub refused_as : FixedLagRefiner → ℕ → Pushed
-refused_as r n = record { answer = Refused n; state = r }
-
 -- ---- counters
+
+-- what counters answers, by value: a refusal's number, or the moves made so far
+pub data Counted : Type 0 where
+  NotCounted : ℕ → Counted
+  Moves : FgoCounters → Counted
+
+-- what the code answers, so read
+abbrev pub counted_in : Result FgoCounters Refusal → Counted
+counted_in (Ok k) = Moves k
+counted_in (Err r) = NotCounted (number_of r)
 
 -- by a refusal, 0 for none
 abbrev pub counted_by : ℕ → FgoCounters → Counted

@@ -1,14 +1,10 @@
 -- A frame that no number refuses, at a refiner that meets the rule: the rule and the room as fgo_spec has them, and what holding the frame asks.
 -- Assumes nothing.
-use Prim.Native.Nat.{ℕ, suc, ◌+◌, ◌≤◌, ◌<◌}
+use Prim.Native.Nat.{◌+◌, ◌≤◌, ◌<◌}
 use native.Mathlib.Omega.{arith}
 use mathlib.Core.Path.{◌≡◌, refl, ◌∙◌}
 use mathlib.Core.Bool.{Bool, true, false}
-use mathlib.Core.List.{List, [], ◌∷◌}
 use mathlib.Core.Option.{none, some-ne-none}
-use lib.ListN.{get_or}
-use mir.Syntax.{w8}
-use mir.Val.{Fits}
 use borrow.Author.Tests.{ltb-false, leb-false}
 use Rattle.bounds.specs.Bounds.{ACCEPTED, COUNTED}
 use Rattle.engine.specs.Body.{Body, frame_in, body_refusal}
@@ -17,19 +13,13 @@ use Rattle.fgo_spec.specs.Refiner.{first_of}
 use Rattle.fgo_spec.specs.Rule.{Bytes, Rule}
 use Rattle.fgo_spec.proofs.Accepting.{Room, has_room}
 use Rattle.fgo_state.specs.declared.state.FixedLagRefiner.{FixedLagRefiner}
-use Rattle.fgo_state.specs.Memory.{Memory, state_of}
+use Rattle.fgo_state.specs.declared.state.Memory.{Memory}
+use Rattle.fgo_state.specs.Memory.{state_of}
 use Rattle.fgo_refuse.specs.Refusing.{full_in}
-use Rattle.fgo_arrive.specs.Arriving.{Typed, Holds, Arrives}
+use Rattle.fgo_arrive.specs.Arriving.{Holds, Arrives}
 use Rattle.fgo_state.proofs.Testing.{tested}
 use Rattle.fgo_arrive.proofs.ReadyLaw.{sound_tells}
 use Rattle.fgo_refuse.proofs.Refusals.{found_same, none_found}
-
--- ---- bytes
-
--- a list whose entries are bytes
-pub bytes_of : (l : List ℕ) → ((i : ℕ) → Fits w8 (get_or l i 0)) → Bytes l
-bytes_of [] h = tt
-bytes_of (b ∷ l) h = ((h 0).fits, bytes_of l (λ i. h (suc i)))
 
 -- ---- 8
 
@@ -75,11 +65,11 @@ module _ (r : FixedLagRefiner) (m : Memory) (s : Body) (a : Arrives r m s) where
       first-false true b d e = absurd (some-ne-none _ e)
       first-false false b d e = refl
 
-  module _ (l : Typed m.bodies m.columns m.owners) where
+  module _ (l : Bytes m.scans.bodies) where
     pub rule : Rule r.config (state_of r m)
-    rule = ((tested r m l.bytes).0 a.sound).rule
+    rule = ((tested r m l).0 a.sound).rule
 
-    pub holds : Holds r s m.bodies m.columns m.owners
+    pub holds : Holds r s
     holds =
         let k = sound_tells r m a.sound in
         record {
@@ -88,7 +78,4 @@ module _ (r : FixedLagRefiner) (m : Memory) (s : Body) (a : Arrives r m s) where
           early = omega (arith, spaced.scans);
           owned = k.owners;
           ids = spaced.ids;
-          bodies_long = l.bodies_long;
-          columns_long = l.columns_long;
-          owners_long = l.owners_long;
         }

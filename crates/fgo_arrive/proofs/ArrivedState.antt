@@ -21,9 +21,10 @@ use Rattle.fgo_spec.proofs.Arrival.{arrived}
 use Rattle.search_rows.specs.declared.moves.Tally.{Tally}
 use Rattle.fgo_state.specs.declared.state.FixedLagRefiner.{FixedLagRefiner}
 use Rattle.fgo_part.specs.Parts.{entry_in}
-use Rattle.fgo_state.specs.Memory.{Memory, memory, scans_in, live_in, owner_entry, owners_in, state_of}
+use Rattle.fgo_state.specs.declared.state.Memory.{Memory}
+use Rattle.fgo_state.specs.Memory.{memory, scans_in, live_in, owner_entry, owners_in, state_of}
 use Rattle.fgo_place.specs.Owning.{kept_owners}
-use Rattle.fgo_arrive.specs.Arriving.{Ready, Typed, Arrives, HeldBy, improved_in, SearchedHeld, Arrived}
+use Rattle.fgo_arrive.specs.Arriving.{Ready, Arrives, HeldBy, improved_in, SearchedHeld, Arrived}
 use Rattle.fgo_state.proofs.Live.{live_rule}
 use Rattle.fgo_arrive.proofs.Placements.{before}
 use Rattle.fgo_arrive.proofs.ReadyLaw.{sound_ready}
@@ -31,7 +32,7 @@ use Rattle.fgo_arrive.proofs.Accepted.{room, rule, holds}
 use Rattle.fgo_arrive.proofs.HeldFrame.{v, held_as, next_held, owners_held, scans_held}
 
 -- a refiner after the search: so many owners, the next id and the counters
-abbrev after : FixedLagRefiner → ℕ → Tally → FixedLagRefiner
+abbrev pub after : FixedLagRefiner → ℕ → Tally → FixedLagRefiner
 after u k y =
     record {
       config = u.config;
@@ -49,25 +50,25 @@ owners_long owners n = length-rows (owner_entry owners) 0 n
 -- the entries that keep_owners leaves
 abbrev Keeps : FixedLagRefiner → Memory → List ℕ → List ℕ → List ℕ → ℕ → Type 0
 Keeps u m columns owners owners' k =
-    owners_in owners' k ≡ kept_owners m.bodies columns u.first.0 u.held m.tracks u.frozen (owners_in owners u.owned)
+    owners_in owners' k ≡ kept_owners m.scans.bodies columns u.first.0 u.held m.parts.tracks u.frozen (owners_in owners u.owned)
 
-module _ (r : FixedLagRefiner) (m : Memory) (s : Body) (a : Arrives r m s) (l : Typed m.bodies m.columns m.owners) (b : Bytes s.bytes) where
+module _ (r : FixedLagRefiner) (m : Memory) (s : Body) (a : Arrives r m s) (l : Bytes m.scans.bodies) (b : Bytes s.bytes) where
   abbrev t : State
   t = state_of r m
 
   abbrev f : Frame
   f = frame_in s
 
-  module _ (u : FixedLagRefiner) (bodies columns owners : List ℕ) (h : HeldBy r s m.bodies m.columns m.owners u bodies columns owners) where
+  module _ (u : FixedLagRefiner) (bodies columns owners : List ℕ) (h : HeldBy r s m.scans.bodies m.scans.columns m.owners u bodies columns owners) where
     abbrev m' : Memory
-    m' = memory bodies columns owners m.tracks m.filters
+    m' = memory bodies columns owners m.parts.tracks m.parts.filters
 
     abbrev w : FixedLagRefiner
     w = v r m s a l b u bodies columns owners h
 
     module _ (columns' owners' owners'' : List ℕ) (k : ℕ) (y : Tally) (q : SearchedHeld w m' columns' owners' y) (o : Keeps w m' columns' owners' owners'' k) where
       abbrev m'' : Memory
-      m'' = memory bodies columns' owners'' m.tracks m.filters
+      m'' = memory bodies columns' owners'' m.parts.tracks m.parts.filters
 
       -- what the search finds is what it finds as defined
       found_as : improved_in w m' ≡ searched r.config t f
@@ -87,7 +88,7 @@ module _ (r : FixedLagRefiner) (m : Memory) (s : Body) (a : Arrives r m s) (l : 
       owners-as =
           o
           ∙ ap (λ g. keep g (owners_in owners' w.owned))
-          (fun_ext (λ p. live_rule bodies columns' r.first.0 (r.held + 1) m.tracks m.filters r.frozen p.1))
+          (fun_ext (λ p. live_rule bodies columns' r.first.0 (r.held + 1) m.parts.tracks m.parts.filters r.frozen p.1))
           ∙ ap (λ ss. live_owners t.prefixes ss (owners_in owners' w.owned)) scans-as
           ∙ ap (live_owners t.prefixes e.scans)
           (q.owners
@@ -115,7 +116,7 @@ module _ (r : FixedLagRefiner) (m : Memory) (s : Body) (a : Arrives r m s) (l : 
             owners_long owners'' k,
             owners_long owners' w.owned,
             ap length o,
-            count-le (λ p. live_in bodies columns' r.first.0 (r.held + 1) m.tracks r.frozen p.1) (owners_in owners' w.owned),
+            count-le (λ p. live_in bodies columns' r.first.0 (r.held + 1) m.parts.tracks r.frozen p.1) (owners_in owners' w.owned),
             h.owned,
           )
 
@@ -127,7 +128,7 @@ module _ (r : FixedLagRefiner) (m : Memory) (s : Body) (a : Arrives r m s) (l : 
             arith,
             (arrived r.config t f (λ x. x < t.next_id) (before r.config t f (rule r m s a l))).few,
             (room r m s a).sum,
-            length-rows (entry_in m.tracks m.filters) 0 r.frozen,
+            length-rows (entry_in m.parts.tracks m.parts.filters) 0 r.frozen,
           ))
 
       ready : Ready (after w k y) m''
@@ -150,8 +151,8 @@ module _ (r : FixedLagRefiner) (m : Memory) (s : Body) (a : Arrives r m s) (l : 
     -- of the refiner that holds the frame
     pub arrives :
         (columns' owners' owners'' : List ℕ) (k : ℕ) (y : Tally) → SearchedHeld u m' columns' owners' y → Keeps u m' columns' owners' owners'' k →
-        Arrived r m s (after u k y) (memory bodies columns' owners'' m.tracks m.filters)
+        Arrived r m s (after u k y) (memory bodies columns' owners'' m.parts.tracks m.parts.filters)
     arrives columns' owners' owners'' k y q o =
         let e = held_as r m s a l b u bodies columns owners h in
-        subst (λ x. Arrived r m s (after x k y) (memory bodies columns' owners'' m.tracks m.filters)) e
+        subst (λ x. Arrived r m s (after x k y) (memory bodies columns' owners'' m.parts.tracks m.parts.filters)) e
         (arrived-as columns' owners' owners'' k y (subst (λ x. SearchedHeld x m' columns' owners' y) (sym e) q) (subst (λ x. Keeps x m' columns' owners' owners'' k) (sym e) o))

@@ -9,10 +9,8 @@ use mathlib.Core.Logic.{inl, inr}
 use mathlib.Core.Option.{Option, none, some}
 use lib.ListN.{length}
 use Rattle.bounds.specs.Bounds.{DETECTIONS}
-use Rattle.engine.specs.declared.types.Associated.{Associated}
-use Rattle.engine.specs.declared.types.Associated.TheVariants.{Nobody, Track}
 use Rattle.engine.specs.declared.types.Association.{Association}
-use Rattle.engine.specs.Frame.{Frame}
+use Rattle.engine.specs.Frame.{Frame, Associated}
 use Rattle.engine.specs.Body.{Body, frame_in, body_refusal}
 use Rattle.fgo_spec.specs.Lists.{find}
 use Rattle.fgo_spec.specs.Windows.{Scan, Prefix, window_count}
@@ -28,19 +26,21 @@ use Rattle.fgo_spec.proofs.Placement.{Has, Placed, joined_ids}
 use Rattle.fgo_spec.proofs.Arrival.{place_is}
 use Rattle.search.specs.Represents.{Spare}
 use Rattle.fgo_state.specs.declared.state.FixedLagRefiner.{FixedLagRefiner}
-use Rattle.fgo_state.specs.Memory.{Memory, memory, body_at, scans_in, owners_in, state_of}
-use Rattle.fgo_arrive.specs.Arriving.{Typed, Arrives, placed_by, HeldBy, SearchesHeld}
+use Rattle.fgo_state.specs.declared.state.Memory.{Memory}
+use Rattle.fgo_state.specs.Memory.{memory, body_at, scans_in, owners_in, state_of}
+use Rattle.fgo_arrive.specs.Arriving.{Arrives, placed_by, HeldBy, SearchesHeld}
 use Rattle.fgo_state.proofs.Counts.{associations_long, associations_few}
 use Rattle.fgo_arrive.proofs.Placements.{before, places}
 use Rattle.fgo_arrive.proofs.ReadyLaw.{sound_tells, sound_ready}
 use Rattle.fgo_arrive.proofs.Accepted.{passes, room, spaced, rule, holds}
+use Rattle.std.specs.Prelude.{None, Some}
 
 -- ---- placing gives no more ids than the frame has associations
 
 module _ (ps : List (ℕ × Prefix)) (ss : List Scan) where
   one_next : (p : Placing) (o : Associated) → (place_one ps ss p o).next_id ≤ suc p.next_id
-  one_next p Nobody = omega arith
-  one_next p (Track e) = go (free_owner ps ss p.ids (find e.0 p.owners))
+  one_next p None = omega arith
+  one_next p (Some e) = go (free_owner ps ss p.ids (find e.0 p.owners))
     where
       go : (x : Option ℕ) → (place_track p e.0 x).next_id ≤ suc p.next_id
       go none = le_refl _
@@ -51,7 +51,7 @@ module _ (ps : List (ℕ × Prefix)) (ss : List Scan) where
   all-next [] p = omega arith
   all-next (a ∷ l) p = omega (arith, one_next p a.track, all-next l (place_one ps ss p a.track))
 
-module _ (r : FixedLagRefiner) (m : Memory) (s : Body) (a : Arrives r m s) (l : Typed m.bodies m.columns m.owners) (b : Bytes s.bytes) where
+module _ (r : FixedLagRefiner) (m : Memory) (s : Body) (a : Arrives r m s) (l : Bytes m.scans.bodies) (b : Bytes s.bytes) where
   abbrev t : State
   t = state_of r m
 
@@ -91,9 +91,9 @@ module _ (r : FixedLagRefiner) (m : Memory) (s : Body) (a : Arrives r m s) (l : 
 
   -- ---- the lent memory after it
 
-  module _ (u : FixedLagRefiner) (bodies columns owners : List ℕ) (h : HeldBy r s m.bodies m.columns m.owners u bodies columns owners) where
+  module _ (u : FixedLagRefiner) (bodies columns owners : List ℕ) (h : HeldBy r s m.scans.bodies m.scans.columns m.owners u bodies columns owners) where
     abbrev m' : Memory
-    m' = memory bodies columns owners m.tracks m.filters
+    m' = memory bodies columns owners m.parts.tracks m.parts.filters
 
     -- what is kept, and what is new
     abbrev pub v : FixedLagRefiner
@@ -155,8 +155,6 @@ module _ (r : FixedLagRefiner) (m : Memory) (s : Body) (a : Arrives r m s) (l : 
           frozen = let z = k.room in omega arith;
           owners = h.owned;
           spare = spare;
-          columns_long = h.columns_long;
-          owners_long = h.owners_long;
         }
       where
         pass : (i : ℕ) → Dec (i < r.held) → i < r.held + 1 → body_refusal (body_at bodies columns (r.first.0 + i)) ≡ 0

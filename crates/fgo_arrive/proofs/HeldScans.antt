@@ -61,7 +61,7 @@ module _ (bodies columns : List ℕ) (s : Body) (ids : List ℕ) (n count : ℕ)
   bodies' = over (BODY * slot_at n) s.bytes bodies
 
   abbrev words : List ℕ
-  words = column_words s.kind (length s.bytes) count ids
+  words = column_words s.kind (length s.bytes) (take count ids)
 
   abbrev columns' : List ℕ
   columns' = over (COLUMN * slot_at n) words columns

@@ -13,10 +13,8 @@ use lib.Ieee.Bits.{is_true, is_false}
 use borrow.Author.Tests.{lt-ltb, le-ltb, le-leb}
 use Rattle.bounds.specs.Bounds.{OWNED}
 use Rattle.engine.specs.declared.config.FgoConfig.{FgoConfig}
-use Rattle.engine.specs.declared.types.Associated.{Associated}
-use Rattle.engine.specs.declared.types.Associated.TheVariants.{Nobody, Track}
 use Rattle.engine.specs.declared.types.Association.{Association}
-use Rattle.engine.specs.Frame.{Frame}
+use Rattle.engine.specs.Frame.{Frame, Associated}
 use Rattle.fgo_spec.specs.Lists.{has, find, assign}
 use Rattle.fgo_spec.specs.Windows.{Scan, Prefix, live}
 use Rattle.fgo_spec.specs.Placing as spec
@@ -33,6 +31,7 @@ use Rattle.fgo_spec.proofs.Arrival.{Column, Before, arrived}
 use Rattle.fgo_spec.proofs.Accepting.{Room}
 use Rattle.fgo_state.specs.Memory.{or_none}
 use Rattle.fgo_place.specs.Placing.{assigned_in, free_below, placed_track, placed_one, placed_all}
+use Rattle.std.specs.Prelude.{None, Some}
 
 -- ---- an owner that is free, by number or as an option
 
@@ -120,16 +119,16 @@ module _ (old : ℕ) (ps : List (ℕ × Prefix)) (ss : List Scan) where
     track-telling p e (some x) h = record { low = h.low; told = h.told }
 
     one-telling : (p : spec.Placing) (t : Associated) → Telling p → Telling (place_one ps ss p t)
-    one-telling p Nobody h = record { low = h.low; told = h.told }
-    one-telling p (Track e) h = track-telling p e.0 (free_owner ps ss p.ids (find e.0 p.owners)) h
+    one-telling p None h = record { low = h.low; told = h.told }
+    one-telling p (Some e) h = track-telling p e.0 (free_owner ps ss p.ids (find e.0 p.owners)) h
 
     one_same : (p : spec.Placing) (t : Associated) → Telling p → length (place_one ps ss p t).owners ≤ OWNED → placed_one old p t ≡ place_one ps ss p t
-    one_same p Nobody h l = refl
-    one_same p (Track e) h l = track-same p e.0 (free_below old p.ids (or_none (find e.0 p.owners))) (free_owner ps ss p.ids (find e.0 p.owners)) (agrees p.ids p.owners e.0 h.told) l
+    one_same p None h l = refl
+    one_same p (Some e) h l = track-same p e.0 (free_below old p.ids (or_none (find e.0 p.owners))) (free_owner ps ss p.ids (find e.0 p.owners)) (agrees p.ids p.owners e.0 h.told) l
 
     one-longer : (p : spec.Placing) (t : Associated) → length p.owners ≤ length (place_one ps ss p t).owners
-    one-longer p Nobody = le_refl _
-    one-longer p (Track e) = track-longer p e.0 (free_owner ps ss p.ids (find e.0 p.owners))
+    one-longer p None = le_refl _
+    one-longer p (Some e) = track-longer p e.0 (free_owner ps ss p.ids (find e.0 p.owners))
 
     longer : (l : List Association) (p : spec.Placing) → length p.owners ≤ length (place ps ss l p).owners
     unfolding place

@@ -20,7 +20,8 @@ use Rattle.fgo_spec.proofs.RuleLaw.{rule_passed}
 use Rattle.fgo_spec.proofs.Rows.{row_of}
 use Rattle.fgo_part.specs.Parts.{entry_in, table_in}
 use Rattle.fgo_state.specs.declared.state.FixedLagRefiner.{FixedLagRefiner}
-use Rattle.fgo_state.specs.Memory.{Memory, scan_in, scans_in, owner_entry, state_of}
+use Rattle.fgo_state.specs.declared.state.Memory.{Memory}
+use Rattle.fgo_state.specs.Memory.{scan_in, scans_in, owner_entry, state_of}
 use Rattle.fgo_state.specs.Sound.{bodies_ok, sound_ok}
 use Rattle.fgo_state.proofs.Bodies.{body-passes}
 use Rattle.fgo_freeze.specs.Frozen.{Ordered, PartOk}
@@ -75,18 +76,18 @@ module _ (r : FixedLagRefiner) (m : Memory) where
     pub lagged : r.held ≤ lag r.config
     pub short : lag r.config ≤ LAG
     pub early : r.first.0 + r.held ≤ ACCEPTED
-    pub bodies : bodies_ok m.bodies m.columns r.first.0 r.held ≡ true
-    pub parts : rises_ok r.first.0 r.next_id.0 0 (table_in m.tracks m.filters r.frozen) ≡ true
-    pub room : r.frozen + window_count (scans_in m.bodies m.columns r.first.0 r.held) ≤ DETECTIONS
+    pub bodies : bodies_ok m.scans.bodies m.scans.columns r.first.0 r.held ≡ true
+    pub parts : rises_ok r.first.0 r.next_id.0 0 (table_in m.parts.tracks m.parts.filters r.frozen) ≡ true
+    pub room : r.frozen + window_count (scans_in m.scans.bodies m.scans.columns r.first.0 r.held) ≤ DETECTIONS
     pub owners : r.owned ≤ OWNED
 
   pub sound_tells : sound_ok r m ≡ true → SoundTells
   unfolding sound_ok state_of
   sound_tells h =
-      let held : length (scans_in m.bodies m.columns r.first.0 r.held) ≡ r.held = length-rows (scan_in m.bodies m.columns) r.first.0 r.held in
-      let frozen : length (table_in m.tracks m.filters r.frozen) ≡ r.frozen = length-rows (entry_in m.tracks m.filters) 0 r.frozen in
+      let held : length (scans_in m.scans.bodies m.scans.columns r.first.0 r.held) ≡ r.held = length-rows (scan_in m.scans.bodies m.scans.columns) r.first.0 r.held in
+      let frozen : length (table_in m.parts.tracks m.parts.filters r.frozen) ≡ r.frozen = length-rows (entry_in m.parts.tracks m.parts.filters) 0 r.frozen in
       let owned = length-rows (owner_entry m.owners) 0 r.owned in
-      let s = both (bodies_ok m.bodies m.columns r.first.0 r.held) (rule_ok r.config (state_of r m)) h in
+      let s = both (bodies_ok m.scans.bodies m.scans.columns r.first.0 r.held) (rule_ok r.config (state_of r m)) h in
       let p = rule_passed r.config (state_of r m) s.1 in
       record {
         settings = p.settings;
@@ -109,12 +110,12 @@ module _ (r : FixedLagRefiner) (m : Memory) where
       record {
         few = omega (arith, k.short);
         early = omega arith;
-        passes = body-passes m.bodies m.columns r.first.0 r.held k.bodies;
-        ordered = rises_ordered r.first.0 r.next_id.0 f 0 (table_in m.tracks m.filters r.frozen) k.parts;
+        passes = body-passes m.scans.bodies m.scans.columns r.first.0 r.held k.bodies;
+        ordered = rises_ordered r.first.0 r.next_id.0 f 0 (table_in m.parts.tracks m.parts.filters r.frozen) k.parts;
         parts =
             λ i l.
-            subst (λ (j : ℕ). PartOk (entry_in m.tracks m.filters j)) (zero-add i)
-            (row_of PartOk (entry_in m.tracks m.filters) 0 r.frozen i (rises_parts r.first.0 r.next_id.0 0 (table_in m.tracks m.filters r.frozen) k.parts) l);
+            subst (λ (j : ℕ). PartOk (entry_in m.parts.tracks m.parts.filters j)) (zero-add i)
+            (row_of PartOk (entry_in m.parts.tracks m.parts.filters) 0 r.frozen i (rises_parts r.first.0 r.next_id.0 0 (table_in m.parts.tracks m.parts.filters r.frozen) k.parts) l);
         room = k.room;
         owners = k.owners;
       }

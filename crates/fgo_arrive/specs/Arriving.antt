@@ -1,20 +1,21 @@
 -- A frame arrives: what placing, searching and owning leave in the lent memory. Definitions only.
-use Rattle.std.specs.Prelude.{ℕ, suc, ◌+◌, ◌≤◌, ◌<◌, ◌≡◌, true, List, [], ◌∷◌, ◌++◌, map, length}
-use Rattle.bounds.specs.Bounds.{LAG, SCANS, ACCEPTED, COUNTED, BODIES, COLUMNS, DETECTIONS, FROZEN, OWNED, OWNERS}
+use Rattle.std.specs.Prelude.{ℕ, suc, ◌+◌, ◌≤◌, ◌<◌, ◌≡◌, true, List, [], ◌∷◌, ◌++◌, map}
+use Rattle.bounds.specs.Bounds.{LAG, SCANS, ACCEPTED, COUNTED, DETECTIONS, FROZEN, OWNED}
 use Rattle.engine.specs.Body.{Body, frame_in, body_refusal}
 use Rattle.engine.specs.Config.{legal}
 use Rattle.fgo_spec.specs.Windows.{window_count}
 use Rattle.fgo_spec.specs.Owning.{latest}
 use Rattle.fgo_spec.specs.Searching as searching
 use Rattle.fgo_spec.specs.Searching.{improve}
-use Rattle.fgo_spec.specs.Rule.{All, Bytes, ColumnRule}
+use Rattle.fgo_spec.specs.Rule.{All, ColumnRule}
 use Rattle.fgo_spec.specs.Placing as placing
 use Rattle.fgo_spec.specs.Refiner as spec
 use Rattle.search_rows.specs.declared.moves.Tally.{Tally}
 use Rattle.search.specs.Represents.{Spare}
 use Rattle.fgo_state.specs.declared.state.FixedLagRefiner.{FixedLagRefiner}
 use Rattle.fgo_part.specs.Parts.{table_in, entry_in}
-use Rattle.fgo_state.specs.Memory.{Memory, body_at, scans_in, owners_in, state_of}
+use Rattle.fgo_state.specs.declared.state.Memory.{Memory}
+use Rattle.fgo_state.specs.Memory.{body_at, scans_in, owners_in, state_of}
 use Rattle.fgo_freeze.specs.Frozen.{Ordered, PartOk}
 use Rattle.fgo_state.specs.Gathering.{HeldScans}
 use Rattle.fgo_place.specs.Placing.{placed_all, begins}
@@ -24,15 +25,12 @@ use Rattle.fgo_refuse.specs.Refusing.{push_refusal}
 -- ---- a frame is placed and held
 
 -- what that asks: a body that passes, a slot that is free, and room for ids and owners
-pub record Holds (r : FixedLagRefiner) (b : Body) (bodies columns owners : List ℕ) : Type 0 where
+pub record Holds (r : FixedLagRefiner) (b : Body) : Type 0 where
   pub passes : body_refusal b ≡ 0
   pub few : r.held ≤ LAG
   pub early : r.first.0 + r.held ≤ ACCEPTED
   pub owned : r.owned ≤ OWNED
   pub ids : r.next_id.0 ≤ COUNTED
-  pub bodies_long : length bodies ≡ BODIES
-  pub columns_long : length columns ≡ COLUMNS
-  pub owners_long : length owners ≡ OWNERS
 
 -- placing, by the lent owner table
 abbrev pub placed_by : FixedLagRefiner → Body → List ℕ → placing.Placing
@@ -51,62 +49,48 @@ pub record HeldBy (r : FixedLagRefiner) (b : Body) (bodies columns owners : List
   pub scans : scans_in bodies' columns' r.first.0 (r.held + 1) ≡ scans_in bodies columns r.first.0 r.held ++ (record { frame = frame_in b; ids = (placed_by r b owners).ids } ∷ [])
   pub older : (i : ℕ) → i < r.held → body_at bodies' columns' (r.first.0 + i) ≡ body_at bodies columns (r.first.0 + i)
   pub newest : body_at bodies' columns' (r.first.0 + r.held) ≡ b
-  pub bodies_long : length bodies' ≡ BODIES
-  pub columns_long : length columns' ≡ COLUMNS
-  pub owners_long : length owners' ≡ OWNERS
 
 -- ---- the search
 
 -- what the search over the held scans asks
 pub record SearchesHeld (r : FixedLagRefiner) (m : Memory) : Type 0 where
   pub settings : legal r.config ≡ true
-  pub held : HeldScans m.bodies m.columns r.first.0 r.held
-  pub columns : All (ColumnRule r.next_id.0) (scans_in m.bodies m.columns r.first.0 r.held)
+  pub held : HeldScans m.scans.bodies m.scans.columns r.first.0 r.held
+  pub columns : All (ColumnRule r.next_id.0) (scans_in m.scans.bodies m.scans.columns r.first.0 r.held)
   pub begun : 0 < r.next_id.0
-  pub parts : Ordered ACCEPTED 0 (table_in m.tracks m.filters r.frozen)
+  pub parts : Ordered ACCEPTED 0 (table_in m.parts.tracks m.parts.filters r.frozen)
   pub frozen : r.frozen ≤ FROZEN
   pub owners : r.owned ≤ OWNED
   pub spare : Spare r.next_id.0 r.counters
-  pub columns_long : length m.columns ≡ COLUMNS
-  pub owners_long : length m.owners ≡ OWNERS
 
 -- what the refiner as defined finds
 abbrev pub improved_in : FixedLagRefiner → Memory → searching.Searched
 improved_in r m =
-    improve r.config r.first.0 (table_in m.tracks m.filters r.frozen) (scans_in m.bodies m.columns r.first.0 r.held) r.next_id.0
+    improve r.config r.first.0 (table_in m.parts.tracks m.parts.filters r.frozen) (scans_in m.scans.bodies m.scans.columns r.first.0 r.held) r.next_id.0
     r.counters
 
 -- after the search: the columns and the owners, next id and counters
 pub record SearchedHeld (r : FixedLagRefiner) (m : Memory) (columns' owners' : List ℕ) (t : Tally) : Type 0 where
-  pub scans : scans_in m.bodies columns' r.first.0 r.held ≡ (improved_in r m).search.scans
-  pub bodies : (i : ℕ) → i < r.held → body_refusal (body_at m.bodies columns' (r.first.0 + i)) ≡ 0
+  pub scans : scans_in m.scans.bodies columns' r.first.0 r.held ≡ (improved_in r m).search.scans
+  pub bodies : (i : ℕ) → i < r.held → body_refusal (body_at m.scans.bodies columns' (r.first.0 + i)) ≡ 0
   pub owners : owners_in owners' r.owned ≡ map (λ o. (o.0, latest o.0 o.1 (improved_in r m).search.scans)) (owners_in m.owners r.owned)
   pub next_id : t.next_id.0 ≡ (improved_in r m).search.next_id
   pub counters : t.counters ≡ (improved_in r m).search.counters
-  pub columns_long : length columns' ≡ COLUMNS
-  pub owners_long : length owners' ≡ OWNERS
-
--- what the types of the lent arrays say: their lengths, and that bodies are of bytes
-pub record Typed (bodies columns owners : List ℕ) : Type 0 where
-  pub bodies_long : length bodies ≡ BODIES
-  pub columns_long : length columns ≡ COLUMNS
-  pub owners_long : length owners ≡ OWNERS
-  pub bytes : Bytes bodies
 
 -- what the inner steps ask: a refiner that meets the rule, except that it may hold one scan more
 pub record Ready (r : FixedLagRefiner) (m : Memory) : Type 0 where
   pub few : r.held ≤ SCANS
   pub early : r.first.0 + r.held ≤ ACCEPTED + 1
-  pub passes : (i : ℕ) → i < r.held → body_refusal (body_at m.bodies m.columns (r.first.0 + i)) ≡ 0
-  pub ordered : Ordered ACCEPTED 0 (table_in m.tracks m.filters r.frozen)
-  pub parts : (k : ℕ) → k < r.frozen → PartOk (entry_in m.tracks m.filters k)
-  pub room : r.frozen + window_count (scans_in m.bodies m.columns r.first.0 r.held) ≤ DETECTIONS
+  pub passes : (i : ℕ) → i < r.held → body_refusal (body_at m.scans.bodies m.scans.columns (r.first.0 + i)) ≡ 0
+  pub ordered : Ordered ACCEPTED 0 (table_in m.parts.tracks m.parts.filters r.frozen)
+  pub parts : (k : ℕ) → k < r.frozen → PartOk (entry_in m.parts.tracks m.parts.filters k)
+  pub room : r.frozen + window_count (scans_in m.scans.bodies m.scans.columns r.first.0 r.held) ≤ DETECTIONS
   pub owners : r.owned ≤ OWNED
 
 -- what an arriving frame asks: a refiner that meets the rule, and a body that no number refuses
 pub record Arrives (r : FixedLagRefiner) (m : Memory) (b : Body) : Type 0 where
   pub sound : sound_ok r m ≡ true
-  pub accepted : push_refusal r m.bodies m.columns m.owners b ≡ 0
+  pub accepted : push_refusal r m.scans.bodies m.scans.columns m.owners b ≡ 0
 
 -- after it: the state is fgo_spec's, and the oldest scan may leave
 pub record Arrived (r : FixedLagRefiner) (m : Memory) (b : Body) (u : FixedLagRefiner) (m' : Memory) : Type 0 where

@@ -8,7 +8,7 @@ use Rattle.engine.specs.Frame.{mode_number}
 use Rattle.engine.specs.Body.{Body, time_ok, frame_in, body_refusal, sensors_in, associations_in}
 use Rattle.fgo_spec.specs.Emitting.{Listed, Emitted, report, listing, track_words, track_numbers, associations_words, cost_number, words_of, numbers_of}
 use Rattle.fgo_part.specs.declared.Prefix.{Prefix}
-use Rattle.fgo_emit.specs.declared.Size.{Size}
+use Rattle.buffers.specs.declared.FrameSize.{FrameSize}
 use Rattle.buffers.specs.Buffers.{over}
 use Rattle.fgo_part.specs.Parts.{part_id, prefix_in, entry_in, table_in}
 use Rattle.fgo_state.specs.Memory.{body_at, ids_in, scan_in}
@@ -81,7 +81,7 @@ pub record PutsFrame (bodies columns : List ℕ) (n : ℕ) (tracks : List ℕ) (
   pub room : Roomy ws ns
 
 -- after the emitted frame was written at the start of the lent buffers: "The rest stays"
-pub record PutFrame (e : Emitted) (z : Size) (ws : List ℕ) (ns : List Float) (ws' : List ℕ) (ns' : List Float) : Type 0 where
+pub record PutFrame (e : Emitted) (z : FrameSize) (ws : List ℕ) (ns : List Float) (ws' : List ℕ) (ns' : List Float) : Type 0 where
   pub words_count : z.words ≡ length (words_of e)
   pub numbers_count : z.numbers ≡ length (numbers_of e)
   pub words : ws' ≡ over 0 (words_of e) ws

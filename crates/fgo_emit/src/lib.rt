@@ -14,21 +14,15 @@ ghost use Rattle.fgo_part.specs.Parts.{cells, prefix_of, table_in, part_last_ns}
 ghost use Rattle.fgo_freeze.specs.Frozen.{PartsOk};
 ghost use Rattle.fgo_emit.specs.Writing.{Lists, report_in, PutsTrack, PutTrack, Roomy, PutTracks, links_in, costs_in, emitted_in, PutsFrame, PutFrame, head_in};
 
-use bounds::{BODIES, COLUMNS, FILTERS, HEAD, HEIGHTS, LINK, PARTS, STATE, TRACK, VECTOR};
+use bounds::{HEAD, HEIGHTS, LINK, PARTS, STATE, TRACK, VECTOR};
+use buffers::{FrameSize, put};
 use engine::body;
 use engine::config::FgoConfig;
-use engine::types::{Association, BodyKind, Cost, RefinedId, ScanIndex};
-use fgo_part::{Prefix, class_word, part_id, part_last_ns, prefix_at};
-use fgo_state::state;
+use engine::types::{Association, BodyKind, RefinedId, ScanIndex};
+use fgo_part::{FrozenParts, Prefix, class_word, part_id, part_last_ns};
+use fgo_state::scans::Scans;
 use kf::filter::Kf;
 use scalar::bits;
-
-// The length of an emitted frame in words and in numbers.
-#[derive(Clone, Copy)]
-pub struct Size {
-    pub words: usize,
-    pub numbers: usize,
-}
 
 // ---- tracks
 
@@ -41,10 +35,8 @@ fn mean(hs: [f64; HEIGHTS], n: usize) -> f64
         return 0.0;
     }
     let mut sum = hs[0];
-    let mut i: usize = 1;
-    while i < n {
-        sum = sum + hs[i];
-        i += 1;
+    for i in 1..n {
+        sum += hs[i];
     }
     sum / std::num::nearest_u64_to_f64(n as u64)
 }
@@ -60,17 +52,13 @@ fn track_words(c: FgoConfig, time: i64, id: RefinedId, p: Prefix) -> [u64; TRACK
     requires { Lists time p }
     ensures { result ≡ spec.track_words (spec.report c time id.0 (prefix_of p)) }
 {
-    let class = p.class;
-    let count = p.count;
-    let last = p.last_ns;
-    let age = fgo_freeze::age_of(time, last);
     [
         id.0,
-        lifecycle(count),
-        bits::to_word(last),
-        bits::to_word(age),
-        class_word(class),
-        count,
+        lifecycle(p.count),
+        bits::to_word(p.last_ns),
+        bits::to_word(fgo_freeze::age_of(time, p.last_ns)),
+        class_word(p.class),
+        p.count,
     ]
 }
 
@@ -109,33 +97,28 @@ fn track_numbers(c: FgoConfig, time: i64, id: RefinedId, p: Prefix) -> [f64; STA
     requires { Lists time p }
     ensures { result ≡ spec.track_numbers (spec.report c time id.0 (prefix_of p)) }
 {
-    let old = p.kf;
-    let hs = p.heights;
-    let height = mean(hs, p.height_count);
-    let k = old.predict(bits::seconds(time), c.accel_spectral_density);
+    let height = mean(p.heights, p.height_count);
+    let k = p.kf.predict(bits::seconds(time), c.accel_spectral_density);
     row_of(k, height, c.position_variance())
 }
 
 // Frozen part k as listed track i.
-fn put_track<'a, 'b, 'c>(
+fn put_track(
     c: FgoConfig,
     time: i64,
-    tracks: &'c [u64; PARTS],
-    filters: &'c [f64; FILTERS],
+    parts: &FrozenParts,
     k: usize,
     i: usize,
-    words: &'a mut [u64],
-    numbers: &'b mut [f64],
+    words: &mut [u64],
+    numbers: &mut [f64],
 )
-    requires { PutsTrack time tracks.now filters.now k i words.old numbers.old }
-    ensures { PutTrack (report_in c time tracks.now filters.now k) i words.old numbers.old words.new numbers.new }
+    requires { PutsTrack time parts.now.tracks parts.now.filters k i words.old numbers.old }
+    ensures { PutTrack (report_in c time parts.now.tracks parts.now.filters k) i words.old numbers.old words.new numbers.new }
 {
-    let id = part_id(tracks, k);
-    let p = prefix_at(tracks, filters, k);
-    let ws = track_words(c, time, id, p);
-    buffers::put_words(words, HEAD + TRACK * i, &ws);
-    let ns = track_numbers(c, time, id, p);
-    buffers::put_numbers(numbers, STATE * i, &ns);
+    let id = part_id(&parts.tracks, k);
+    let p = parts.prefix_at(k);
+    put(words, HEAD + TRACK * i, &track_words(c, time, id, p));
+    put(numbers, STATE * i, &track_numbers(c, time, id, p));
 }
 
 // Whether frozen part k is listed at a time: its age is at most coast_ns.
@@ -147,47 +130,44 @@ fn is_listed(c: FgoConfig, time: i64, tracks: &[u64; PARTS], k: usize) -> bool
 }
 
 // The listed tracks; how many they are.
-fn put_tracks<'a, 'b, 'c>(
+fn put_tracks(
     c: FgoConfig,
     time: i64,
-    tracks: &'c [u64; PARTS],
-    filters: &'c [f64; FILTERS],
+    parts: &FrozenParts,
     frozen: usize,
-    words: &'a mut [u64],
-    numbers: &'b mut [f64],
+    words: &mut [u64],
+    numbers: &mut [f64],
 ) -> usize
-    requires { PartsOk time tracks.now filters.now frozen × Roomy words.old numbers.old }
-    ensures { PutTracks (spec.listing c time (table_in tracks.now filters.now frozen)) result words.old numbers.old words.new numbers.new }
+    requires { PartsOk time parts.now.tracks parts.now.filters frozen × Roomy words.old numbers.old }
+    ensures { PutTracks (spec.listing c time (table_in parts.now.tracks parts.now.filters frozen)) result words.old numbers.old words.new numbers.new }
 {
     let mut i: usize = 0;
-    let mut k: usize = 0;
-    while k < frozen {
-        if is_listed(c, time, tracks, k) {
-            put_track(c, time, tracks, filters, k, i, words, numbers);
+    for k in 0..frozen {
+        if is_listed(c, time, &parts.tracks, k) {
+            put_track(c, time, parts, k, i, words, numbers);
             i += 1;
         }
-        k += 1;
     }
     i
 }
 
 // ---- associations and sensors
 
-fn cost_present(k: Cost) -> u64
+fn cost_present(k: Option<f64>) -> u64
     ensures { result ≡ cost_present k }
 {
     match k {
-        Cost::Absent => 0,
-        Cost::Paid(_) => 1,
+        None => 0,
+        Some(_) => 1,
     }
 }
 
-fn cost_number(k: Cost) -> f64
+fn cost_number(k: Option<f64>) -> f64
     ensures { result ≡ spec.cost_number k }
 {
     match k {
-        Cost::Absent => 0.0,
-        Cost::Paid(v) => v,
+        None => 0.0,
+        Some(v) => v,
     }
 }
 
@@ -195,110 +175,98 @@ fn cost_number(k: Cost) -> f64
 fn association_words(a: Association, id: RefinedId) -> [u64; LINK]
     ensures { result ≡ spec.association_words a id.0 }
 {
-    let index = a.index;
-    let outcome = a.outcome;
-    let cost = a.cost;
-    let present = cost_present(cost);
-    let place = index.0 as u64;
+    let present = cost_present(a.cost);
+    let place = a.index.0 as u64;
     if id.0 == 0 {
         return [place, 0, 2, present];
     }
-    [place, id.0, outcome.number(), present]
+    [place, id.0, u64::from(a.outcome), present]
 }
 
 // The associations of a scan, from place o on.
-fn put_associations<'a, 'b>(
+fn put_associations(
     kind: BodyKind,
-    s: &'b [u8],
-    columns: &'b [u64; COLUMNS],
+    s: &[u8],
+    scans: &Scans,
     n: ScanIndex,
-    words: &'a mut [u64],
+    words: &mut [u64],
     o: usize,
 )
     requires { (body_refusal (body_of kind s.now) ≡ 0) × (o + LINK * associations_in (body_of kind s.now) ≤ length words.old) }
-    ensures { words.new ≡ over o (links_in columns.now n.0 (body_of kind s.now)) words.old }
+    ensures { words.new ≡ over o (links_in scans.now.columns n.0 (body_of kind s.now)) words.old }
 {
-    let mut j: usize = 0;
-    while j < body::association_count(kind, s) {
+    for j in 0..body::association_count(kind, s) {
         let a = body::association(kind, s, j);
-        let ws = association_words(a, state::id_at(columns, n, j));
-        buffers::put_words(words, o + LINK * j, &ws);
-        j += 1;
+        put(
+            words,
+            o + LINK * j,
+            &association_words(a, scans.id_at(n, j)),
+        );
     }
 }
 
 // The costs of a scan's associations, from place o on.
-fn put_costs<'a, 'b>(kind: BodyKind, s: &'b [u8], numbers: &'a mut [f64], o: usize)
+fn put_costs(kind: BodyKind, s: &[u8], numbers: &mut [f64], o: usize)
     requires { (body_refusal (body_of kind s.now) ≡ 0) × (o + associations_in (body_of kind s.now) ≤ length numbers.old) }
     ensures { numbers.new ≡ over o (costs_in (body_of kind s.now)) numbers.old }
 {
-    let mut j: usize = 0;
-    while j < body::association_count(kind, s) {
-        let a = body::association(kind, s, j);
-        let cost = a.cost;
-        numbers[o + j] = cost_number(cost);
-        j += 1;
+    for j in 0..body::association_count(kind, s) {
+        numbers[o + j] = cost_number(body::association(kind, s, j).cost);
     }
 }
 
 // The sensors of a scan, from place o on.
-fn put_sensors<'a, 'b>(kind: BodyKind, s: &'b [u8], words: &'a mut [u64], o: usize)
+fn put_sensors(kind: BodyKind, s: &[u8], words: &mut [u64], o: usize)
     requires { (body_refusal (body_of kind s.now) ≡ 0) × (o + sensors_in (body_of kind s.now) ≤ length words.old) }
     ensures { words.new ≡ over o (frame_in (body_of kind s.now)).sensors words.old }
 {
-    let mut i: usize = 0;
-    while i < body::sensor_count(kind, s) {
+    for i in 0..body::sensor_count(kind, s) {
         words[o + i] = body::sensor(kind, s, i);
-        i += 1;
     }
 }
 
 // ---- the frame
 
 // The words before the tracks.
-fn put_head<'a, 'b>(kind: BodyKind, s: &'b [u8], tracks: usize, words: &'a mut [u64])
+fn put_head(kind: BodyKind, s: &[u8], tracks: usize, words: &mut [u64])
     requires { (body_refusal (body_of kind s.now) ≡ 0) × (HEAD ≤ length words.old) }
     ensures { words.new ≡ over 0 (head_in (body_of kind s.now) tracks) words.old }
 {
-    let time = bits::to_word(body::time_of(kind, s));
-    let associations = body::association_count(kind, s) as u64;
     let ws = [
-        time,
-        body::mode(kind, s).number(),
+        bits::to_word(body::time_of(kind, s)),
+        u64::from(body::mode(kind, s)),
         tracks as u64,
-        associations,
+        body::association_count(kind, s) as u64,
         body::sensor_count(kind, s) as u64,
         0,
     ];
-    buffers::put_words(words, 0, &ws);
+    put(words, 0, &ws);
 }
 
 // The frame of scan n, after its detections were frozen. The body must pass, all times be in bounds, and the buffers have room.
-pub fn put_frame<'a, 'b, 'c>(
+pub fn put_frame(
     c: FgoConfig,
-    bodies: &'c [u8; BODIES],
-    columns: &'c [u64; COLUMNS],
+    scans: &Scans,
     n: ScanIndex,
-    tracks: &'c [u64; PARTS],
-    filters: &'c [f64; FILTERS],
+    parts: &FrozenParts,
     frozen: usize,
-    words: &'a mut [u64],
-    numbers: &'b mut [f64],
-) -> Size
-    requires { PutsFrame bodies.now columns.now n.0 tracks.now filters.now frozen words.old numbers.old }
-    ensures { PutFrame (emitted_in c bodies.now columns.now n.0 tracks.now filters.now frozen) result words.old numbers.old words.new numbers.new }
+    words: &mut [u64],
+    numbers: &mut [f64],
+) -> FrameSize
+    requires { PutsFrame scans.now.bodies scans.now.columns n.0 parts.now.tracks parts.now.filters frozen words.old numbers.old }
+    ensures { PutFrame (emitted_in c scans.now.bodies scans.now.columns n.0 parts.now.tracks parts.now.filters frozen) result words.old
+        numbers.old words.new numbers.new }
 {
-    let kind = state::kind_of(columns, n);
-    let s = state::body_in(bodies, columns, n);
-    let time = body::time_of(kind, s);
-    let t = put_tracks(c, time, tracks, filters, frozen, words, numbers);
+    let kind = scans.kind_of(n);
+    let s = scans.body_in(n);
+    let t = put_tracks(c, body::time_of(kind, s), parts, frozen, words, numbers);
     put_head(kind, s, t, words);
     let a = HEAD + TRACK * t;
     let count = body::association_count(kind, s);
-    put_associations(kind, s, columns, n, words, a);
+    put_associations(kind, s, scans, n, words, a);
     put_sensors(kind, s, words, a + LINK * count);
     put_costs(kind, s, numbers, STATE * t);
-    Size {
+    FrameSize {
         words: a + LINK * count + body::sensor_count(kind, s),
         numbers: STATE * t + count,
     }

@@ -7,9 +7,8 @@ use borrow.Author.Tests.{eq-eqb, ne_eqb}
 use lib.ListN.{length, take, get_or}
 use lib.Dec.{eqb}
 use lib.Seq.{take-suc}
-use Rattle.engine.specs.declared.types.ClassLabel.{ClassLabel}
 use Rattle.engine.specs.declared.types.EngineTrack.{EngineTrack}
-use Rattle.engine.specs.Frame.{no_track}
+use Rattle.engine.specs.Frame.{no_track, ClassLabel}
 use Rattle.fgo_spec.specs.Windows.{class_among}
 
 class_last : (e : ℕ) (k : ClassLabel) (l : List EngineTrack) (t : EngineTrack) → class_among e k (l ++ (t ∷ [])) ≡ cond (eqb e t.id.0) t.class (class_among e k l)

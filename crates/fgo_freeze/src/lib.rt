@@ -1,12 +1,11 @@
 // Freezing: the oldest scan's detections move the frozen parts of their tracks on, and parts that nothing asks for any more are forgotten.
 #![tactic(auto)]
 
-ghost use Rattle.std.specs.Prelude.{◌≡◌, true, [], ◌∷◌, ◌++◌, ◌+◌, ◌<◌, ◌≤◌, ◌-ℤ◌};
+ghost use Rattle.std.specs.Prelude.{◌≡◌, true, [], ◌∷◌, ◌++◌, ◌+◌, ◌<◌, ◌≤◌, ◌-ℤ◌, None};
 ghost use Rattle.std.proofs.Math.Option.{none, some};
 ghost use Rattle.std.specs.Float.{nan};
 ghost use Rattle.bounds.specs.Bounds.{ACCEPTED, FROZEN, HEIGHTS};
 ghost use Rattle.engine.specs.Body.{body as body_of, time_ok, frame_in, body_refusal};
-ghost use Rattle.engine.specs.declared.types.ClassLabel.TheVariants.{Unknown};
 ghost use Rattle.fgo_spec.specs.Lists.{place_in};
 ghost use Rattle.fgo_spec.specs.Windows.{class_among, class_for};
 ghost use Rattle.fgo_spec.specs.Freezing as spec;
@@ -14,14 +13,13 @@ ghost use Rattle.fgo_part.specs.Parts.{cells, prefix_of, table_in, part_ids, par
 ghost use Rattle.fgo_state.specs.Memory.{scan_in, scans_in};
 ghost use Rattle.fgo_freeze.specs.Frozen.{detection_by, seen_in, height_count_after, Moves, Raised, frozen_by, Freezes, FreezesScan, kept_in, PartsOk};
 
-use bounds::{BODIES, COLUMNS, FILTERS, HEIGHTS, PARTS};
+use bounds::{HEIGHTS, PARTS};
 use engine::body;
 use engine::config::FgoConfig;
-use engine::types::{Associated, BodyKind, ClassLabel, EngineId, RefinedId, ScanIndex};
-use fgo_part::{Prefix, copy_part, part_id, part_last_ns, prefix_at, put_prefix};
-use fgo_state::state;
+use engine::types::{BodyKind, EngineId, RefinedId, ScanIndex};
+use fgo_part::{FrozenParts, Prefix, part_id, part_last_ns};
+use fgo_state::scans::Scans;
 use kf::filter::Kf;
-use kf::lent;
 use scalar::bits;
 
 // A detection as it is frozen: the number of its scan, the scan's time, where it lies, and the class that its association knows.
@@ -32,33 +30,30 @@ pub struct Detection {
     pub x: f64,
     pub y: f64,
     pub z: f64,
-    pub class: ClassLabel,
+    pub class: Option<u32>,
 }
 
 // ---- what a frame says of an association
 
 // The class of the last engine track of a frame with this id.
-fn class_among(kind: BodyKind, s: &[u8], e: EngineId) -> ClassLabel
-    ensures { body_refusal (body_of kind s.now) ≡ 0 → result ≡ class_among e.0 Unknown (frame_in (body_of kind s.now)).tracks }
+fn class_among(kind: BodyKind, s: &[u8], e: EngineId) -> Option<u32>
+    ensures { body_refusal (body_of kind s.now) ≡ 0 → result ≡ class_among e.0 None (frame_in (body_of kind s.now)).tracks }
 {
-    let mut i = body::track_count(kind, s);
-    while 0 < i {
-        i -= 1;
+    for i in (0..body::track_count(kind, s)).rev() {
         let t = body::track(kind, s, i);
-        let id = t.id;
-        if id.0 == e.0 {
+        if t.id.0 == e.0 {
             return t.class;
         }
     }
-    ClassLabel::Unknown
+    None
 }
 
-fn class_for(kind: BodyKind, s: &[u8], a: Associated) -> ClassLabel
+fn class_for(kind: BodyKind, s: &[u8], a: Option<EngineId>) -> Option<u32>
     ensures { body_refusal (body_of kind s.now) ≡ 0 → result ≡ class_for a (frame_in (body_of kind s.now)).tracks }
 {
     match a {
-        Associated::Nobody => ClassLabel::Unknown,
-        Associated::Track(e) => class_among(kind, s, e),
+        None => None,
+        Some(e) => class_among(kind, s, e),
     }
 }
 
@@ -67,29 +62,25 @@ fn seen_at(kind: BodyKind, s: &[u8], n: ScanIndex, j: usize) -> Detection
     ensures { body_refusal (body_of kind s.now) ≡ 0 → detection_by result ≡ seen_in n.0 (body_of kind s.now) j }
 {
     let a = body::association(kind, s, j);
-    let index = a.index;
-    let track = a.track;
-    let p = body::observation(kind, s, index);
-    let class = class_for(kind, s, track);
-    let time = body::time_of(kind, s);
+    let p = body::observation(kind, s, a.index);
     Detection {
         scan: n,
-        time,
+        time: body::time_of(kind, s),
         x: p.x,
         y: p.y,
         z: p.z,
-        class,
+        class: class_for(kind, s, a.track),
     }
 }
 
 // ---- one detection more
 
-fn newer(a: ClassLabel, b: ClassLabel) -> ClassLabel
+fn newer(a: Option<u32>, b: Option<u32>) -> Option<u32>
     ensures { result ≡ spec.newer a b }
 {
     match a {
-        ClassLabel::Unknown => b,
-        ClassLabel::Known(v) => ClassLabel::Known(v),
+        None => b,
+        Some(v) => Some(v),
     }
 }
 
@@ -103,8 +94,7 @@ fn with_height(hs: [f64; HEIGHTS], n: usize, z: f64) -> [f64; HEIGHTS]
         r[n] = z;
         return r;
     }
-    let later = &hs[..];
-    buffers::put_numbers(&mut r, 0, &later[1..HEIGHTS]);
+    r.copy_within(1..HEIGHTS, 0);
     r[HEIGHTS - 1] = z;
     r
 }
@@ -126,18 +116,16 @@ fn fresh(c: FgoConfig, d: Detection) -> Prefix
         c.position_variance(),
         c.initial_velocity_variance,
     );
-    let last_frame = d.scan;
-    let class = d.class;
     let mut heights = [0.0; HEIGHTS];
     heights[0] = d.z;
     Prefix {
         kf,
-        last_frame,
+        last_frame: d.scan,
         last_ns: d.time,
         count: 1,
         heights,
         height_count: 1,
-        class,
+        class: d.class,
     }
 }
 
@@ -145,14 +133,15 @@ fn fresh(c: FgoConfig, d: Detection) -> Prefix
 fn moved_on(c: FgoConfig, kf: Kf, d: Detection) -> Kf
     ensures { result ≡ spec.move_on c kf (detection_by d) }
 {
-    lent::advanced(
-        kf,
+    let mut k = kf;
+    k.advance(
         bits::seconds(d.time),
         c.accel_spectral_density,
         d.x,
         d.y,
         c.position_variance(),
-    )
+    );
+    k
 }
 
 // A frozen part after one detection more.
@@ -160,22 +149,14 @@ fn freeze(c: FgoConfig, p: Prefix, d: Detection) -> Prefix
     requires { Moves p }
     ensures { prefix_of result ≡ spec.freeze c (some (prefix_of p)) (detection_by d) }
 {
-    let old = p.kf;
-    let hs = p.heights;
-    let known = p.class;
-    let seen = d.class;
-    let last_frame = d.scan;
-    let kf = moved_on(c, old, d);
-    let heights = with_height(hs, p.height_count, d.z);
-    let class = newer(seen, known);
     Prefix {
-        kf,
-        last_frame,
+        kf: moved_on(c, p.kf, d),
+        last_frame: d.scan,
         last_ns: d.time,
         count: p.count + 1,
-        heights,
+        heights: with_height(p.heights, p.height_count, d.z),
         height_count: height_count(p.height_count),
-        class,
+        class: newer(d.class, p.class),
     }
 }
 
@@ -186,85 +167,68 @@ fn place_of(tracks: &[u64; PARTS], frozen: usize, id: RefinedId) -> usize
     requires { frozen ≤ FROZEN }
     ensures { (result ≡ place_in id.0 (part_ids tracks.now frozen)) × (result ≤ frozen) }
 {
-    let mut k: usize = 0;
-    while k < frozen {
+    for k in 0..frozen {
         if id.0 <= part_id(tracks, k).0 {
             return k;
         }
-        k += 1;
     }
-    k
+    frozen
 }
 
 // The parts from k on move up by one.
-fn make_room<'a, 'b>(
-    tracks: &'a mut [u64; PARTS],
-    filters: &'b mut [f64; FILTERS],
-    k: usize,
-    frozen: usize,
-)
+fn make_room(parts: &mut FrozenParts, k: usize, frozen: usize)
     requires { (k ≤ frozen) × (frozen < FROZEN) }
-    ensures { Raised k frozen tracks.old filters.old tracks.new filters.new }
+    ensures { Raised k frozen parts.old.tracks parts.old.filters parts.new.tracks parts.new.filters }
 {
-    let mut i = frozen;
-    while k < i {
-        copy_part(tracks, filters, i - 1, i);
-        i -= 1;
+    for i in (k..frozen).rev() {
+        parts.copy(i, i + 1);
     }
 }
 
 // One detection is frozen into its track; how many parts there are then.
-fn freeze_one<'a, 'b>(
+fn freeze_one(
     c: FgoConfig,
-    tracks: &'a mut [u64; PARTS],
-    filters: &'b mut [f64; FILTERS],
+    parts: &mut FrozenParts,
     frozen: usize,
     id: RefinedId,
     d: Detection,
 ) -> usize
-    requires { Freezes id.0 tracks.old filters.old frozen }
-    ensures { table_in tracks.new filters.new result ≡ frozen_by c id.0 (detection_by d) (table_in tracks.old filters.old frozen) }
+    requires { Freezes id.0 parts.old.tracks parts.old.filters frozen }
+    ensures { table_in parts.new.tracks parts.new.filters result ≡ frozen_by c id.0 (detection_by d) (table_in parts.old.tracks parts.old.filters frozen) }
 {
-    let k = place_of(tracks, frozen, id);
+    let k = place_of(&parts.tracks, frozen, id);
     if k < frozen {
-        if part_id(tracks, k).0 == id.0 {
-            let p = prefix_at(tracks, filters, k);
-            let q = freeze(c, p, d);
-            put_prefix(tracks, filters, k, id, q);
+        if part_id(&parts.tracks, k).0 == id.0 {
+            let p = parts.prefix_at(k);
+            parts.put(k, id, freeze(c, p, d));
             return frozen;
         }
     }
-    make_room(tracks, filters, k, frozen);
-    let q = fresh(c, d);
-    put_prefix(tracks, filters, k, id, q);
+    make_room(parts, k, frozen);
+    parts.put(k, id, fresh(c, d));
     frozen + 1
 }
 
 // The detections of a scan are frozen into their tracks; how many parts there are then. The scan's body must pass, the table be in order and have room.
-pub fn freeze_scan<'a, 'b, 'c>(
+pub fn freeze_scan(
     c: FgoConfig,
-    bodies: &'c [u8; BODIES],
-    columns: &'c [u64; COLUMNS],
+    scans: &Scans,
     n: ScanIndex,
-    tracks: &'a mut [u64; PARTS],
-    filters: &'b mut [f64; FILTERS],
+    parts: &mut FrozenParts,
     frozen: usize,
 ) -> usize
-    requires { FreezesScan bodies.now columns.now n.0 tracks.old filters.old frozen }
-    ensures { table_in tracks.new filters.new result ≡ spec.freeze_scan c n.0 (scan_in bodies.now columns.now n.0) (table_in tracks.old filters.old frozen) }
+    requires { FreezesScan scans.now.bodies scans.now.columns n.0 parts.old.tracks parts.old.filters frozen }
+    ensures { table_in parts.new.tracks parts.new.filters result
+        ≡ spec.freeze_scan c n.0 (scan_in scans.now.bodies scans.now.columns n.0) (table_in parts.old.tracks parts.old.filters frozen) }
 {
-    let kind = state::kind_of(columns, n);
-    let s = state::body_in(bodies, columns, n);
-    let count = body::association_count(kind, s);
+    let kind = scans.kind_of(n);
+    let s = scans.body_in(n);
     let mut f = frozen;
-    let mut j: usize = 0;
-    while j < count {
-        let id = state::id_at(columns, n, j);
+    for j in 0..body::association_count(kind, s) {
+        let id = scans.id_at(n, j);
         if 0 < id.0 {
-            let d = seen_at(kind, s, n, j);
-            f = freeze_one(c, tracks, filters, f, id, d);
+            f = freeze_one(c, parts, f, id, seen_at(kind, s, n, j));
         }
-        j += 1;
     }
     f
 }
@@ -280,48 +244,44 @@ pub fn age_of(now: i64, last: i64) -> i64
 }
 
 // Whether frozen part k stays: its track has a window, or its age is at most forget_after_ns.
-fn is_kept<'a>(
+fn is_kept(
     c: FgoConfig,
     time: i64,
-    bodies: &'a [u8; BODIES],
-    columns: &'a [u64; COLUMNS],
+    scans: &Scans,
     first: ScanIndex,
     held: usize,
-    tracks: &'a [u64; PARTS],
+    tracks: &[u64; PARTS],
     k: usize,
 ) -> bool
     requires { (k < FROZEN) × (first.0 + held ≤ ACCEPTED + 1) × (time_ok time ≡ true) × (time_ok (part_last_ns tracks.now k) ≡ true) }
-    ensures { result ≡ kept_in c time (scans_in bodies.now columns.now first.0 held) tracks.now k }
+    ensures { result ≡ kept_in c time (scans_in scans.now.bodies scans.now.columns first.0 held) tracks.now k }
 {
-    if state::windows_in(bodies, columns, first, held, part_id(tracks, k)) {
+    if scans.windows_in(first, held, part_id(tracks, k)) {
         return true;
     }
     age_of(time, part_last_ns(tracks, k)) <= c.forget_after_ns
 }
 
 // The frozen parts that stay, moved together; how many they are. All times must be in bounds.
-pub fn forget<'a, 'b, 'c>(
+pub fn forget(
     c: FgoConfig,
     time: i64,
-    bodies: &'c [u8; BODIES],
-    columns: &'c [u64; COLUMNS],
+    scans: &Scans,
     first: ScanIndex,
     held: usize,
-    tracks: &'a mut [u64; PARTS],
-    filters: &'b mut [f64; FILTERS],
+    parts: &mut FrozenParts,
     frozen: usize,
 ) -> usize
-    requires { (first.0 + held ≤ ACCEPTED + 1) × PartsOk time tracks.old filters.old frozen }
-    ensures { table_in tracks.new filters.new result ≡ spec.remember c time (scans_in bodies.now columns.now first.0 held) (table_in tracks.old filters.old frozen) }
+    requires { (first.0 + held ≤ ACCEPTED + 1) × PartsOk time parts.old.tracks parts.old.filters frozen }
+    ensures { table_in parts.new.tracks parts.new.filters result
+        ≡ spec.remember c time (scans_in scans.now.bodies scans.now.columns first.0 held) (table_in parts.old.tracks parts.old.filters frozen) }
 {
     let mut w: usize = 0;
-    let mut k: usize = 0;
-    while k < frozen {
-        if is_kept(c, time, bodies, columns, first, held, tracks, k) {
-            copy_part(tracks, filters, k, w);
+    for k in 0..frozen {
+        if is_kept(c, time, scans, first, held, &parts.tracks, k) {
+            parts.copy(k, w);
             w += 1;
         }
-        k += 1;
     }
     w
 }

@@ -2,14 +2,15 @@
 use Prim.Native.Nat.{ℕ, ◌+◌, ◌-◌, ◌*◌, ◌≤◌, ◌<◌}
 use mathlib.Core.Path.{◌≡◌, refl, sym, ap, ◌∙◌}
 use mathlib.Core.Bool.{Bool, true, false, cond}
-use mathlib.Core.List.{List, [], ◌++◌, append-nil}
+use mathlib.Core.List.{List, [], ◌++◌, append_assoc}
 use native.Mathlib.Nat.{add-zero, zero-add, add_assoc}
 use native.Mathlib.Omega.{arith}
 use borrow.Author.Tests.{leb-true, ltb-true, ltb-false}
 use lib.Dec.{leb, ltb, lit<}
-use lib.ListN.{length, get_or, drop, length-append, length-drop, drop_of_length-le}
+use lib.ListN.{length, get_or, take, drop, length-append, length-drop}
 use lib.Seq.{get_or-append-add, get_or-take, get_or-drop, length-take-le}
 use lib.Ieee.{Float, nan}
+use Rattle.std.specs.List.{copy_within}
 use Rattle.bounds.specs.Bounds.{FROZEN, PART, PARTS, KF, HEIGHTS, FILTER, FILTERS}
 use Rattle.scalar.specs.Scalar.{word, signed}
 use Rattle.kf.specs.Filter.{kf_in, kf_numbers}
@@ -34,12 +35,12 @@ module _ {A : Type 0} (l : List A) (o n : ℕ) where
       let e : o + n - o ≡ n = omega arith in
       rw e (get_or-take n (drop o l) i d h ∙ get_or-drop o l i d)
 
--- a list that takes the place of one as long
-pub over-all : {A : Type 0} (g l : List A) → length l ≡ length g → over 0 g l ≡ g
+-- a piece copied within its list
+pub copy_over : {A : Type 0} (l : List A) (o n k : ℕ) → o + n ≤ length l → copy_within l o (o + n) k ≡ over k (segment o (o + n) l) l
 unfolding over
-over-all g l e =
-    let h : length l ≤ 0 + length g = omega arith in
-    ap (λ (r : List _). g ++ r) (drop_of_length-le l h) ∙ append-nil g
+copy_over l o n k h =
+    let e : o + n - o ≡ n = omega arith in
+    rw (segment_long l o n h, e) (append_assoc (take k l) (take n (drop o l)) (drop (k + n) l))
 
 -- one list after another
 pub two-over :

@@ -1,18 +1,19 @@
 -- The frozen parts of tracks in lent memory: of each PART words and FILTER numbers. Definitions only.
 --
 -- The words are its id, last frame, last time, count, class and number of heights; the numbers are those of its filter, then its last heights, oldest first.
-use Rattle.std.specs.Prelude.{ℕ, ◌+◌, ◌*◌, ◌^◌, ◌≡◌, cond, List, [], ◌∷◌, ◌++◌, get_or, leb, ltb, ℤ, Float}
-use Rattle.std.specs.Float.{nan}
-use Rattle.bounds.specs.Bounds.{PART, KF, HEIGHTS, FILTER}
+use Rattle.std.specs.Prelude.{ℕ, ◌+◌, ◌*◌, ◌^◌, ◌≡◌, cond, List, [], ◌∷◌, ◌++◌, get_or, replicate, leb, ltb, ℤ, Float, None, Some}
+use Rattle.std.specs.Float.{nan, binary64}
+use Rattle.std.specs.Float.Ieee.{of_bits}
+use Rattle.bounds.specs.Bounds.{PART, PARTS, KF, HEIGHTS, FILTER, FILTERS}
 use Rattle.scalar.specs.Scalar.{word, signed}
-use Rattle.engine.specs.declared.types.ClassLabel.{ClassLabel}
-use Rattle.engine.specs.declared.types.ClassLabel.TheVariants.{Unknown, Known}
 use Rattle.engine.specs.Body.{rows}
 use Rattle.kf.specs.declared.filter.Kf.{Kf}
 use Rattle.kf.specs.Filter.{kf_in, kf_numbers}
 use Rattle.fgo_spec.specs.Windows as windows
 use Rattle.fgo_spec.specs.Emitting.{class_word}
 use Rattle.fgo_part.specs.declared.Prefix.{Prefix}
+use Rattle.fgo_part.specs.declared.FrozenParts.{FrozenParts}
+use Rattle.engine.specs.Frame.{ClassLabel}
 
 -- n cells of a list, from place o on
 abbrev pub cells : {A : Type 0} → A → List A → ℕ → ℕ → List A
@@ -20,7 +21,7 @@ cells d l o n = rows (λ i. get_or l (o + i) d) 0 n
 
 -- "class (2^32 if none)"
 abbrev pub class_in : ℕ → ClassLabel
-class_in w = cond (ltb w (2 ^ 32)) (Known w) Unknown
+class_in w = cond (ltb w (2 ^ 32)) (Some w) None
 
 -- n heights from place o on: more than HEIGHTS are none
 abbrev pub heights_in : List Float → ℕ → ℕ → List Float
@@ -85,6 +86,10 @@ entry_in tracks filters k = (part_id tracks k, prefix_in tracks filters k)
 -- the first n frozen parts, each under its id
 abbrev pub table_in : List ℕ → List Float → ℕ → List (ℕ × windows.Prefix)
 table_in tracks filters n = rows (entry_in tracks filters) 0 n
+
+-- parts that were never written
+abbrev pub no_parts : FrozenParts
+no_parts = record { tracks = replicate PARTS 0; filters = replicate FILTERS (of_bits binary64 0) }
 
 -- ---- parts by value
 

@@ -7,11 +7,11 @@ ghost use Rattle.std.specs.Prelude.{◌≡◌, ◌+◌, ◌*◌, ◌<◌};
 ghost use Rattle.bounds.specs.Bounds.{FROZEN, PART, HEIGHTS, FILTER};
 ghost use Rattle.fgo_spec.specs.Lists.{segment};
 ghost use Rattle.fgo_spec.specs.Emitting.{class_word};
-ghost use Rattle.fgo_part.specs.Parts.{class_in, part_id, part_last_frame, part_last_ns, part_count, part_class, part_height_count, part_kf, part_heights_at, prefix_in, prefix_of, Copied, Put};
+ghost use Rattle.fgo_part.specs.Parts.{class_in, part_id, part_last_frame, part_last_ns, part_count, part_class, part_height_count, part_kf, part_heights_at, prefix_in, prefix_of, no_parts, Copied, Put};
 
 use bounds::{FILTER, FILTERS, HEIGHTS, KF, PART, PARTS};
-use buffers::{put_numbers, put_words};
-use engine::types::{ClassLabel, RefinedId, ScanIndex};
+use buffers::put;
+use engine::types::{RefinedId, ScanIndex};
 use kf::filter::Kf;
 use scalar::bits;
 
@@ -25,31 +25,33 @@ pub struct Prefix {
     // The last heights, oldest first, and how many there are.
     pub heights: [f64; HEIGHTS],
     pub height_count: usize,
-    pub class: ClassLabel,
+    pub class: Option<u32>,
 }
 
 // What stands for a class that is not known.
 const NO_CLASS: u64 = 0x1_0000_0000;
 
-pub fn class_word(k: ClassLabel) -> u64
+pub fn class_word(k: Option<u32>) -> u64
     ensures { (result ≡ class_word k) × (class_in result ≡ k) }
 {
     match k {
-        ClassLabel::Unknown => NO_CLASS,
-        ClassLabel::Known(v) => v as u64,
+        None => NO_CLASS,
+        Some(v) => v as u64,
     }
 }
 
-pub fn class_of(w: u64) -> ClassLabel
+pub fn class_of(w: u64) -> Option<u32>
     ensures { result ≡ class_in w }
 {
     if w < NO_CLASS {
-        return ClassLabel::Known(w as u32);
+        return Some(w as u32);
     }
-    ClassLabel::Unknown
+    None
 }
 
 // ---- the fields of part k, which is below FROZEN
+//
+// As it is, here and below: functions of the words or of the numbers alone, since the search reads just these of a part.
 
 // The id of its track.
 pub fn part_id(tracks: &[u64; PARTS], k: usize) -> RefinedId
@@ -84,7 +86,7 @@ pub fn part_count(tracks: &[u64; PARTS], k: usize) -> u64
 }
 
 // The newest class known.
-pub fn part_class(tracks: &[u64; PARTS], k: usize) -> ClassLabel
+pub fn part_class(tracks: &[u64; PARTS], k: usize) -> Option<u32>
     requires { k < FROZEN }
     ensures { result ≡ part_class tracks.now k }
 {
@@ -107,102 +109,81 @@ pub fn part_kf(filters: &[f64; FILTERS], k: usize) -> Kf
     Kf::at(filters, FILTER * k)
 }
 
-// Its heights, with what stands past the last of them.
-fn part_heights(filters: &[f64; FILTERS], k: usize) -> [f64; HEIGHTS]
-    requires { k < FROZEN }
-    ensures { result ≡ segment (part_heights_at k) (part_heights_at k + HEIGHTS) filters.now }
-{
-    let all = &filters[..];
-    let o = FILTER * k + KF;
-    let mut hs = [0.0; HEIGHTS];
-    put_numbers(&mut hs, 0, &all[o..o + HEIGHTS]);
-    hs
-}
-
 // ---- parts
 
-// Frozen part k, which is below FROZEN.
-pub fn prefix_at<'a>(tracks: &'a [u64; PARTS], filters: &'a [f64; FILTERS], k: usize) -> Prefix
-    requires { k < FROZEN }
-    ensures { prefix_of result ≡ prefix_in tracks.now filters.now k }
-{
-    let kf = part_kf(filters, k);
-    let last_frame = part_last_frame(tracks, k);
-    let class = part_class(tracks, k);
-    Prefix {
-        kf,
-        last_frame,
-        last_ns: part_last_ns(tracks, k),
-        count: part_count(tracks, k),
-        heights: part_heights(filters, k),
-        height_count: part_height_count(tracks, k) as usize,
-        class,
+// The frozen parts, as they are lent: their words and their numbers.
+// As it is: arrays of words and numbers, which are the published format of the lent memory.
+#[derive(Drop)]
+pub struct FrozenParts {
+    pub tracks: [u64; PARTS],
+    pub filters: [f64; FILTERS],
+}
+
+impl FrozenParts {
+    // Memory that was never used.
+    pub fn new() -> FrozenParts
+        ensures { result ≡ no_parts }
+    {
+        FrozenParts {
+            tracks: [0; PARTS],
+            filters: [0.0; FILTERS],
+        }
     }
-}
 
-// All words of part k.
-fn words_at(tracks: &[u64; PARTS], k: usize) -> [u64; PART]
-    requires { k < FROZEN }
-    ensures { result ≡ segment (PART * k) (PART * k + PART) tracks.now }
-{
-    let all = &tracks[..];
-    let mut ws = [0u64; PART];
-    put_words(&mut ws, 0, &all[PART * k..PART * k + PART]);
-    ws
-}
+    // The heights of part k, with what stands past the last of them.
+    fn heights(&self, k: usize) -> [f64; HEIGHTS]
+        requires { k < FROZEN }
+        ensures { result ≡ segment (part_heights_at k) (part_heights_at k + HEIGHTS) self.now.filters }
+    {
+        let all = &self.filters[..];
+        let o = FILTER * k + KF;
+        let mut hs = [0.0; HEIGHTS];
+        hs.copy_from_slice(&all[o..o + HEIGHTS]);
+        hs
+    }
 
-// All numbers of part k.
-fn numbers_at(filters: &[f64; FILTERS], k: usize) -> [f64; FILTER]
-    requires { k < FROZEN }
-    ensures { result ≡ segment (FILTER * k) (FILTER * k + FILTER) filters.now }
-{
-    let all = &filters[..];
-    let mut ns = [0.0; FILTER];
-    put_numbers(&mut ns, 0, &all[FILTER * k..FILTER * k + FILTER]);
-    ns
-}
+    // Frozen part k, which is below FROZEN.
+    pub fn prefix_at(&self, k: usize) -> Prefix
+        requires { k < FROZEN }
+        ensures { prefix_of result ≡ prefix_in self.now.tracks self.now.filters k }
+    {
+        Prefix {
+            kf: part_kf(&self.filters, k),
+            last_frame: part_last_frame(&self.tracks, k),
+            last_ns: part_last_ns(&self.tracks, k),
+            count: part_count(&self.tracks, k),
+            heights: self.heights(k),
+            height_count: part_height_count(&self.tracks, k) as usize,
+            class: part_class(&self.tracks, k),
+        }
+    }
 
-// Frozen part `from` over the part `to`, both below FROZEN.
-pub fn copy_part<'a, 'b>(
-    tracks: &'a mut [u64; PARTS],
-    filters: &'b mut [f64; FILTERS],
-    from: usize,
-    to: usize,
-)
-    requires { (from < FROZEN) × (to < FROZEN) }
-    ensures { Copied from to tracks.old filters.old tracks.new filters.new }
-{
-    let ws = words_at(tracks, from);
-    put_words(tracks, PART * to, &ws);
-    let ns = numbers_at(filters, from);
-    put_numbers(filters, FILTER * to, &ns);
-}
+    // Frozen part `from` over the part `to`, both below FROZEN.
+    pub fn copy(&mut self, from: usize, to: usize)
+        requires { (from < FROZEN) × (to < FROZEN) }
+        ensures { Copied from to self.old.tracks self.old.filters self.new.tracks self.new.filters }
+    {
+        self.tracks
+            .copy_within(PART * from..PART * from + PART, PART * to);
+        self.filters
+            .copy_within(FILTER * from..FILTER * from + FILTER, FILTER * to);
+    }
 
-// A frozen part by value over the part k, which is below FROZEN, under an id.
-pub fn put_prefix<'a, 'b>(
-    tracks: &'a mut [u64; PARTS],
-    filters: &'b mut [f64; FILTERS],
-    k: usize,
-    id: RefinedId,
-    p: Prefix,
-)
-    requires { k < FROZEN }
-    ensures { Put k id.0 p tracks.old filters.old tracks.new filters.new }
-{
-    let last = p.last_frame;
-    let class = p.class;
-    let ws = [
-        id.0,
-        last.0,
-        bits::to_word(p.last_ns),
-        p.count,
-        class_word(class),
-        p.height_count as u64,
-    ];
-    put_words(tracks, PART * k, &ws);
-    let kf = p.kf;
-    let ns = kf.numbers();
-    put_numbers(filters, FILTER * k, &ns);
-    let hs = p.heights;
-    put_numbers(filters, FILTER * k + KF, &hs);
+    // A frozen part by value over the part k, which is below FROZEN, under an id.
+    pub fn put(&mut self, k: usize, id: RefinedId, p: Prefix)
+        requires { k < FROZEN }
+        ensures { Put k id.0 p self.old.tracks self.old.filters self.new.tracks self.new.filters }
+    {
+        let ws = [
+            id.0,
+            p.last_frame.0,
+            bits::to_word(p.last_ns),
+            p.count,
+            class_word(p.class),
+            p.height_count as u64,
+        ];
+        put(&mut self.tracks, PART * k, &ws);
+        put(&mut self.filters, FILTER * k, &p.kf.numbers());
+        put(&mut self.filters, FILTER * k + KF, &p.heights);
+    }
 }

@@ -8,7 +8,6 @@ use lib.ListN.{length, length-set, take, get_or, set}
 use lib.Seq.{take-suc-set}
 use borrow.Author.Tests.{lt-ltb, le-ltb}
 use Rattle.bounds.specs.Bounds.{ASSOCIATIONS, OWNED, OWNERS}
-use Rattle.engine.specs.declared.types.Associated.TheVariants.{Nobody}
 use Rattle.engine.specs.declared.types.Association.{Association}
 use Rattle.engine.specs.Frame.{no_association}
 use Rattle.fgo_spec.specs.Lists.{find}
@@ -16,6 +15,7 @@ use Rattle.fgo_spec.specs.Placing as spec
 use Rattle.fgo_place.specs.declared.place.Placing.{Placing}
 use Rattle.fgo_state.specs.Memory.{or_none, owner_of, owners_in}
 use Rattle.fgo_place.specs.Placing.{assigned_in, free_below, placed_track, placed_one, placed_all, Placed}
+use Rattle.std.specs.Prelude.{None}
 
 -- one id more
 ids_more : (ids : List ℕ) (j x : ℕ) → j < length ids → take (j + 1) (set ids j x) ≡ take j ids ++ (x ∷ [])
@@ -37,7 +37,7 @@ module _ (j : ℕ) (q : spec.Placing) (p : Placing) (owners ids : List ℕ) (few
       }
 
   -- one without an engine id
-  pub placed_nobody : (old : ℕ) → Placed (j + 1) (placed_one old q Nobody) p owners (set ids j 0)
+  pub placed_nobody : (old : ℕ) → Placed (j + 1) (placed_one old q None) p owners (set ids j 0)
   placed_nobody old = step 0 p owners h.few h.owners_long h.owners_are h.next_is
 
   module _ (old e : ℕ) {x : ℕ} (is : x ≡ free_below old (take j ids) (owner_of owners p.owned e)) where

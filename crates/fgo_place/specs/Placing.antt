@@ -2,15 +2,14 @@
 --
 -- By the state rule every owner before the push is live, and no track from the next id on is. So an owner is live just where it is below the next id as it
 -- was before the push.
-use Rattle.std.specs.Prelude.{ℕ, ◌+◌, ◌≤◌, ◌≡◌, cond, ◌&&◌, not, List, [], ◌∷◌, ◌++◌, length, take, leb, ltb}
+use Rattle.std.specs.Prelude.{ℕ, ◌+◌, ◌≤◌, ◌≡◌, cond, ◌&&◌, not, List, [], ◌∷◌, ◌++◌, length, take, leb, ltb, None, Some}
 use Rattle.bounds.specs.Bounds.{ASSOCIATIONS, OWNED, OWNERS}
-use Rattle.engine.specs.declared.types.Associated.{Associated}
-use Rattle.engine.specs.declared.types.Associated.TheVariants.{Nobody, Track}
 use Rattle.engine.specs.declared.types.Association.{Association}
 use Rattle.fgo_spec.specs.Lists.{has, find, assign}
 use Rattle.fgo_spec.specs.Placing as spec
 use Rattle.fgo_place.specs.declared.place.Placing.{Placing}
 use Rattle.fgo_state.specs.Memory.{or_none, owners_in}
+use Rattle.engine.specs.Frame.{Associated}
 
 -- the table has room for OWNED entries
 abbrev pub assigned_in : ℕ → ℕ → List (ℕ × ℕ) → List (ℕ × ℕ)
@@ -29,8 +28,8 @@ placed_track p e x =
 
 -- "One without an engine id becomes clutter. One with an engine id goes to the track that owns this engine id"
 abbrev pub placed_one : ℕ → spec.Placing → Associated → spec.Placing
-placed_one old p Nobody = record { ids = p.ids ++ (0 ∷ []); owners = p.owners; next_id = p.next_id }
-placed_one old p (Track e) = placed_track p e.0 (free_below old p.ids (or_none (find e.0 p.owners)))
+placed_one old p None = record { ids = p.ids ++ (0 ∷ []); owners = p.owners; next_id = p.next_id }
+placed_one old p (Some e) = placed_track p e.0 (free_below old p.ids (or_none (find e.0 p.owners)))
 
 -- "Push takes the frame's associations in order", of tracks below the id old
 unfoldable pub placed_all : ℕ → List Association → spec.Placing → spec.Placing

@@ -10,9 +10,7 @@ use lib.Seq.{drop-cons}
 use lib.Dec.{eqb}
 use Rattle.bounds.specs.Bounds.{JOINED}
 use Rattle.engine.specs.declared.types.Association.{Association}
-use Rattle.engine.specs.declared.types.Associated.{Associated}
-use Rattle.engine.specs.declared.types.Associated.TheVariants.{Nobody, Track}
-use Rattle.engine.specs.Frame.{no_association}
+use Rattle.engine.specs.Frame.{no_association, Associated}
 use Rattle.engine.specs.Body.{Body, frame_in, associations_in}
 use Rattle.fgo_spec.specs.Lists.{any, has}
 use Rattle.fgo_spec.specs.Refiner.{join}
@@ -21,6 +19,7 @@ use Rattle.fgo_state.specs.Memory.{association_in}
 use Rattle.fgo_refuse.specs.Refusing.{engines_in, join_end, joined_in}
 use Rattle.engine.proofs.Passing.{length-rows}
 use Rattle.fgo_state.proofs.Counts.{associations_long}
+use Rattle.std.specs.Prelude.{None, Some}
 
 -- the same ids, and as many
 pub record Alike (k l : List ℕ) : Type 0 where
@@ -39,8 +38,8 @@ has_end x y (z ∷ l) =
 -- one id more
 pub alike_joined : (a : Associated) (k l : List ℕ) → Alike k l → Alike (join_end a k) (join a l)
 unfolding any
-alike_joined Nobody k l p = p
-alike_joined (Track e) k l p = go (has e.0 k) (has e.0 l) (p.same e.0)
+alike_joined None k l p = p
+alike_joined (Some e) k l p = go (has e.0 k) (has e.0 l) (p.same e.0)
   where
     go : (b d : Bool) → b ≡ d → Alike (cond b k (k ++ (e.0 ∷ []))) (cond d l (e.0 ∷ l))
     go true true q = p

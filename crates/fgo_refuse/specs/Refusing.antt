@@ -1,15 +1,14 @@
 -- Document 01's table, "refiner push": which refusal a frame gets, on the lent memory. Definitions only.
-use Rattle.std.specs.Prelude.{ℕ, zero, suc, ◌+◌, ◌≤◌, Bool, cond, ◌||◌, length, drop, leb, ltb}
+use Rattle.std.specs.Prelude.{ℕ, zero, suc, ◌+◌, ◌≤◌, Bool, cond, ◌||◌, length, drop, leb, ltb, None, Some}
 use mathlib.Core.List.{List, [], ◌∷◌, ◌++◌, foldr}
 use Rattle.bounds.specs.Bounds.{SCANS, ACCEPTED, COUNTED, DETECTIONS, FROZEN, OWNED}
-use Rattle.engine.specs.declared.types.Associated.{Associated}
-use Rattle.engine.specs.declared.types.Associated.TheVariants.{Nobody, Track}
 use Rattle.engine.specs.Body.{Body, frame_in, body_refusal, rows}
 use Rattle.fgo_spec.specs.Lists.{has}
 use Rattle.fgo_spec.specs.Windows.{window_count}
 use Rattle.fgo_spec.specs.Refiner.{first_of, id_count, join}
 use Rattle.fgo_state.specs.declared.state.FixedLagRefiner.{FixedLagRefiner}
 use Rattle.fgo_state.specs.Memory.{scans_in, engine_at, or_none}
+use Rattle.engine.specs.Frame.{Associated}
 
 -- 8: "4,294,967,295 scans accepted, or next id or a counter above 2^60"
 unfoldable pub full_in : FixedLagRefiner → Bool
@@ -25,8 +24,8 @@ engines_in owners n = rows (engine_at owners) 0 n
 
 -- a list with one more engine id, if it is not there
 abbrev pub join_end : Associated → List ℕ → List ℕ
-join_end Nobody l = l
-join_end (Track e) l = cond (has e.0 l) l (l ++ (e.0 ∷ []))
+join_end None l = l
+join_end (Some e) l = cond (has e.0 l) l (l ++ (e.0 ∷ []))
 
 -- "engine ids with a live owner, joined with the frame's", of the associations from j on
 unfoldable pub joined_in : List ℕ → ℕ → Body → ℕ → List ℕ

@@ -10,10 +10,8 @@ use lib.ListN.{length, get_or, length-map}
 use lib.Dec.{eqb}
 use borrow.Author.Tests.{ne_eqb}
 use Rattle.bounds.specs.Bounds.{DETECTIONS}
-use Rattle.engine.specs.declared.types.Associated.{Associated}
-use Rattle.engine.specs.declared.types.Associated.TheVariants.{Nobody, Track}
 use Rattle.engine.specs.declared.types.Association.{Association}
-use Rattle.engine.specs.Frame.{Frame, engine_of}
+use Rattle.engine.specs.Frame.{Frame, engine_of, Associated}
 use Rattle.engine.specs.Body.{all}
 use Rattle.engine.proofs.Every.{all-at}
 use Rattle.fgo_spec.specs.Lists.{find}
@@ -33,6 +31,7 @@ use Rattle.buffers.proofs.Over.{over_in}
 use Rattle.fgo_rule.proofs.AllOf.{all_same, all_list, all_of-append}
 use Rattle.fgo_rule.proofs.Scans.{tied_column}
 use Rattle.fgo_state.proofs.HeldGathered.{found_few_enough, latest_same}
+use Rattle.std.specs.Prelude.{None, Some}
 
 module _ (os : List (ℕ × ℕ)) (ss : List Scan) where
   -- an engine id is owned by the holder of its latest
@@ -48,12 +47,12 @@ module _ (os : List (ℕ × ℕ)) (ss : List Scan) where
   owner-test (some y) x h = refl
 
   in_window : (o : Associated) (i : ℕ) → Engine Late o → owned (engine_of o) ≡ owned_by os ss o (suc i)
-  in_window Nobody i h = absurd h
-  in_window (Track e) i h = owner-test (find e.0 os) (latest e.0 0 ss) h
+  in_window None i h = absurd h
+  in_window (Some e) i h = owner-test (find e.0 os) (latest e.0 0 ss) h
 
   in-clutter : (o : Associated) → owned_by os ss o 0 ≡ true
-  in-clutter Nobody = refl
-  in-clutter (Track e) = refl
+  in-clutter None = refl
+  in-clutter (Some e) = refl
 
   scan-owned : (n : ℕ) (f : Frame) (l : List Association) (is : List ℕ) → Tied Late l is → all_of owned (engines_of (gathered_in n f l is)) ≡ rules.owned_ok os ss l is
   unfolding gathered_in rules.owned_ok Tied

@@ -7,10 +7,8 @@ use mathlib.Core.List.{List}
 use lib.Dec.{eqb, ltb}
 use borrow.Author.Tests.{eqb-true}
 use Rattle.bounds.specs.Bounds.{ASSOCIATION}
-use Rattle.engine.specs.declared.types.Associated.{Associated}
-use Rattle.engine.specs.declared.types.Associated.TheVariants.{Nobody, Track}
 use Rattle.engine.specs.declared.types.Association.{Association}
-use Rattle.engine.specs.Frame.{no_association}
+use Rattle.engine.specs.Frame.{no_association, Associated}
 use Rattle.engine.specs.Body.{Body, layout, association_at, associations_from, associations_in, frame_of, rows}
 use Rattle.engine.proofs.Every.{both, all-at}
 use Rattle.engine.proofs.Passing.{row_at}
@@ -19,6 +17,7 @@ use Rattle.fgo_spec.specs.Rule.{loose_ok}
 use Rattle.fgo_spec.proofs.Ties.{Engine, Tied, TiedScan}
 use Rattle.fgo_state.specs.Memory.{body_at, id_at, scan_in, association_in}
 use Rattle.fgo_rule.specs.Tests.{id_ok, column_in}
+use Rattle.std.specs.Prelude.{None, Some}
 
 -- association j, where a body has one
 abbrev pub row_in : Body → ℕ → Association
@@ -34,8 +33,8 @@ tied_rows K g f o zero h = tt
 tied_rows K g f o (suc m) h = (h o (omega arith) (omega arith), tied_rows K g f (suc o) m (λ j a b. h j (omega arith) (omega arith)))
 
 loose_engine : (o : Associated) (i : ℕ) → loose_ok o i ≡ true → 0 < i → Engine (λ e. Unit {0}) o
-loose_engine Nobody i h p = absurd (omega (arith, eqb-true i 0 h))
-loose_engine (Track e) i h p = tt
+loose_engine None i h p = absurd (omega (arith, eqb-true i 0 h))
+loose_engine (Some e) i h p = tt
 
 id_loose : (next : ℕ) (columns : List ℕ) (b : Body) (n j : ℕ) → id_ok next columns b n j ≡ true → loose_ok (association_in b j).track (id_at columns n j) ≡ true
 unfolding id_ok

@@ -21,7 +21,8 @@ use Rattle.fgo_spec.specs.Rule as rules
 use Rattle.fgo_spec.specs.Rule.{all_of, prefix_ok, rises_ok, apart_ok, loose_ok, clutter_ok, column_ok, distinct_ok, rule_ok}
 use Rattle.fgo_state.specs.declared.state.FixedLagRefiner.{FixedLagRefiner}
 use Rattle.fgo_part.specs.Parts.{heights_in, part_id, part_last_frame, part_last_ns, part_count, part_height_count, part_heights_at, prefix_in, entry_in, table_in}
-use Rattle.fgo_state.specs.Memory.{Memory, body_at, id_at, scan_in, scans_in, live_in, engine_at, owner_entry, owners_in, state_of, association_in}
+use Rattle.fgo_state.specs.declared.state.Memory.{Memory}
+use Rattle.fgo_state.specs.Memory.{body_at, id_at, scan_in, scans_in, live_in, engine_at, owner_entry, owners_in, state_of, association_in}
 use Rattle.fgo_state.specs.Sound.{bodies_ok, sound_ok}
 use Rattle.fgo_rule.specs.Tests.{counts_ok, id_ok, column_in, columns_ok, id_before, part_ok, parts_ok, owned_in, distinct_at, entry_ok, entries_ok, sound_in}
 use Rattle.fgo_spec.proofs.Rows.{map_rows}
@@ -169,34 +170,34 @@ in_order l h f n z o b c p s w d v few =
 
 module _ (r : FixedLagRefiner) (m : Memory) where
   abbrev scans : List Scan
-  scans = scans_in m.bodies m.columns r.first.0 r.held
+  scans = scans_in m.scans.bodies m.scans.columns r.first.0 r.held
 
   abbrev lives : ℕ × ℕ → Bool
-  lives o = live (table_in m.tracks m.filters r.frozen) scans o.1
+  lives o = live (table_in m.parts.tracks m.parts.filters r.frozen) scans o.1
 
   entries-rule :
-      entries_ok r m.bodies m.columns m.owners m.tracks
+      entries_ok r m.scans.bodies m.scans.columns m.owners m.parts.tracks
       ≡ (distinct_ok (map (λ o. o.0) (owners_in m.owners r.owned)) && all_of lives (owners_in m.owners r.owned))
   unfolding entries_ok entry_ok
   entries-rule =
       let entry : ℕ → ℕ × ℕ = owner_entry m.owners in
-      all_both (distinct_at m.owners r.owned) (λ k. live_in m.bodies m.columns r.first.0 r.held m.tracks r.frozen (entry k).1) r.owned
-      ∙ ap (λ b. b && all (λ k. live_in m.bodies m.columns r.first.0 r.held m.tracks r.frozen (entry k).1) r.owned) (distinct_rule m.owners r.owned)
+      all_both (distinct_at m.owners r.owned) (λ k. live_in m.scans.bodies m.scans.columns r.first.0 r.held m.parts.tracks r.frozen (entry k).1) r.owned
+      ∙ ap (λ b. b && all (λ k. live_in m.scans.bodies m.scans.columns r.first.0 r.held m.parts.tracks r.frozen (entry k).1) r.owned) (distinct_rule m.owners r.owned)
       ∙ ap (λ b. distinct_ok (map (λ o. o.0) (owners_in m.owners r.owned)) && b)
-      (all_same _ (λ k. lives (entry (0 + k))) r.owned (λ k l. live_rule m.bodies m.columns r.first.0 r.held m.tracks m.filters r.frozen (entry k).1 ∙ ap (λ (j : ℕ). lives (entry j)) (sym (zero-add k)))
+      (all_same _ (λ k. lives (entry (0 + k))) r.owned (λ k l. live_rule m.scans.bodies m.scans.columns r.first.0 r.held m.parts.tracks m.parts.filters r.frozen (entry k).1 ∙ ap (λ (j : ℕ). lives (entry j)) (sym (zero-add k)))
       ∙ all-rows lives entry 0 r.owned)
 
   -- the tests that the code makes are the rule
-  pub sound_rule : sound_in r m.bodies m.columns m.owners m.tracks ≡ sound_ok r m
+  pub sound_rule : sound_in r m.scans.bodies m.scans.columns m.owners m.parts.tracks ≡ sound_ok r m
   unfolding sound_in counts_ok sound_ok rule_ok state_of owned_in
   sound_rule =
       let os = owners_in m.owners r.owned in
-      let held : length scans ≡ r.held = length-rows (scan_in m.bodies m.columns) r.first.0 r.held in
-      let frozen : length (table_in m.tracks m.filters r.frozen) ≡ r.frozen = length-rows (entry_in m.tracks m.filters) 0 r.frozen in
+      let held : length scans ≡ r.held = length-rows (scan_in m.scans.bodies m.scans.columns) r.first.0 r.held in
+      let frozen : length (table_in m.parts.tracks m.parts.filters r.frozen) ≡ r.frozen = length-rows (entry_in m.parts.tracks m.parts.filters) 0 r.frozen in
       let entries : length os ≡ r.owned = length-rows (owner_entry m.owners) 0 r.owned in
       rw (held, frozen, entries)
-      (rw (columns_rule r.next_id.0 m.bodies m.columns r.first.0 r.held, parts_rule r.first.0 r.next_id.0 m.tracks m.filters r.frozen, entries-rule)
+      (rw (columns_rule r.next_id.0 m.scans.bodies m.scans.columns r.first.0 r.held, parts_rule r.first.0 r.next_id.0 m.parts.tracks m.parts.filters r.frozen, entries-rule)
       (in_order (legal r.config) (leb r.held (lag r.config)) (leb (r.first.0 + r.held) ACCEPTED) (ltb 0 r.next_id.0) (leb r.frozen FROZEN) (leb r.owned OWNED)
-      (bodies_ok m.bodies m.columns r.first.0 r.held) (all_of (column_ok r.next_id.0) scans) (rises_ok r.first.0 r.next_id.0 0 (table_in m.tracks m.filters r.frozen))
+      (bodies_ok m.scans.bodies m.scans.columns r.first.0 r.held) (all_of (column_ok r.next_id.0) scans) (rises_ok r.first.0 r.next_id.0 0 (table_in m.parts.tracks m.parts.filters r.frozen))
       (leb (r.frozen + window_count scans) DETECTIONS) (all_of (λ s. rules.owned_ok os scans s.frame.associations s.ids) scans) (distinct_ok (map (λ o. o.0) os)) (all_of lives os)
       (λ e. le-leb r.frozen FROZEN (omega (arith, leb-true (r.frozen + window_count scans) DETECTIONS e)))))

@@ -9,37 +9,33 @@ ghost use Rattle.fgo_state.specs.Gathering.{StartsWithin};
 ghost use Rattle.fgo_state.specs.Sound.{bodies_ok, Passing};
 ghost use Rattle.fgo_rule.specs.Tests.{counts_ok, id_ok, column_in, columns_ok, id_before, part_ok, parts_ok, owned_all, distinct_at, entries_ok, owned_in, sound_in, Owning};
 
-use bounds::{
-    ACCEPTED, BODIES, COLUMNS, DETECTIONS, FROZEN, HEIGHTS, OWNED, OWNERS, PARTS, STARTS,
-};
+use bounds::{ACCEPTED, DETECTIONS, FROZEN, HEIGHTS, OWNED, OWNERS, PARTS, STARTS};
 use engine::body;
-use engine::types::{Associated, BodyKind, EngineId, RefinedId, ScanIndex};
+use engine::types::{BodyKind, EngineId, RefinedId, ScanIndex};
 use fgo_part::{part_count, part_height_count, part_id, part_last_frame, part_last_ns};
+use fgo_state::gather;
 use fgo_state::owners::{engine_at, latest_in, owner_at, owner_of};
-use fgo_state::state::FixedLagRefiner;
-use fgo_state::{gather, state};
+use fgo_state::scans::Scans;
+use fgo_state::state::{FixedLagRefiner, Memory};
 
 // ---- counts and bodies
 
-fn counts_ok(r: FixedLagRefiner) -> bool
-    ensures { result ≡ counts_ok r }
+fn counts_ok(r: &FixedLagRefiner) -> bool
+    ensures { result ≡ counts_ok r.now }
 {
-    let c = r.config;
-    let first = r.first;
-    let next = r.next_id;
-    if !c.is_legal() {
+    if !r.config.is_legal() {
         return false;
     }
-    if c.lag_frames < r.held {
+    if r.config.lag_frames < r.held {
         return false;
     }
-    if ACCEPTED < first.0 {
+    if ACCEPTED < r.first.0 {
         return false;
     }
-    if ACCEPTED < first.0 + r.held as u64 {
+    if ACCEPTED < r.first.0 + r.held as u64 {
         return false;
     }
-    if next.0 == 0 {
+    if r.next_id.0 == 0 {
         return false;
     }
     if FROZEN < r.frozen {
@@ -49,23 +45,15 @@ fn counts_ok(r: FixedLagRefiner) -> bool
 }
 
 // No held body is one that 5, 6 or 7 would refuse.
-fn bodies_ok<'a>(
-    bodies: &'a [u8; BODIES],
-    columns: &'a [u64; COLUMNS],
-    first: ScanIndex,
-    held: usize,
-) -> bool
+fn bodies_ok(scans: &Scans, first: ScanIndex, held: usize) -> bool
     requires { first.0 + held ≤ ACCEPTED + 1 }
-    ensures { result ≡ bodies_ok bodies.now columns.now first.0 held }
+    ensures { result ≡ bodies_ok scans.now.bodies scans.now.columns first.0 held }
 {
-    let mut i: usize = 0;
-    while i < held {
+    for i in 0..held {
         let n = ScanIndex(first.0 + i as u64);
-        let kind = state::kind_of(columns, n);
-        if engine_check::refusal_of(kind, state::body_in(bodies, columns, n)) != 0 {
+        if engine_check::check_body(scans.kind_of(n), scans.body_in(n)).is_err() {
             return false;
         }
-        i += 1;
     }
     true
 }
@@ -73,79 +61,53 @@ fn bodies_ok<'a>(
 // ---- columns
 
 // Clutter where there is no engine id.
-fn loose_ok(a: Associated, id: RefinedId) -> bool
+fn loose_ok(a: Option<EngineId>, id: RefinedId) -> bool
     ensures { result ≡ loose_ok a id.0 }
 {
     match a {
-        Associated::Nobody => id.0 == 0,
-        Associated::Track(_) => true,
+        None => id.0 == 0,
+        Some(_) => true,
     }
 }
 
 // The id of association j of scan n, of which the body is s.
-fn id_ok<'a>(
-    next: RefinedId,
-    columns: &'a [u64; COLUMNS],
-    kind: BodyKind,
-    s: &'a [u8],
-    n: ScanIndex,
-    j: usize,
-) -> bool
+fn id_ok(next: RefinedId, scans: &Scans, kind: BodyKind, s: &[u8], n: ScanIndex, j: usize) -> bool
     requires { (body_refusal (body_of kind s.now) ≡ 0) × (j < associations_in (body_of kind s.now)) }
-    ensures { result ≡ id_ok next.0 columns.now (body_of kind s.now) n.0 j }
+    ensures { result ≡ id_ok next.0 scans.now.columns (body_of kind s.now) n.0 j }
 {
-    let x = state::id_at(columns, n, j);
+    let x = scans.id_at(n, j);
     if x.0 != 0 {
-        if state::stands_in(columns, n, j + 1, body::association_count(kind, s), x) {
+        if scans.stands_in(n, j + 1, body::association_count(kind, s), x) {
             return false;
         }
     }
     if next.0 <= x.0 {
         return false;
     }
-    let a = body::association(kind, s, j);
-    let t = a.track;
-    loose_ok(t, x)
+    loose_ok(body::association(kind, s, j).track, x)
 }
 
-fn column_ok<'a>(
-    next: RefinedId,
-    columns: &'a [u64; COLUMNS],
-    kind: BodyKind,
-    s: &'a [u8],
-    n: ScanIndex,
-) -> bool
+fn column_ok(next: RefinedId, scans: &Scans, kind: BodyKind, s: &[u8], n: ScanIndex) -> bool
     requires { body_refusal (body_of kind s.now) ≡ 0 }
-    ensures { result ≡ column_in next.0 columns.now (body_of kind s.now) n.0 }
+    ensures { result ≡ column_in next.0 scans.now.columns (body_of kind s.now) n.0 }
 {
-    let mut j: usize = 0;
-    while j < body::association_count(kind, s) {
-        if !id_ok(next, columns, kind, s, n, j) {
+    for j in 0..body::association_count(kind, s) {
+        if !id_ok(next, scans, kind, s, n, j) {
             return false;
         }
-        j += 1;
     }
     true
 }
 
-fn columns_ok<'a>(
-    next: RefinedId,
-    bodies: &'a [u8; BODIES],
-    columns: &'a [u64; COLUMNS],
-    first: ScanIndex,
-    held: usize,
-) -> bool
-    requires { Passing bodies.now columns.now first.0 held }
-    ensures { result ≡ columns_ok next.0 bodies.now columns.now first.0 held }
+fn columns_ok(next: RefinedId, scans: &Scans, first: ScanIndex, held: usize) -> bool
+    requires { Passing scans.now.bodies scans.now.columns first.0 held }
+    ensures { result ≡ columns_ok next.0 scans.now.bodies scans.now.columns first.0 held }
 {
-    let mut i: usize = 0;
-    while i < held {
+    for i in 0..held {
         let n = ScanIndex(first.0 + i as u64);
-        let kind = state::kind_of(columns, n);
-        if !column_ok(next, columns, kind, state::body_in(bodies, columns, n), n) {
+        if !column_ok(next, scans, scans.kind_of(n), scans.body_in(n), n) {
             return false;
         }
-        i += 1;
     }
     true
 }
@@ -195,13 +157,11 @@ fn parts_ok(first: ScanIndex, next: RefinedId, tracks: &[u64; PARTS], frozen: us
     ensures { result ≡ parts_ok first.0 next.0 tracks.now frozen }
 {
     let mut before = RefinedId(0);
-    let mut k: usize = 0;
-    while k < frozen {
+    for k in 0..frozen {
         if !part_ok(first, next, tracks, k, before) {
             return false;
         }
         before = part_id(tracks, k);
-        k += 1;
     }
     true
 }
@@ -209,128 +169,93 @@ fn parts_ok(first: ScanIndex, next: RefinedId, tracks: &[u64; PARTS], frozen: us
 // ---- owners
 
 // Each engine id of the first n detections is owned by the holder of its latest.
-fn owned_all<'a>(
-    ids: &'a [u64; DETECTIONS],
-    engines: &'a [u64; DETECTIONS],
-    starts: &'a [usize; STARTS],
+fn owned_all(
+    ids: &[u64; DETECTIONS],
+    engines: &[u64; DETECTIONS],
+    starts: &[usize; STARTS],
     held: usize,
-    owners: &'a [u64; OWNERS],
+    owners: &[u64; OWNERS],
     owned: usize,
     n: usize,
 ) -> bool
     requires { StartsWithin starts.now held × (owned ≤ OWNED) × (n ≤ DETECTIONS) }
     ensures { result ≡ owned_all ids.now engines.now starts.now held owners.now owned n }
 {
-    let mut i: usize = 0;
-    while i < n {
+    for i in 0..n {
         let e = EngineId(engines[i]);
         if owner_of(owners, owned, e).0 != latest_in(e, ids, engines, starts, held).0 {
             return false;
         }
-        i += 1;
     }
     true
 }
 
 // Each engine id in a window is owned by the holder of its latest.
-fn owned_ok<'a>(
-    r: FixedLagRefiner,
-    bodies: &'a [u8; BODIES],
-    columns: &'a [u64; COLUMNS],
-    owners: &'a [u64; OWNERS],
-) -> bool
-    requires { Owning r bodies.now columns.now }
-    ensures { result ≡ owned_in r bodies.now columns.now owners.now }
+fn owned_ok(r: &FixedLagRefiner, scans: &Scans, owners: &[u64; OWNERS]) -> bool
+    requires { Owning r.now scans.now.bodies scans.now.columns }
+    ensures { result ≡ owned_in r.now scans.now.bodies scans.now.columns owners.now }
 {
     let mut ids = [0u64; DETECTIONS];
     let mut engines = [0u64; DETECTIONS];
     let mut starts = [0usize; STARTS];
-    let first = r.first;
-    let n = gather::gather(
-        bodies,
-        columns,
-        first,
-        r.held,
-        &mut ids,
-        &mut engines,
-        &mut starts,
-    );
+    let n = gather::gather(scans, r.first, r.held, &mut ids, &mut engines, &mut starts);
     owned_all(&ids, &engines, &starts, r.held, owners, r.owned, n)
 }
 
 // The engine id of entry k stands in no later entry.
+// As it is: a loop and no `contains`, since the engine ids lie apart, each before its owner.
 fn is_distinct(owners: &[u64; OWNERS], owned: usize, k: usize) -> bool
     requires { (owned ≤ OWNED) × (k < owned) }
     ensures { result ≡ distinct_at owners.now owned k }
 {
     let e = engine_at(owners, k);
-    let mut i = k + 1;
-    while i < owned {
+    for i in k + 1..owned {
         if engine_at(owners, i).0 == e.0 {
             return false;
         }
-        i += 1;
     }
     true
 }
 
 // Every entry of the owner table has an engine id of its own and a live owner.
-fn owners_ok<'a>(
-    r: FixedLagRefiner,
-    bodies: &'a [u8; BODIES],
-    columns: &'a [u64; COLUMNS],
-    owners: &'a [u64; OWNERS],
-    tracks: &'a [u64; PARTS],
-) -> bool
-    requires { (r.first.0 + r.held ≤ ACCEPTED + 1) × (r.frozen ≤ FROZEN) × (r.owned ≤ OWNED) }
-    ensures { result ≡ entries_ok r bodies.now columns.now owners.now tracks.now }
+fn owners_ok(r: &FixedLagRefiner, m: &Memory) -> bool
+    requires { (r.now.first.0 + r.now.held ≤ ACCEPTED + 1) × (r.now.frozen ≤ FROZEN) × (r.now.owned ≤ OWNED) }
+    ensures { result ≡ entries_ok r.now m.now.scans.bodies m.now.scans.columns m.now.owners m.now.parts.tracks }
 {
-    let first = r.first;
-    let mut k: usize = 0;
-    while k < r.owned {
-        if !is_distinct(owners, r.owned, k) {
+    for k in 0..r.owned {
+        if !is_distinct(&m.owners, r.owned, k) {
             return false;
         }
-        let x = owner_at(owners, k);
-        if !state::is_live(bodies, columns, first, r.held, tracks, r.frozen, x) {
+        if !r.is_live(&m.scans, &m.parts, owner_at(&m.owners, k)) {
             return false;
         }
-        k += 1;
     }
     true
 }
 
 // ---- the rule
 
-// Whether a refiner and its memory meet the state rule.
-pub fn is_sound<'a>(
-    r: FixedLagRefiner,
-    bodies: &'a [u8; BODIES],
-    columns: &'a [u64; COLUMNS],
-    owners: &'a [u64; OWNERS],
-    tracks: &'a [u64; PARTS],
-) -> bool
-    ensures { result ≡ sound_in r bodies.now columns.now owners.now tracks.now }
+// Whether a refiner and its memory meet the state rule. It does not look at the numbers of the frozen parts.
+pub fn is_sound(r: &FixedLagRefiner, m: &Memory) -> bool
+    ensures { result ≡ sound_in r.now m.now.scans.bodies m.now.scans.columns m.now.owners m.now.parts.tracks }
 {
     if !counts_ok(r) {
         return false;
     }
-    let first = r.first;
-    let next = r.next_id;
-    if !bodies_ok(bodies, columns, first, r.held) {
+    if !bodies_ok(&m.scans, r.first, r.held) {
         return false;
     }
-    if !columns_ok(next, bodies, columns, first, r.held) {
+    if !columns_ok(r.next_id, &m.scans, r.first, r.held) {
         return false;
     }
-    if !parts_ok(first, next, tracks, r.frozen) {
+    if !parts_ok(r.first, r.next_id, &m.parts.tracks, r.frozen) {
         return false;
     }
-    if DETECTIONS < r.frozen + state::window_count(bodies, columns, first, r.held) {
+    if DETECTIONS < r.frozen + m.scans.window_count(r.first, r.held) {
         return false;
     }
-    if !owned_ok(r, bodies, columns, owners) {
+    if !owned_ok(r, &m.scans, &m.owners) {
         return false;
     }
-    owners_ok(r, bodies, columns, owners, tracks)
+    owners_ok(r, m)
 }

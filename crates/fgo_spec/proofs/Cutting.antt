@@ -9,6 +9,7 @@ use lib.Ieee.{Float}
 use lib.Dec.{eqb, ltb, leb}
 use borrow.Author.Tests.{leb-true, leb-false, eq-eqb, ne_eqb, lt-ltb, le-ltb, le-leb, lt-leb}
 use Rattle.engine.specs.declared.config.FgoConfig.{FgoConfig}
+use Rattle.std.specs.Prelude.{Some}
 use Rattle.fgo_spec.specs.declared.moves.PairMove.TheVariants.{Swap}
 use Rattle.fgo_spec.specs.declared.moves.TrackMove.TheVariants.{Split, Drop}
 use Rattle.fgo_spec.specs.Lists.{keep}
@@ -88,7 +89,7 @@ module _ (a b f x : ℕ) where
           ∙ sym (append_assoc (in_scan x n s) (before f (window x (suc n) ss)) (from f (window y (suc n) ss)))
           ∙ sym (λ i. one-before f x n s ss h i ++ none_from f y n s ss h i))
 
-pub swap_says : (c : FgoConfig) (n : ℕ) (ps : List (ℕ × Prefix)) (a b f : ℕ) (g : Float) (ss : List Scan) → (a ≡ b → ⊥) → Swapped a b f n ss (after_pair c n ps a b ss (Swap (record { 0 = f }) g))
+pub swap_says : (c : FgoConfig) (n : ℕ) (ps : List (ℕ × Prefix)) (a b f : ℕ) (g : Float) (ss : List Scan) → (a ≡ b → ⊥) → Swapped a b f n ss (after_pair c n ps a b ss (Some (Swap (record { 0 = f }) g)))
 swap_says c n ps a b f g ss d =
     record {
       first = swap-window a b f a n ss ∙ ap (λ y. before f (window a n ss) ++ from f (window y n ss)) (exchange-left a b a refl);
@@ -130,7 +131,7 @@ keep_parts g v d u r p q h k =
 -- ---- split
 
 pub split_says : (c : FgoConfig) (n : ℕ) (ps : List (ℕ × Prefix)) (a x : ℕ) (g : Float) (ss : List Scan) → 0 < a → All Regular ss → (a ≡ x → ⊥) → window x n ss ≡ []
-    → (v : List Detection) (d : Detection) (u : List Detection) → window a n ss ≡ v ++ (d ∷ u) → Halved a x n v d u ss (after_track c n ps a x ss (Split (record { 0 = d.scan }) g))
+    → (v : List Detection) (d : Detection) (u : List Detection) → window a n ss ≡ v ++ (d ∷ u) → Halved a x n v d u ss (after_track c n ps a x ss (Some (Split (record { 0 = d.scan }) g)))
 unfolding keep
 split_says c n ps a x g ss h r t e v d u w =
     let f = d.scan in
@@ -177,7 +178,7 @@ module _ (a f : ℕ) (h : 0 < a) where
       go false = refl
 
 pub drop_says : (c : FgoConfig) (n : ℕ) (ps : List (ℕ × Prefix)) (a x : ℕ) (g : Float) (ss : List Scan) → 0 < a → All Regular ss
-    → (v : List Detection) (d : Detection) (u : List Detection) → window a n ss ≡ v ++ (d ∷ u) → Dropped a n v d u ss (after_track c n ps a x ss (Drop (record { 0 = d.scan }) g))
+    → (v : List Detection) (d : Detection) (u : List Detection) → window a n ss ≡ v ++ (d ∷ u) → Dropped a n v d u ss (after_track c n ps a x ss (Some (Drop (record { 0 = d.scan }) g)))
 unfolding keep
 drop_says c n ps a x g ss h r v d u w =
     let f = d.scan in

@@ -14,7 +14,6 @@ use Rattle.scalar.specs.Scalar.{finite, bits_of}
 use Rattle.scalar.specs.Ln.{ln_of}
 use Rattle.engine.specs.declared.config.FgoConfig.{FgoConfig}
 use Rattle.engine.specs.declared.types.BodyKind.TheVariants.{Narrow}
-use Rattle.engine.specs.declared.types.ClassLabel.TheVariants.{Unknown, Known}
 use Rattle.engine.specs.declared.types.EngineTrack.{EngineTrack}
 use Rattle.engine.specs.Config.{defaults}
 use Rattle.engine.specs.Little.{little}
@@ -31,6 +30,7 @@ use Rattle.fgo_spec.specs.Freezing.{mean, freeze, freeze_all, listable, remember
 use Rattle.fgo_spec.specs.Emitting.{Listed, Emitted, report, listing, associations_words, words_of, numbers_of, prediction_only_of}
 use Rattle.fgo_spec.specs.Refiner.{State, arrive, emit, leave, freeze_oldest, settle, full8, full9, full10, push_frame, push, takes}
 use Rattle.fgo_spec.specs.History.{run}
+use Rattle.std.specs.Prelude.{None, Some}
 
 -- ---- edges
 
@@ -40,9 +40,9 @@ listed_until p e = (rw e, rw e)
 
 -- a repeated engine id: "the last of them counts"
 abbrev classed : ℕ → EngineTrack
-classed n = record { id = record { 0 = 7 }; class = Known n }
+classed n = record { id = record { 0 = 7 }; class = Some n }
 
-pub last_counts : class_among 7 Unknown (classed 1 ∷ classed 2 ∷ []) ≡ Known 2
+pub last_counts : class_among 7 None (classed 1 ∷ classed 2 ∷ []) ≡ Some 2
 unfolding class_among
 last_counts = refl
 
@@ -52,7 +52,7 @@ predicted-from l = (λ e. rw e, λ e. rw e, λ e. rw e)
 
 -- "at a squared distance below radius²": 1.5 metres are not below 1.5, and 1.25 are
 abbrev pub spot : ℕ → ℕ → Detection
-spot n x = let o = of_bits binary64 0 in record { scan = n; time = pos 0; x = of_bits binary64 x; y = o; z = o; class = Unknown }
+spot n x = let o = of_bits binary64 0 in record { scan = n; time = pos 0; x = of_bits binary64 x; y = o; z = o; class = None }
 
 pub close_below : (close defaults 0 [] (spot 0 0) (spot 0 0x3ff8_0000_0000_0000) ≡ false) × (close defaults 0 [] (spot 0 0) (spot 0 0x3ff4_0000_0000_0000) ≡ true)
 unfolding close add sub mul lt round of_bits neg sum units odd size span climb of_fields count_trailing_zeros

@@ -17,11 +17,9 @@ use Rattle.buffers.specs.Answer.{Op, pushed, taken, Reply, refusal_in}
 use Rattle.buffers.specs.Run.{Run, begin, emitted_by, accepted_by, step, run_from}
 use Rattle.buffers.proofs.Running.{run_snoc}
 use Rattle.engine.specs.declared.config.FgoConfig.{FgoConfig}
-use Rattle.engine.specs.declared.types.Associated.{Associated}
-use Rattle.engine.specs.declared.types.Associated.TheVariants.{Nobody, Track}
 use Rattle.engine.specs.declared.types.Association.{Association}
 use Rattle.engine.specs.Config.{max_passes_of}
-use Rattle.engine.specs.Frame.{Frame}
+use Rattle.engine.specs.Frame.{Frame, Associated}
 use Rattle.engine.specs.Body.{Body, frame_in}
 use Rattle.fgo_spec.specs.Lists.{any, has, times, find, is_some}
 use Rattle.fgo_spec.specs.Windows.{Scan, Prefix, present, live}
@@ -48,6 +46,7 @@ use Rattle.fgo_spec.proofs.Doing.{Does, refuses, holds, leaves, Leads, stays, go
 use Rattle.fgo_spec.proofs.Giving.{arrives}
 use Rattle.fgo_spec.proofs.Sighting.{Sees, Apart, apart_by, Follows, Placed, Kept, placed-all, kept-all}
 use Rattle.fgo_spec.proofs.HistoryLaw.{Ran, ran_step, ran}
+use Rattle.std.specs.Prelude.{None, Some}
 
 -- ---- sightings of scans
 
@@ -69,8 +68,8 @@ holder_sighted e (a ∷ l) [] h = absurd (unfold holder_in in (omega arith))
 holder_sighted e (a ∷ l) (i ∷ is) h = go (holder_cases e a l i is h) (holder_sighted e l is)
   where
     here : (o : Associated) → is_engine e o ≡ true → Memᴰ (e, i) (sighted o i)
-    here Nobody q = absurd (true≢false (sym q))
-    here (Track k) q = Memᴰ.head (ap (λ n. (n, i)) (eqb-true e k.0 q))
+    here None q = absurd (true≢false (sym q))
+    here (Some k) q = Memᴰ.head (ap (λ n. (n, i)) (eqb-true e k.0 q))
 
     go : Case e a l i is → (0 < holder_in e l is → Memᴰ (e, holder_in e l is) (sighted_all l is)) → Memᴰ (e, holder_in e (a ∷ l) (i ∷ is)) (sighted a.track i ++ sighted_all l is)
     go (inl q) r = subst (λ x. Memᴰ (e, x) (sighted a.track i ++ sighted_all l is)) (sym q.2) (Memᴰ.append_left (sighted_all l is) (here a.track q.0))
@@ -93,8 +92,8 @@ sighted_stands e x (a ∷ l) [] m = absurd (Memᴰ.not-nil m)
 sighted_stands e x (a ∷ l) (i ∷ is) m = go (Memᴰ.append_cases (sighted a.track i) m) (sighted_stands e x l is)
   where
     here : (o : Associated) → Memᴰ (e, x) (sighted o i) → x ≡ i
-    here Nobody m = absurd (Memᴰ.not-nil m)
-    here (Track k) m = ap (λ p. p.1) (Memᴰ.eq_of_singleton m)
+    here None m = absurd (Memᴰ.not-nil m)
+    here (Some k) m = ap (λ p. p.1) (Memᴰ.eq_of_singleton m)
 
     go : Memᴰ (e, x) (sighted a.track i) ⊎ Memᴰ (e, x) (sighted_all l is) → (Memᴰ (e, x) (sighted_all l is) → 0 < times x is) → 0 < times x (i ∷ is)
     go (inl m) r = rw (times_here x i is (here a.track m)) (omega arith)

@@ -15,11 +15,9 @@ use lib.Ieee.{Float}
 use Rattle.scalar.specs.F64.{f64}
 use borrow.Author.Tests.{eq-eqb, ne_eqb, lt-ltb}
 use Rattle.engine.specs.declared.config.FgoConfig.{FgoConfig}
-use Rattle.engine.specs.declared.types.ClassLabel.{ClassLabel}
-use Rattle.engine.specs.declared.types.ClassLabel.TheVariants.{Unknown, Known}
 use Rattle.engine.specs.declared.types.Association.{Association}
 use Rattle.engine.specs.Config.{density}
-use Rattle.engine.specs.Frame.{Frame}
+use Rattle.engine.specs.Frame.{Frame, ClassLabel}
 use Rattle.engine.specs.Body.{time_ok}
 use Rattle.kf.specs.declared.filter.Kf.{Kf}
 use Rattle.kf.specs.Plain as Plain
@@ -33,6 +31,7 @@ use Rattle.fgo_spec.specs.Rule.{All, PrefixRule}
 use Rattle.fgo_spec.proofs.Counting.{count-cons, bump}
 use Rattle.fgo_spec.proofs.Windows.{under-cons, window-All, window-length}
 use Rattle.fgo_spec.proofs.Tables.{found_here, found_past, find-put, put-length, Up, up_put}
+use Rattle.std.specs.Prelude.{None, Some}
 
 -- ---- what observations make of a frozen part, or of none
 
@@ -124,7 +123,7 @@ over c d ds =
       last_ns = (last_of d ds).time;
       count = length (d ∷ ds);
       heights = recent (map (λ e. e.z) (d ∷ ds));
-      class = class_over Unknown (d ∷ ds);
+      class = class_over None (d ∷ ds);
     }
 
 last_snoc : (d : Detection) (ds : List Detection) (e : Detection) → last_of d (ds ++ (e ∷ [])) ≡ e
@@ -137,22 +136,22 @@ class_snoc k [] e = refl
 class_snoc k (d ∷ ds) e = class_snoc (newer d.class k) ds e
 
 -- "A track's class is the newest one known": that of the last observation that has one
-newer_known : (n : ℕ) (k : ClassLabel) → newer (Known n) k ≡ Known n
-newer_known n Unknown = refl
-newer_known n (Known m) = refl
+newer_known : (n : ℕ) (k : ClassLabel) → newer (Some n) k ≡ Some n
+newer_known n None = refl
+newer_known n (Some m) = refl
 
-newer_unknown : (k : ClassLabel) → newer Unknown k ≡ k
-newer_unknown Unknown = refl
-newer_unknown (Known n) = refl
+newer_unknown : (k : ClassLabel) → newer None k ≡ k
+newer_unknown None = refl
+newer_unknown (Some n) = refl
 
 pub class_newest :
-    (k : ClassLabel) (n : ℕ) (ds : List Detection) (d : Detection) (es : List Detection) → d.class ≡ Known n → All (λ e. e.class ≡ Unknown) es →
-    class_over k (ds ++ (d ∷ es)) ≡ Known n
+    (k : ClassLabel) (n : ℕ) (ds : List Detection) (d : Detection) (es : List Detection) → d.class ≡ Some n → All (λ e. e.class ≡ None) es →
+    class_over k (ds ++ (d ∷ es)) ≡ Some n
 unfolding class_over
 class_newest k n (b ∷ ds) d es h u = class_newest (newer b.class k) n ds d es h u
-class_newest k n [] d es h u = ap (λ l. class_over l es) (ap (λ l. newer l k) h ∙ newer_known n k) ∙ stays (Known n) es u
+class_newest k n [] d es h u = ap (λ l. class_over l es) (ap (λ l. newer l k) h ∙ newer_known n k) ∙ stays (Some n) es u
   where
-    stays : (k : ClassLabel) (es : List Detection) → All (λ e. e.class ≡ Unknown) es → class_over k es ≡ k
+    stays : (k : ClassLabel) (es : List Detection) → All (λ e. e.class ≡ None) es → class_over k es ≡ k
     stays k [] u = refl
     stays k (e ∷ es) u = ap (λ l. class_over l es) (ap (λ l. newer l k) u.0 ∙ newer_unknown k) ∙ stays k es u.1
 
@@ -170,9 +169,9 @@ over_first : (c : FgoConfig) (d : Detection) → freeze c none d ≡ over c d []
 unfolding freeze over filter_over class_over
 over_first c d = λ i. record { kf = start_at c d; last_frame = d.scan; last_ns = d.time; count = 1; heights = d.z ∷ []; class = known d.class i }
   where
-    known : (k : ClassLabel) → k ≡ newer k Unknown
-    known Unknown = refl
-    known (Known n) = refl
+    known : (k : ClassLabel) → k ≡ newer k None
+    known None = refl
+    known (Some n) = refl
 
 over_snoc : (c : FgoConfig) (d : Detection) (ds : List Detection) (e : Detection) → freeze c (some (over c d ds)) e ≡ over c d (ds ++ (e ∷ []))
 unfolding freeze over
@@ -183,7 +182,7 @@ over_snoc c d ds e =
     let n : suc (suc (length ds)) ≡ suc (length (ds ++ (e ∷ []))) = rw (length-append ds (e ∷ [])) (omega arith) in
     let z : recent (recent (map (λ e. e.z) (d ∷ ds)) ++ (e.z ∷ [])) ≡ recent (map (λ e. e.z) (d ∷ (ds ++ (e ∷ [])))) =
     five_recent (map (λ e. e.z) (d ∷ ds)) (e.z ∷ []) ∙ ap recent (sym (map-append (λ e. e.z) (d ∷ ds) (e ∷ []))) in
-    let m : newer e.class (class_over Unknown (d ∷ ds)) ≡ class_over Unknown (d ∷ (ds ++ (e ∷ []))) = class_snoc Unknown (d ∷ ds) e in
+    let m : newer e.class (class_over None (d ∷ ds)) ≡ class_over None (d ∷ (ds ++ (e ∷ []))) = class_snoc None (d ∷ ds) e in
     λ i. record { kf = k i; last_frame = (l i).scan; last_ns = (l i).time; count = n i; heights = z i; class = m i }
 
 grown_some : (c : FgoConfig) (d : Detection) (ds es : List Detection) → grown c (some (over c d ds)) es ≡ some (over c d (ds ++ es))

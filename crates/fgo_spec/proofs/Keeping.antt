@@ -13,14 +13,15 @@ use lib.ListN.{length-map}
 use lib.Dec.{eqb, leb}
 use Rattle.engine.specs.declared.config.FgoConfig.{FgoConfig}
 use Rattle.engine.specs.Config.{max_passes_of}
+use Rattle.std.specs.Prelude.{Option, Some, None}
 use Rattle.fgo_spec.specs.declared.moves.PairMove.{PairMove}
-use Rattle.fgo_spec.specs.declared.moves.PairMove.TheVariants.{Stay, Swap, Merge}
+use Rattle.fgo_spec.specs.declared.moves.PairMove.TheVariants.{Swap, Merge}
 use Rattle.fgo_spec.specs.declared.moves.TrackMove.{TrackMove}
-use Rattle.fgo_spec.specs.declared.moves.TrackMove.TheVariants.{Split, Drop, Stay as Rest}
+use Rattle.fgo_spec.specs.declared.moves.TrackMove.TheVariants.{Split, Drop}
 use Rattle.fgo_spec.specs.declared.moves.FgoCounters.{FgoCounters}
 use Rattle.fgo_spec.specs.Lists.{has, times}
 use Rattle.fgo_spec.specs.Windows.{Scan, Prefix, present}
-use Rattle.fgo_spec.specs.Searching.{exchange, clear, recolumn, absorb, swap_column, drop_column, other_of, wins, pair_gain, better_pair, next_after, Search, Pair, cons_pair, after_pair, after_track, cuts, neighbours_of, neighbours, try_swap, try_merge, pair_candidates, best_of_pair, best_of_track, pair_step, track_step, pass, passes, improve}
+use Rattle.fgo_spec.specs.Searching.{exchange, clear, recolumn, absorb, swap_column, drop_column, other_of, wins, pair_gain, best_gain, better_pair, next_after, Search, Pair, cons_pair, after_pair, after_track, cuts, neighbours_of, neighbours, try_swap, try_merge, pair_candidates, best_of_pair, best_of_track, pair_step, track_step, pass, passes, improve}
 use Rattle.fgo_spec.specs.Rule.{All}
 use Rattle.fgo_spec.specs.Faithful.{Regular}
 use Rattle.fgo_spec.proofs.All.{All-append, All-map, mem_All, foldl_keeps}
@@ -79,23 +80,26 @@ beside_weaken P Q f (s ∷ ss) (t ∷ ts) h = (f s t h.0, beside_weaken P Q f ss
 -- ---- moves that the search can choose: the keeper of a merge is one of the two
 
 abbrev Fit : ℕ → ℕ → PairMove → Type 0
-Fit a b Stay = Unit {0}
 Fit a b (Swap f g) = Unit {0}
 Fit a b (Merge k own g) = (k.0 ≡ a) ⊎ (k.0 ≡ b)
+
+abbrev BestFit : ℕ → ℕ → Option PairMove → Type 0
+BestFit a b None = Unit {0}
+BestFit a b (Some m) = Fit a b m
 
 abbrev Both : (ℕ → Type 0) → Pair → Type 0
 Both Q p = Q p.a × Q p.b
 
-next_up : (m : TrackMove) (n : ℕ) → n ≤ next_after m n
-next_up Rest n = le_refl n
-next_up (Split f g) n = omega arith
-next_up (Drop f g) n = le_refl n
+next_up : (m : Option TrackMove) (n : ℕ) → n ≤ next_after m n
+next_up None n = le_refl n
+next_up (Some (Split f g)) n = omega arith
+next_up (Some (Drop f g)) n = le_refl n
 
 module _ (c : FgoConfig) (first : ℕ) (ps : List (ℕ × Prefix)) where
-  best-fit : (ss : List Scan) (p : Pair) → Fit p.a p.b (best_of_pair c first ps ss p)
+  best-fit : (ss : List Scan) (p : Pair) → BestFit p.a p.b (best_of_pair c first ps ss p)
   unfolding best_of_pair pair_candidates try_swap try_merge
   best-fit ss p =
-      foldl_keeps (Fit a b) (Fit a b) better_pair (λ m n h k. pick (wins (pair_gain n) (pair_gain m)) m n h k) Stay (pair_candidates c first ps ss p) tt
+      foldl_keeps (BestFit a b) (Fit a b) better_pair (λ m n h k. pick (wins (pair_gain n) (best_gain pair_gain m)) m n h k) None (pair_candidates c first ps ss p) tt
       (All-append (Fit a b) (map (try_swap c first ps a b ss _) p.cuts) _ (All-map (Fit a b) (try_swap c first ps a b ss _) p.cuts (mem_All (λ f. Unit {0}) p.cuts (λ f m. tt)))
       (inl refl, (inl refl, (inr refl, (inr refl, tt)))))
     where
@@ -105,7 +109,7 @@ module _ (c : FgoConfig) (first : ℕ) (ps : List (ℕ × Prefix)) where
       b : ℕ
       b = p.b
 
-      pick : (d : Bool) (m n : PairMove) → Fit a b m → Fit a b n → Fit a b (cond d n m)
+      pick : (d : Bool) (m : Option PairMove) (n : PairMove) → BestFit a b m → Fit a b n → BestFit a b (cond d (Some n) m)
       pick true m n h k = k
       pick false m n h k = h
 
@@ -183,11 +187,11 @@ module _ (Old : ℕ → Type 0) (start : ℕ) (begun : 0 < start) (P : Scan → 
         (λ i s t k. kept-cond n s t (leb f i) (map (exchange a b) t.ids) t.ids (kept-exchange n a b u v s t k) k) first ss ts h
 
     pub kept_pair :
-        (n a b : ℕ) → Use n a → Use n b → (m : PairMove) → Fit a b m → (ts : List Scan) → Beside (Kept' n) ss ts →
+        (n a b : ℕ) → Use n a → Use n b → (m : Option PairMove) → BestFit a b m → (ts : List Scan) → Beside (Kept' n) ss ts →
         Beside (Kept' n) ss (after_pair c first ps a b ts m)
-    kept_pair n a b u v Stay h ts k = k
-    kept_pair n a b u v (Swap f g) h ts k = kept-swapped n a b f.0 u v ts k
-    kept_pair n a b u v (Merge i own g) h ts k =
+    kept_pair n a b u v None h ts k = k
+    kept_pair n a b u v (Some (Swap f g)) h ts k = kept-swapped n a b f.0 u v ts k
+    kept_pair n a b u v (Some (Merge i own g)) h ts k =
         beside-recolumn (Kept' n) (λ j. absorb own i.0 (other_of a b i.0))
         (λ j s t. kept-absorb n i.0 (other_of a b i.0) (keeper h) (other (eqb a i.0)) own s t) first ss ts k
       where
@@ -200,13 +204,13 @@ module _ (Old : ℕ → Type 0) (start : ℕ) (begun : 0 < start) (P : Scan → 
         other false = u
 
     pub kept_track :
-        (n a : ℕ) → start ≤ n → Use n a → (m : TrackMove) (ts : List Scan) → Beside (Kept' n) ss ts →
+        (n a : ℕ) → start ≤ n → Use n a → (m : Option TrackMove) (ts : List Scan) → Beside (Kept' n) ss ts →
         Beside (Kept' (next_after m n)) ss (after_track c first ps a n ts m)
-    kept_track n a h u Rest ts k = k
-    kept_track n a h u (Split f g) ts k =
+    kept_track n a h u None ts k = k
+    kept_track n a h u (Some (Split f g)) ts k =
         kept-swapped (suc n) a n f.0 (u.0, known_up Old start n (suc n) a (omega arith) u.1) (le_trans begun h, inr (h, le_refl (suc n))) ts
         (beside_weaken (Kept' n) (Kept' (suc n)) (kept-up Old start P n (suc n) (omega arith)) ss ts k)
-    kept_track n a h u (Drop f g) ts k =
+    kept_track n a h u (Some (Drop f g)) ts k =
         beside-recolumn (Kept' n) (drop_column a f.0)
         (λ i s t k. kept-cond n s t (eqb f.0 i) (map (clear a) t.ids) t.ids (kept-clear n a s t k) k) first ss ts k
 

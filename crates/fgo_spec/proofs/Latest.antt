@@ -10,8 +10,6 @@ use mathlib.Core.List.{List, [], ◌∷◌, ◌++◌}
 use lib.ListN.{length}
 use lib.Dec.{T}
 use borrow.Author.Tests.{eq-eqb, eqb-true}
-use Rattle.engine.specs.declared.types.Associated.{Associated}
-use Rattle.engine.specs.declared.types.Associated.TheVariants.{Nobody, Track}
 use Rattle.engine.specs.declared.types.Association.{Association}
 use Rattle.fgo_spec.specs.Lists.{has, times}
 use Rattle.fgo_spec.specs.Windows.{Scan, present}
@@ -21,6 +19,8 @@ use Rattle.fgo_spec.proofs.All.{All_weaken, All_mem, mem_All}
 use Rattle.fgo_spec.proofs.Counting.{times_here, times_tail}
 use Rattle.fgo_spec.proofs.Presence.{stands_present}
 use Rattle.fgo_spec.proofs.Ties.{Engine, Tied, TiedScan}
+use Rattle.std.specs.Prelude.{None, Some}
+use Rattle.engine.specs.Frame.{Associated}
 
 -- the one, or else the other
 pub or_some : (x : ℕ) → 0 < x → (y : ℕ) → or_else x y ≡ x
@@ -66,8 +66,8 @@ holder_cases e a l i is h = go (is_engine e a.track) (dec_le i (holder_in e l is
 
 -- its engine id is one that the column is tied to
 engine_is : (K : ℕ → Type 0) (e : ℕ) (o : Associated) → is_engine e o ≡ true → Engine K o → K e
-engine_is K e Nobody q k = absurd k
-engine_is K e (Track i) q k = subst K (sym (eqb-true e i.0 q)) k
+engine_is K e None q k = absurd k
+engine_is K e (Some i) q k = subst K (sym (eqb-true e i.0 q)) k
 
 holder_known : (K : ℕ → Type 0) (e : ℕ) (l : List Association) (is : List ℕ) → Tied K l is → 0 < holder_in e l is → K e
 unfolding Tied
@@ -103,8 +103,8 @@ tied_held K L (a ∷ l) (i ∷ is) f h = (
 )
   where
     here : (o : Associated) → Engine K o → 0 < i → ((e : ℕ) → 0 < cond (is_engine e o) i 0 → L e) → Engine L o
-    here Nobody k p g = k
-    here (Track e) k p g = g e.0 (rw (eq-eqb e.0 e.0 refl) p)
+    here None k p g = k
+    here (Some e) k p g = g e.0 (rw (eq-eqb e.0 e.0 refl) p)
 
 -- ---- over the scans
 

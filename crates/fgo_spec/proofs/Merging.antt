@@ -12,6 +12,7 @@ use borrow.Author.Tests.{eq-eqb, ne_eqb}
 use Rattle.engine.specs.declared.config.FgoConfig.{FgoConfig}
 use Rattle.engine.specs.declared.types.Association.{Association}
 use Rattle.engine.specs.Frame.{Frame}
+use Rattle.std.specs.Prelude.{Some}
 use Rattle.fgo_spec.specs.declared.moves.PairMove.TheVariants.{Merge}
 use Rattle.fgo_spec.specs.Lists.{keep, any, has}
 use Rattle.fgo_spec.specs.Windows.{Scan, Detection, Prefix, under, in_scan, window}
@@ -167,8 +168,8 @@ module _ (c : FgoConfig) (n : ℕ) (ps : List (ℕ × Prefix)) (a b : ℕ) (ha :
       lost true = shared-losers k o hk ho n ss r
       lost false = shared-turned k o ss ∙ shared-losers o k ho hk n ss r
 
-  pub merge_first_says : (own : Bool) (g : Float) → Merged own a b n ss (after_pair c n ps a b ss (Merge (record { 0 = a }) own g))
+  pub merge_first_says : (own : Bool) (g : Float) → Merged own a b n ss (after_pair c n ps a b ss (Some (Merge (record { 0 = a }) own g)))
   merge_first_says own g = rw (eq-eqb a a refl) (merges a b ha hb apart own)
 
-  pub merge_second_says : (own : Bool) (g : Float) → Merged own b a n ss (after_pair c n ps a b ss (Merge (record { 0 = b }) own g))
+  pub merge_second_says : (own : Bool) (g : Float) → Merged own b a n ss (after_pair c n ps a b ss (Some (Merge (record { 0 = b }) own g)))
   merge_second_says own g = rw (ne_eqb a b apart) (merges b a hb ha (λ e. apart (sym e)) own)

@@ -12,11 +12,11 @@ use lib.Ieee.Fits.{round_is, down_pos}
 use lib.Ieee.Scale.{round_same}
 use borrow.Author.Tests.{ltb-true, lt-ltb, le-ltb, eqb-true}
 use Rattle.engine.specs.declared.config.FgoConfig.{FgoConfig}
+use Rattle.std.specs.Prelude.{Option, Some, None}
 use Rattle.fgo_spec.specs.declared.moves.PairMove.{PairMove}
-use Rattle.fgo_spec.specs.declared.moves.PairMove.TheVariants.{Stay}
 use Rattle.fgo_spec.specs.Lists.{keep, cons_if, find}
 use Rattle.fgo_spec.specs.Windows.{Scan, Prefix, window, price}
-use Rattle.fgo_spec.specs.Searching.{Pair, pair_gain, wins, better_pair, swapped, track_cost, try_swap, pair_candidates, best_of_pair}
+use Rattle.fgo_spec.specs.Searching.{Pair, pair_gain, best_gain, wins, better_pair, swapped, track_cost, try_swap, pair_candidates, best_of_pair}
 use Rattle.fgo_spec.specs.Faithful.{before, from}
 use Rattle.fgo_spec.proofs.Cutting.{parts, swap_says}
 
@@ -142,11 +142,11 @@ pub nothing_wins : (x best : Float) → le best nought ≡ true → wins (sub bi
 nothing_wins x best h = gains_nothing (sub binary64 x x) best (itself x) h
 
 -- the best so far is of gain 0.0 or below
-pub best_below : (best m : PairMove) → le (pair_gain best) nought ≡ true → le (pair_gain (better_pair best m)) nought ≡ true
-best_below best m h = go (wins (pair_gain m) (pair_gain best)) refl
+pub best_below : (best : Option PairMove) (m : PairMove) → le (best_gain pair_gain best) nought ≡ true → le (best_gain pair_gain (better_pair best m)) nought ≡ true
+best_below best m h = go (wins (pair_gain m) (best_gain pair_gain best)) refl
   where
-    go : (b : Bool) → wins (pair_gain m) (pair_gain best) ≡ b → le (pair_gain (cond b m best)) nought ≡ true
-    go true q = lower (pair_gain m) (sub binary64 (pair_gain best) tiny) (less (pair_gain best) h) q
+    go : (b : Bool) → wins (pair_gain m) (best_gain pair_gain best) ≡ b → le (best_gain pair_gain (cond b (Some m) best)) nought ≡ true
+    go true q = lower (pair_gain m) (sub binary64 (best_gain pair_gain best) tiny) (less (best_gain pair_gain best) h) q
     go false q = h
 
 pub start : le nought nought ≡ true
@@ -177,7 +177,7 @@ module _ (c : FgoConfig) (n : ℕ) (ps : List (ℕ × Prefix)) (ss : List Scan) 
 
     -- such cuts may be left out
     module _ (g : ℕ → Bool) (idle : (f : ℕ) → g f ≡ false → window a n (swapped c n ps a b f ss) ≡ window a n ss) where
-      fewer : (fs : List ℕ) (rest : List PairMove) (best : PairMove) → le (pair_gain best) nought ≡ true → foldl better_pair best (map (try_swap c n ps a b ss (base a b)) (keep g fs) ++ rest) ≡ foldl better_pair best (map (try_swap c n ps a b ss (base a b)) fs ++ rest)
+      fewer : (fs : List ℕ) (rest : List PairMove) (best : Option PairMove) → le (best_gain pair_gain best) nought ≡ true → foldl better_pair best (map (try_swap c n ps a b ss (base a b)) (keep g fs) ++ rest) ≡ foldl better_pair best (map (try_swap c n ps a b ss (base a b)) fs ++ rest)
       unfolding keep
       fewer [] rest best h = refl
       fewer (f ∷ fs) rest best h = go (g f) refl (fewer fs rest)
@@ -185,11 +185,11 @@ module _ (c : FgoConfig) (n : ℕ) (ps : List (ℕ × Prefix)) (ss : List Scan) 
           try : ℕ → PairMove
           try = try_swap c n ps a b ss (base a b)
 
-          go : (k : Bool) → g f ≡ k → ((best : PairMove) → le (pair_gain best) nought ≡ true → foldl better_pair best (map try (keep g fs) ++ rest) ≡ foldl better_pair best (map try fs ++ rest)) → foldl better_pair best (map try (cons_if k f (keep g fs)) ++ rest) ≡ foldl better_pair (better_pair best (try f)) (map try fs ++ rest)
+          go : (k : Bool) → g f ≡ k → ((best : Option PairMove) → le (best_gain pair_gain best) nought ≡ true → foldl better_pair best (map try (keep g fs) ++ rest) ≡ foldl better_pair best (map try fs ++ rest)) → foldl better_pair best (map try (cons_if k f (keep g fs)) ++ rest) ≡ foldl better_pair (better_pair best (try f)) (map try fs ++ rest)
           go true q r = r (better_pair best (try f)) (best_below best (try f) h)
-          go false q r = rw (never_wins f (idle f q) (pair_gain best) h) (r best h)
+          go false q r = rw (never_wins f (idle f q) (best_gain pair_gain best) h) (r best h)
 
   -- a pair's best move is the same where cuts are left out at which a swap would leave a's window equal
   pub same_best : (p : Pair) → (p.a ≡ p.b → ⊥) → (g : ℕ → Bool) → ((f : ℕ) → g f ≡ false → window p.a n (swapped c n ps p.a p.b f ss) ≡ window p.a n ss) → best_of_pair c n ps ss (record { a = p.a; b = p.b; cuts = keep g p.cuts }) ≡ best_of_pair c n ps ss p
   unfolding best_of_pair pair_candidates
-  same_best p apart g idle = fewer p.a p.b apart g idle p.cuts _ Stay start
+  same_best p apart g idle = fewer p.a p.b apart g idle p.cuts _ None start

@@ -10,9 +10,6 @@ use Rattle.scalar.specs.Scalar.{seconds_of, bits_of}
 use Rattle.engine.specs.declared.config.FgoConfig.{FgoConfig}
 use Rattle.engine.specs.declared.types.TrackingMode.TheVariants.{CameraAssisted}
 use Rattle.engine.specs.declared.types.Outcome.TheVariants.{Updated, Spawned}
-use Rattle.engine.specs.declared.types.Associated.TheVariants.{Nobody, Track}
-use Rattle.engine.specs.declared.types.ClassLabel.TheVariants.{Known}
-use Rattle.engine.specs.declared.types.Cost.TheVariants.{Absent, Paid}
 use Rattle.engine.specs.Config.{defaults}
 use Rattle.engine.specs.Little.{little}
 use Rattle.engine.specs.Frame.{Frame}
@@ -22,7 +19,7 @@ use Rattle.cost.specs.declared.Fold.{Fold}
 use Rattle.cost.specs.declared.Fold.TheVariants.{Frozen, Going}
 use Rattle.cost.specs.Cost.{misses_of, added, fold_one}
 use Rattle.fgo_spec.specs.declared.moves.TrackMove.{TrackMove}
-use Rattle.fgo_spec.specs.declared.moves.TrackMove.TheVariants.{Split, Drop, Stay as Rest}
+use Rattle.fgo_spec.specs.declared.moves.TrackMove.TheVariants.{Split, Drop}
 use Rattle.fgo_spec.specs.declared.moves.FgoCounters.{FgoCounters}
 use Rattle.fgo_spec.specs.Lists.{keep, any, up_from, find}
 use Rattle.fgo_spec.specs.Windows.{Scan, Prefix, detection_of, under, window, price}
@@ -31,6 +28,7 @@ use Rattle.fgo_spec.specs.Freezing.{mean}
 use Rattle.fgo_spec.specs.Emitting.{Emitted, listing, words_of, numbers_of}
 use Rattle.fgo_spec.specs.Refiner.{State, new, full8, full9, full10, push_frame}
 use Rattle.fgo_spec.proofs.Examples.{spot, Sight, sight, body, tuned, shown}
+use Rattle.std.specs.Prelude.{None, Some}
 
 -- ---- refusals 8, 9 and 10
 
@@ -41,12 +39,12 @@ rich e =
     record {
       mode = CameraAssisted;
       time = negsuc 999999999;
-      tracks = record { id = record { 0 = e }; class = Known 6 } ∷ [];
+      tracks = record { id = record { 0 = e }; class = Some 6 } ∷ [];
       sensors = 4 ∷ 5 ∷ [];
       observations = record { x = o; y = o; z = o } ∷ record { x = o; y = o; z = o } ∷ [];
       associations =
-          record { index = record { 0 = 1 }; track = Track (record { 0 = e }); outcome = Updated; cost = Paid (of_bits binary64 0x3ff8_0000_0000_0000) }
-          ∷ record { index = record { 0 = 0 }; track = Nobody; outcome = Spawned; cost = Absent }
+          record { index = record { 0 = 1 }; track = Some (record { 0 = e }); outcome = Updated; cost = Some (of_bits binary64 0x3ff8_0000_0000_0000) }
+          ∷ record { index = record { 0 = 0 }; track = None; outcome = Spawned; cost = None }
           ∷ [];
     }
 
@@ -148,7 +146,6 @@ cuts_are = refl
 
 -- a move and its scan: 1 for a split, 2 for a drop
 abbrev kind : TrackMove → ℕ × ℕ
-kind Rest = (0, 0)
 kind (Split f g) = (1, f.0)
 kind (Drop f g) = (2, f.0)
 
@@ -238,7 +235,7 @@ risen =
       last_ns = last;
       count = 2;
       heights = f 0x3ff0_0000_0000_0000 ∷ f 0x4008_0000_0000_0000 ∷ [];
-      class = Known 6;
+      class = Some 6;
     }
 
 -- the frame as emitted, where that is track 3, in which its first association lies, and the other lies in none

@@ -12,8 +12,6 @@ use lib.ListN.{length, length-append}
 use lib.Dec.{T, eqb, ltb, ltb→lt}
 use borrow.Author.Tests.{eq-eqb, ne_eqb}
 use Rattle.engine.specs.declared.types.EngineId.{EngineId}
-use Rattle.engine.specs.declared.types.Associated.{Associated}
-use Rattle.engine.specs.declared.types.Associated.TheVariants.{Nobody, Track}
 use Rattle.engine.specs.declared.types.Association.{Association}
 use Rattle.fgo_spec.specs.Lists.{any, has, times, find, assign, is_some}
 use Rattle.fgo_spec.specs.Windows.{Scan, Prefix, in_windows, live}
@@ -25,6 +23,8 @@ use Rattle.fgo_spec.proofs.Counting.{bump_mono, or_right, count_snoc, has-not}
 use Rattle.fgo_spec.proofs.Tables.{found_here, found_past, find-assign, keys, Distinct, distinct_assign, assign_key}
 use Rattle.fgo_spec.proofs.Keeping.{Known, known_up}
 use Rattle.fgo_spec.proofs.Ties.{Engine, Tied, tied_weaken, tied_snoc}
+use Rattle.std.specs.Prelude.{None, Some}
+use Rattle.engine.specs.Frame.{Associated}
 
 -- an engine id has an entry
 abbrev pub Has : List (ℕ × ℕ) → ℕ → Type 0
@@ -42,8 +42,8 @@ has-assign os k x e h = subst (λ o. T (is_some o)) (sym (find-assign e k x os))
 
 -- an engine id, if any, is among some
 abbrev Among : List ℕ → Associated → Type 0
-Among l Nobody = Unit {0}
-Among l (Track e) = T (has e.0 l)
+Among l None = Unit {0}
+Among l (Some e) = T (has e.0 l)
 
 module _ (Old : ℕ → Type 0) (start : ℕ) (os : List (ℕ × ℕ)) (engines : List ℕ) where
   -- after the associations l
@@ -95,8 +95,8 @@ module _ (Old : ℕ → Type 0) (start : ℕ) (begun : 0 < start) (below : (x : 
         known x z q (no f) = known_up Old start p.next_id n x up (h.named x z (rw (count_snoc (eqb x) p.ids i, ne_eqb x i f) at q))
 
         engined : (o : Associated) → Engine (Has os') o → T (has_id o)
-        engined Nobody k = k
-        engined (Track e) k = tt
+        engined None k = k
+        engined (Some e) k = tt
 
   -- the next id stands nowhere yet
   unused : (l : List Association) (p : Placing) → Placed' l p → times p.next_id p.ids ≡ 0
@@ -108,7 +108,7 @@ module _ (Old : ℕ → Type 0) (start : ℕ) (begun : 0 < start) (below : (x : 
 
   -- a new track for the engine id e
   placed-new :
-      (l : List Association) (p : Placing) → Placed' l p → (a : Association) (e : EngineId) → a.track ≡ Track e → T (has e.0 engines) →
+      (l : List Association) (p : Placing) → Placed' l p → (a : Association) (e : EngineId) → a.track ≡ Some e → T (has e.0 engines) →
       Placed' (l ++ (a ∷ [])) (place_track p e.0 none)
   placed-new l p h a e q t =
       placed_snoc l p h a p.next_id (assign e.0 p.next_id p.owners) (suc p.next_id) (omega arith)
@@ -130,7 +130,7 @@ module _ (Old : ℕ → Type 0) (start : ℕ) (begun : 0 < start) (below : (x : 
     where
       -- an owner that is live and free, or not
       owner :
-          (e : EngineId) (x : ℕ) → a.track ≡ Track e → T (has e.0 engines) → find e.0 p.owners ≡ some x → (b d : Bool) → live ps ss x ≡ b →
+          (e : EngineId) (x : ℕ) → a.track ≡ Some e → T (has e.0 engines) → find e.0 p.owners ≡ some x → (b d : Bool) → live ps ss x ≡ b →
           has x p.ids ≡ d → Placed' (l ++ (a ∷ [])) (place_track p e.0 (free_owner ps ss p.ids (some x)))
       owner e x q t f false false u v = simp (u, v) (placed-new l p h a e q t)
       owner e x q t f false true u v = simp (u, v) (placed-new l p h a e q t)
@@ -146,14 +146,14 @@ module _ (Old : ℕ → Type 0) (start : ℕ) (begun : 0 < start) (below : (x : 
           (λ k z. z) h.distinct h.keyed)
 
       look :
-          (e : EngineId) → a.track ≡ Track e → T (has e.0 engines) → (o : Option ℕ) → find e.0 p.owners ≡ o →
+          (e : EngineId) → a.track ≡ Some e → T (has e.0 engines) → (o : Option ℕ) → find e.0 p.owners ≡ o →
           Placed' (l ++ (a ∷ [])) (place_track p e.0 (free_owner ps ss p.ids o))
       look e q t none f = placed-new l p h a e q t
       look e q t (some x) f = owner e x q t f (live ps ss x) (has x p.ids) refl refl
 
       go : (o : Associated) → a.track ≡ o → Among engines o → Placed' (l ++ (a ∷ [])) (place_one ps ss p o)
-      go Nobody q t = placed_snoc l p h a 0 p.owners p.next_id (le_refl p.next_id) (λ z. absurd (omega arith)) (λ k z. z) h.distinct h.keyed
-      go (Track e) q t = look e q t (find e.0 p.owners) refl
+      go None q t = placed_snoc l p h a 0 p.owners p.next_id (le_refl p.next_id) (λ z. absurd (omega arith)) (λ k z. z) h.distinct h.keyed
+      go (Some e) q t = look e q t (find e.0 p.owners) refl
 
   pub placed-all : (l m : List Association) (p : Placing) → Placed' l p → All (λ a. Among engines a.track) m → Placed' (l ++ m) (place ps ss m p)
   unfolding place
@@ -165,24 +165,24 @@ module _ (Old : ℕ → Type 0) (start : ℕ) (begun : 0 < start) (below : (x : 
 -- ---- the engine ids that have an owner, joined with the frame's
 
 has_join : (o : Associated) (l : List ℕ) (x : ℕ) → T (has x l) → T (has x (join o l))
-has_join Nobody l x t = t
-has_join (Track e) l x t = go (has e.0 l)
+has_join None l x t = t
+has_join (Some e) l x t = go (has e.0 l)
   where
     go : (b : Bool) → T (has x (cond b l (e.0 ∷ l)))
     go true = t
     go false = unfold any in (or_right (eqb x e.0) (has x l) t)
 
 among_join : (o : Associated) (l : List ℕ) → Among (join o l) o
-among_join Nobody l = tt
-among_join (Track e) l = go (has e.0 l) refl
+among_join None l = tt
+among_join (Some e) l = go (has e.0 l) refl
   where
     go : (b : Bool) → has e.0 l ≡ b → T (has e.0 (cond b l (e.0 ∷ l)))
     go true q = subst T (sym q) tt
     go false q = unfold any in (rw (eq-eqb e.0 e.0 refl) tt)
 
 among_weaken : (k l : List ℕ) → ((x : ℕ) → T (has x k) → T (has x l)) → (o : Associated) → Among k o → Among l o
-among_weaken k l f Nobody h = tt
-among_weaken k l f (Track e) h = f e.0 h
+among_weaken k l f None h = tt
+among_weaken k l f (Some e) h = f e.0 h
 
 module _ (ks : List ℕ) where
   abbrev pub joined_ids : List Association → List ℕ

@@ -14,8 +14,6 @@ use lib.Ieee.Bits.{is_true}
 use borrow.Author.Tests.{leb-true, ltb-true, eqb-true, le-leb, lt-ltb, eq-eqb, ne_eqb, not-true}
 use Rattle.bounds.specs.Bounds.{ACCEPTED, DETECTIONS, OWNED}
 use Rattle.engine.specs.declared.config.FgoConfig.{FgoConfig}
-use Rattle.engine.specs.declared.types.Associated.{Associated}
-use Rattle.engine.specs.declared.types.Associated.TheVariants.{Nobody, Track}
 use Rattle.engine.specs.declared.types.Association.{Association}
 use Rattle.engine.specs.Config.{legal, lag}
 use Rattle.engine.proofs.Every.{both}
@@ -28,6 +26,8 @@ use Rattle.fgo_spec.proofs.All.{All_weaken, All_both}
 use Rattle.fgo_spec.proofs.Counting.{count-any, any-count, any-All, has-All, has-not, not-has, times_here, times_past, times_tail}
 use Rattle.fgo_spec.proofs.Ties.{Engine, Tied, TiedScan, loose_tied}
 use Rattle.fgo_spec.proofs.Latest.{latest_known, tied_latest}
+use Rattle.std.specs.Prelude.{None, Some}
+use Rattle.engine.specs.Frame.{Associated}
 
 -- ---- tests
 
@@ -143,12 +143,12 @@ module _ (next : ℕ) where
       below x k = elim (eq-zero-or-pos x) [ inl z ↦ omega arith | inr p ↦ h x p k ]
 
 loose_of : (t : Associated) (i : ℕ) → loose_ok t i ≡ true → LooseOne t i
-loose_of Nobody i h = eqb-true i 0 h
-loose_of (Track e) i h = tt
+loose_of None i h = eqb-true i 0 h
+loose_of (Some e) i h = tt
 
 loose_ok_lem : (t : Associated) (i : ℕ) → LooseOne t i → loose_ok t i ≡ true
-loose_ok_lem Nobody i h = eq-eqb i 0 h
-loose_ok_lem (Track e) i h = refl
+loose_ok_lem None i h = eq-eqb i 0 h
+loose_ok_lem (Some e) i h = refl
 
 clutter_of : (l : List Association) (is : List ℕ) → clutter_ok l is ≡ true → Loose l is
 unfolding clutter_ok
@@ -201,9 +201,9 @@ module _ (os : List (ℕ × ℕ)) (ss : List Scan) where
   tied_of (a ∷ l) (i ∷ is) h k = let b = both (owned_by os ss a.track i) _ k in (one a.track i h.0 b.0, tied_of l is h.1 b.1)
     where
       one : (o : Associated) (i : ℕ) → LooseOne o i → owned_by os ss o i ≡ true → 0 < i → Engine HolderOwns o
-      one Nobody i z h p = omega arith
-      one (Track e) zero z h p = absurd (omega arith)
-      one (Track e) (suc i) z h p = owner-is (find e.0 os) (latest e.0 0 ss) h
+      one None i z h p = omega arith
+      one (Some e) zero z h p = absurd (omega arith)
+      one (Some e) (suc i) z h p = owner-is (find e.0 os) (latest e.0 0 ss) h
 
   tied-ok : (l : List Association) (is : List ℕ) → Tied HolderOwns l is → owned_ok os ss l is ≡ true
   unfolding owned_ok Tied
@@ -212,9 +212,9 @@ module _ (os : List (ℕ × ℕ)) (ss : List Scan) where
   tied-ok (a ∷ l) (i ∷ is) h = also (one a.track i h.0) (tied-ok l is h.1)
     where
       one : (o : Associated) (i : ℕ) → (0 < i → Engine HolderOwns o) → owned_by os ss o i ≡ true
-      one Nobody i f = refl
-      one (Track e) zero f = refl
-      one (Track e) (suc i) f = rw (f (omega arith)) (eq-eqb (latest e.0 0 ss) (latest e.0 0 ss) refl)
+      one None i f = refl
+      one (Some e) zero f = refl
+      one (Some e) (suc i) f = rw (f (omega arith)) (eq-eqb (latest e.0 0 ss) (latest e.0 0 ss) refl)
 
 -- ---- the law
 

@@ -14,8 +14,6 @@ use lib.Dec.{T, eqb}
 use lib.Ieee.Bits.{is_true}
 use borrow.Author.Tests.{eq-eqb, ne_eqb, eqb-true}
 use Rattle.engine.specs.declared.types.EngineId.{EngineId}
-use Rattle.engine.specs.declared.types.Associated.{Associated}
-use Rattle.engine.specs.declared.types.Associated.TheVariants.{Nobody, Track}
 use Rattle.engine.specs.declared.types.Association.{Association}
 use Rattle.fgo_spec.specs.Lists.{keep, any, has, find, assign}
 use Rattle.fgo_spec.specs.Windows.{Scan, Prefix, live}
@@ -24,6 +22,8 @@ use Rattle.fgo_spec.specs.Owning.{is_engine}
 use Rattle.fgo_spec.specs.Following.{sighted, sighted_all}
 use Rattle.fgo_spec.proofs.Counting.{count-append, count-cons, bump, bump_le, any_append}
 use Rattle.fgo_spec.proofs.Tables.{found_here, found_past, find-assign}
+use Rattle.std.specs.Prelude.{None, Some}
+use Rattle.engine.specs.Frame.{Associated}
 
 -- ---- sightings
 
@@ -42,8 +42,8 @@ abbrev pub often : ℕ → List Association → ℕ
 often e l = length (keep (λ a. is_engine e a.track) l)
 
 sighted_engine : (o : Associated) (i e x : ℕ) → Memᴰ (e, x) (sighted o i) → (is_engine e o ≡ true) × (x ≡ i)
-sighted_engine Nobody i e x m = absurd (Memᴰ.not-nil m)
-sighted_engine (Track k) i e x m = let q = Memᴰ.eq_of_singleton m in (eq-eqb e k.0 (ap (λ p. p.0) q), ap (λ p. p.1) q)
+sighted_engine None i e x m = absurd (Memᴰ.not-nil m)
+sighted_engine (Some k) i e x m = let q = Memᴰ.eq_of_singleton m in (eq-eqb e k.0 (ap (λ p. p.0) q), ap (λ p. p.1) q)
 
 -- an engine id that is sighted stands
 sighted_often : (e x : ℕ) (l : List Association) (is : List ℕ) → Memᴰ (e, x) (sighted_all l is) → 0 < often e l
@@ -207,7 +207,7 @@ module _ (ps : List (ℕ × Prefix)) (ss : List Scan) (S os : List (ℕ × ℕ))
     pub placed_one_lem : Placed (l ++ (a ∷ [])) (place_one ps ss p a.track)
     placed_one_lem = go a.track refl
       where
-        track : (k : EngineId) → a.track ≡ Track k → (o : Option ℕ) → free_owner ps ss p.ids (find k.0 p.owners) ≡ o → Placed (l ++ (a ∷ [])) (place_track p k.0 o)
+        track : (k : EngineId) → a.track ≡ Some k → (o : Option ℕ) → free_owner ps ss p.ids (find k.0 p.owners) ≡ o → Placed (l ++ (a ∷ [])) (place_track p k.0 o)
         track k e (some x) q =
             placed-with x p.owners p.next_id (le_refl p.next_id)
             (subst (λ o. Apart ((S ++ seen l p) ++ sighted o x) p.owners p.next_id) (sym e) (apart-owned k.0 x (free-is p.ids (find k.0 p.owners) x q).0))
@@ -219,12 +219,12 @@ module _ (ps : List (ℕ × Prefix)) (ss : List Scan) (S os : List (ℕ × ℕ))
             (λ z. subst (λ o. (e : ℕ) × Memᴰ (e, n) (sighted o n)) (sym e) (k.0, Memᴰ.head refl))
 
         go : (o : Associated) → a.track ≡ o → Placed (l ++ (a ∷ [])) (place_one ps ss p o)
-        go Nobody e =
+        go None e =
             placed-with 0 p.owners p.next_id (le_refl p.next_id)
             (subst (λ o. Apart ((S ++ seen l p) ++ sighted o 0) p.owners p.next_id) (sym e)
             (subst (λ k. Apart k p.owners p.next_id) (sym (append-nil (S ++ seen l p))) h.apart))
             (λ z. absurd (omega arith))
-        go (Track k) e = track k e (free_owner ps ss p.ids (find k.0 p.owners)) refl
+        go (Some k) e = track k e (free_owner ps ss p.ids (find k.0 p.owners)) refl
 
     -- ---- where no engine id stands twice
 
@@ -290,13 +290,13 @@ module _ (ps : List (ℕ × Prefix)) (ss : List Scan) (S os : List (ℕ × ℕ))
       kept-one = go a.track refl
         where
           -- an engine id that is asked for is that of the association
-          is-it : (k : EngineId) → a.track ≡ Track k → (e : ℕ) → is_engine e a.track ≡ true → e ≡ k.0
+          is-it : (k : EngineId) → a.track ≡ Some k → (e : ℕ) → is_engine e a.track ≡ true → e ≡ k.0
           is-it k q e z = eqb-true e k.0 (ap (is_engine e) (sym q) ∙ z)
 
-          isn't : (k : EngineId) → a.track ≡ Track k → (e : ℕ) → (is_engine e a.track ≡ true → ⊥) → e ≡ k.0 → ⊥
+          isn't : (k : EngineId) → a.track ≡ Some k → (e : ℕ) → (is_engine e a.track ≡ true → ⊥) → e ≡ k.0 → ⊥
           isn't k q e z w = z (ap (is_engine e) q ∙ eq-eqb e k.0 w)
 
-          track : (k : EngineId) → a.track ≡ Track k → (o : Option ℕ) → free_owner ps ss p.ids (find k.0 p.owners) ≡ o → Kept (l ++ (a ∷ [])) (place_track p k.0 o)
+          track : (k : EngineId) → a.track ≡ Some k → (o : Option ℕ) → free_owner ps ss p.ids (find k.0 p.owners) ≡ o → Kept (l ++ (a ∷ [])) (place_track p k.0 o)
           track k e (some x) q =
               let f = free-is p.ids (find k.0 p.owners) x q in
               kept-with x p.owners p.next_id (λ d z. ap (λ d. find d p.owners) (is-it k e d z) ∙ f.0) (λ d z. refl)
@@ -317,13 +317,13 @@ module _ (ps : List (ℕ × Prefix)) (ss : List Scan) (S os : List (ℕ × ℕ))
                   omega (arith, ap (λ e. often e l) c)
 
           go : (o : Associated) → a.track ≡ o → Kept (l ++ (a ∷ [])) (place_one ps ss p o)
-          go Nobody e =
+          go None e =
               kept-with 0 p.owners p.next_id (λ d z. absurd (nobody d (ap (is_engine d) (sym e) ∙ z))) (λ d z. refl)
               (λ d x z w m t. absurd (nobody d (ap (is_engine d) (sym e) ∙ z))) (λ d z. absurd (nobody d (ap (is_engine d) (sym e) ∙ z)))
             where
-              nobody : (d : ℕ) → is_engine d Nobody ≡ true → ⊥
+              nobody : (d : ℕ) → is_engine d None ≡ true → ⊥
               nobody d q = true≢false (sym q)
-          go (Track k) e = track k e (free_owner ps ss p.ids (find k.0 p.owners)) refl
+          go (Some k) e = track k e (free_owner ps ss p.ids (find k.0 p.owners)) refl
 
   -- ---- all associations
 

@@ -4,15 +4,15 @@ use native.Mathlib.Omega.{arith}
 use mathlib.Core.Path.{◌≡◌, refl}
 use mathlib.Core.List.{List, [], ◌∷◌, ◌++◌, map}
 use lib.ListN.{length}
-use Rattle.engine.specs.declared.types.Associated.{Associated}
-use Rattle.engine.specs.declared.types.Associated.TheVariants.{Nobody, Track}
 use Rattle.engine.specs.declared.types.Association.{Association}
 use Rattle.fgo_spec.specs.Windows.{Scan}
 use Rattle.fgo_spec.specs.Rule.{LooseOne, Loose}
+use Rattle.std.specs.Prelude.{None, Some}
+use Rattle.engine.specs.Frame.{Associated}
 
 abbrev pub Engine : (ℕ → Type 0) → Associated → Type 0
-Engine K Nobody = ⊥
-Engine K (Track e) = K e.0
+Engine K None = ⊥
+Engine K (Some e) = K e.0
 
 unfoldable pub Tied : (ℕ → Type 0) → List Association → List ℕ → Type 0
 Tied K [] is = Unit {0}
@@ -34,8 +34,8 @@ tied_map K g z (a ∷ l) (i ∷ is) h = ((λ k. h.0 (back i k)), tied_map K g z 
     back (suc i) k = omega arith
 
 engine_weaken : (K L : ℕ → Type 0) → ((e : ℕ) → K e → L e) → (o : Associated) → Engine K o → Engine L o
-engine_weaken K L f Nobody k = k
-engine_weaken K L f (Track e) k = f e.0 k
+engine_weaken K L f None k = k
+engine_weaken K L f (Some e) k = f e.0 k
 
 pub tied_weaken : (K L : ℕ → Type 0) → ((e : ℕ) → K e → L e) → (l : List Association) (is : List ℕ) → Tied K l is → Tied L l is
 unfolding Tied
@@ -60,9 +60,9 @@ tied_loose K (a ∷ l) [] h = tt
 tied_loose K (a ∷ l) (i ∷ is) h = (one a.track i h.0, tied_loose K l is h.1)
   where
     one : (o : Associated) (i : ℕ) → (0 < i → Engine K o) → LooseOne o i
-    one Nobody zero f = refl
-    one Nobody (suc i) f = absurd (f (omega arith))
-    one (Track e) i f = tt
+    one None zero f = refl
+    one None (suc i) f = absurd (f (omega arith))
+    one (Some e) i f = tt
 
 pub loose_tied : (l : List Association) (is : List ℕ) → Loose l is → Tied (λ e. Unit {0}) l is
 unfolding Tied
@@ -71,5 +71,5 @@ loose_tied (a ∷ l) [] h = tt
 loose_tied (a ∷ l) (i ∷ is) h = (one a.track h.0, loose_tied l is h.1)
   where
     one : (o : Associated) → LooseOne o i → 0 < i → Engine (λ e. Unit {0}) o
-    one Nobody z k = omega arith
-    one (Track e) z k = tt
+    one None z k = omega arith
+    one (Some e) z k = tt

@@ -1,20 +1,16 @@
 -- Document 01: "The frame lists, in id order, the tracks", and "Emitted words" and "Numbers". Definitions only.
-use Rattle.std.specs.Prelude.{ℕ, zero, suc, ◌^◌, Bool, cond, not, length, leb, ℤ, pos, Float}
+use Rattle.std.specs.Prelude.{ℕ, zero, suc, ◌^◌, Bool, cond, not, length, leb, ℤ, pos, Float, None, Some}
 use mathlib.Core.List.{List, [], ◌∷◌, ◌++◌, map, flat_map}
 use Rattle.std.specs.Int.Signed.{le_z}
 use Rattle.std.specs.Float.{binary64}
 use Rattle.std.specs.Float.Ieee.{of_bits}
 use Rattle.scalar.specs.Scalar.{seconds_of, word}
 use Rattle.engine.specs.declared.config.FgoConfig.{FgoConfig}
-use Rattle.engine.specs.declared.types.ClassLabel.{ClassLabel}
-use Rattle.engine.specs.declared.types.ClassLabel.TheVariants.{Unknown, Known}
 use Rattle.engine.specs.declared.types.Outcome.{Outcome}
-use Rattle.engine.specs.declared.types.Cost.{Cost}
-use Rattle.engine.specs.declared.types.Cost.TheVariants.{Absent, Paid}
 use Rattle.engine.specs.declared.types.Association.{Association}
 use Rattle.buffers.specs.Answer.{Written}
 use Rattle.engine.specs.Config.{density, position_variance}
-use Rattle.engine.specs.Frame.{mode_number, outcome_number}
+use Rattle.engine.specs.Frame.{mode_number, outcome_number, ClassLabel, Cost}
 use Rattle.engine.specs.Encode.{cost_present}
 use Rattle.kf.specs.declared.filter.Kf.{Kf}
 use Rattle.kf.specs.Filter.{predicted}
@@ -68,8 +64,8 @@ lifecycle n = cond (leb 2 n) 1 0
 
 -- "class (2^32 if none)"
 abbrev pub class_word : ClassLabel → ℕ
-class_word Unknown = 2 ^ 32
-class_word (Known n) = n
+class_word None = 2 ^ 32
+class_word (Some n) = n
 
 -- "per track id, lifecycle (0 tentative, 1 confirmed), last time, age, class (2^32 if none), count"
 abbrev pub track_words : Listed → List ℕ
@@ -130,8 +126,8 @@ track_numbers l = state_numbers l.kf l.height l.r
 
 -- "one cost per association"; 0.0 where there is none
 abbrev pub cost_number : Cost → Float
-cost_number Absent = of_bits binary64 0
-cost_number (Paid v) = v
+cost_number None = of_bits binary64 0
+cost_number (Some v) = v
 
 -- the numbers of a frame
 unfoldable pub numbers_of : Emitted → List Float

@@ -1,12 +1,10 @@
 -- What placing does, to be checked from outside: with max_passes 0 no search runs, so each dot keeps the id under which it was placed. Definitions only.
-use Rattle.std.specs.Prelude.{ℕ, ◌≤◌, ◌<◌, ◌≡◌, length, T}
+use Rattle.std.specs.Prelude.{ℕ, ◌≤◌, ◌<◌, ◌≡◌, length, T, None, Some}
 use mathlib.Core.List.{List, [], ◌∷◌, ◌++◌, flat_map, Memᴰ}
 use Rattle.buffers.specs.Answer.{Op, pushed}
 use Rattle.engine.specs.declared.config.FgoConfig.{FgoConfig}
-use Rattle.engine.specs.declared.types.Associated.{Associated}
-use Rattle.engine.specs.declared.types.Associated.TheVariants.{Nobody, Track}
 use Rattle.engine.specs.declared.types.Association.{Association}
-use Rattle.engine.specs.Frame.{Frame}
+use Rattle.engine.specs.Frame.{Frame, Associated}
 use Rattle.engine.specs.Body.{Body}
 use Rattle.fgo_spec.specs.Lists.{keep}
 use Rattle.fgo_spec.specs.Windows.{Scan, live}
@@ -16,8 +14,8 @@ use Rattle.fgo_spec.specs.History.{run, standing}
 
 -- an association's engine id, if it has one, and the id x under which its dot stands
 abbrev pub sighted : Associated → ℕ → List (ℕ × ℕ)
-sighted Nobody x = []
-sighted (Track e) x = (e.0, x) ∷ []
+sighted None x = []
+sighted (Some e) x = (e.0, x) ∷ []
 
 -- those of associations with their ids
 unfoldable pub sighted_all : List Association → List ℕ → List (ℕ × ℕ)

@@ -1,5 +1,5 @@
 -- Document 01, "fgo.rs: freezing". Definitions only.
-use Rattle.std.specs.Prelude.{ℕ, zero, suc, ◌-◌, Bool, ◌||◌, length, drop, ℤ, pos, ◌-ℤ◌, Float}
+use Rattle.std.specs.Prelude.{ℕ, zero, suc, ◌-◌, Bool, ◌||◌, length, drop, ℤ, pos, ◌-ℤ◌, Float, None, Some}
 use mathlib.Core.List.{List, [], ◌∷◌, ◌++◌, foldl}
 use Rattle.std.proofs.Math.Option.{Option, none, some}
 use Rattle.std.specs.Int.Signed.{le_z}
@@ -8,11 +8,9 @@ use Rattle.std.specs.Float.Ieee.{add, div, of_bits, of_int}
 use Rattle.bounds.specs.Bounds.{HEIGHTS}
 use Rattle.scalar.specs.Scalar.{seconds_of}
 use Rattle.engine.specs.declared.config.FgoConfig.{FgoConfig}
-use Rattle.engine.specs.declared.types.ClassLabel.{ClassLabel}
-use Rattle.engine.specs.declared.types.ClassLabel.TheVariants.{Unknown, Known}
 use Rattle.engine.specs.declared.types.Association.{Association}
 use Rattle.engine.specs.Config.{density, variance, coast, forget_after}
-use Rattle.engine.specs.Frame.{Frame}
+use Rattle.engine.specs.Frame.{Frame, ClassLabel}
 use Rattle.kf.specs.declared.filter.Kf.{Kf}
 use Rattle.kf.specs.Filter.{started, worked}
 use Rattle.fgo_spec.specs.Lists.{keep, has, find, put}
@@ -37,8 +35,8 @@ mean (h ∷ hs) = div binary64 (foldl (add binary64) h hs) (of_int binary64 (pos
 
 -- "A track's class is the newest one known"
 abbrev pub newer : ClassLabel → ClassLabel → ClassLabel
-newer Unknown k = k
-newer (Known n) k = Known n
+newer None k = k
+newer (Some n) k = Some n
 
 -- "The frozen filter moves on by one detection, or starts from it where the track had no frozen part"
 unfoldable pub freeze : FgoConfig → Option Prefix → Detection → Prefix

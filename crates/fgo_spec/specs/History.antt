@@ -1,5 +1,5 @@
 -- Demand 3: what a user may hold the refiner to, over every list of pushes and takes. Definitions only.
-use Rattle.std.specs.Prelude.{ℕ, ◌≤◌, ◌<◌, ◌≡◌, true, ◌⊎◌, length, get_or, drop, T, ℤ, ◌-ℤ◌, ◌≤ℤ◌, Float}
+use Rattle.std.specs.Prelude.{ℕ, ◌≤◌, ◌<◌, ◌≡◌, true, ◌⊎◌, length, get_or, drop, T, ℤ, ◌-ℤ◌, ◌≤ℤ◌, Float, None}
 use mathlib.Core.List.{List, [], ◌∷◌, ◌++◌, map, Memᴰ}
 use Rattle.std.proofs.Math.Option.{Option, none, some}
 use Rattle.std.specs.Int.Signed.{le_z}
@@ -9,10 +9,8 @@ use Rattle.buffers.specs.Run.{Run, run_from}
 use Rattle.scalar.specs.F64.{f64}
 use Rattle.scalar.specs.Scalar.{seconds_of}
 use Rattle.engine.specs.declared.config.FgoConfig.{FgoConfig}
-use Rattle.engine.specs.declared.types.ClassLabel.{ClassLabel}
-use Rattle.engine.specs.declared.types.ClassLabel.TheVariants.{Unknown}
 use Rattle.engine.specs.Config.{density, variance, coast, forget_after, legal}
-use Rattle.engine.specs.Frame.{Frame}
+use Rattle.engine.specs.Frame.{Frame, ClassLabel}
 use Rattle.engine.specs.Body.{Body, frame_in, index_of, NamedOnce}
 use Rattle.kf.specs.declared.filter.Kf.{Kf}
 use Rattle.kf.specs.Plain as Plain
@@ -61,7 +59,7 @@ afresh c now x (d ∷ ds) =
       id = x;
       last_ns = (last_of d ds).time;
       age = now -ℤ (last_of d ds).time;
-      class = class_over Unknown (d ∷ ds);
+      class = class_over None (d ∷ ds);
       count = length (d ∷ ds);
       kf = predicted (filter_over c d ds) (seconds_of now) (density c);
       height = mean (recent (map (λ e. e.z) (d ∷ ds)));

@@ -1,15 +1,14 @@
 -- Document 01: "Finally each engine id that has detections in windows goes to the track that holds its latest one". Definitions only.
-use Rattle.std.specs.Prelude.{ℕ, zero, suc, max, Bool, false, cond, List, [], ◌∷◌, map, eqb}
-use Rattle.engine.specs.declared.types.Associated.{Associated}
-use Rattle.engine.specs.declared.types.Associated.TheVariants.{Nobody, Track}
+use Rattle.std.specs.Prelude.{ℕ, zero, suc, max, Bool, false, cond, List, [], ◌∷◌, map, eqb, None, Some}
 use Rattle.engine.specs.declared.types.Association.{Association}
 use Rattle.fgo_spec.specs.Lists.{keep}
 use Rattle.fgo_spec.specs.Windows.{Scan, Prefix, live}
+use Rattle.engine.specs.Frame.{Associated}
 
 -- the association has the engine id e
 abbrev pub is_engine : ℕ → Associated → Bool
-is_engine e Nobody = false
-is_engine e (Track k) = eqb e k.0
+is_engine e None = false
+is_engine e (Some k) = eqb e k.0
 
 -- "if two are in equal scans, the track with the greater id gets it": the greatest id that holds the engine id e in a scan, 0 if none
 unfoldable pub holder_in : ℕ → List Association → List ℕ → ℕ

@@ -1,11 +1,10 @@
 -- Document 01, "placing": "Push takes the frame's associations in order." Definitions only.
-use Rattle.std.specs.Prelude.{ℕ, suc, cond, ◌&&◌, not, List, [], ◌∷◌, ◌++◌}
+use Rattle.std.specs.Prelude.{ℕ, suc, cond, ◌&&◌, not, List, [], ◌∷◌, ◌++◌, None, Some}
 use Rattle.std.proofs.Math.Option.{Option, none, some}
-use Rattle.engine.specs.declared.types.Associated.{Associated}
-use Rattle.engine.specs.declared.types.Associated.TheVariants.{Nobody, Track}
 use Rattle.engine.specs.declared.types.Association.{Association}
 use Rattle.fgo_spec.specs.Lists.{has, find, assign}
 use Rattle.fgo_spec.specs.Windows.{Scan, Prefix, live}
+use Rattle.engine.specs.Frame.{Associated}
 
 -- the ids given so far, the owner of each engine id, and the next id
 pub record Placing : Type 0 where
@@ -25,8 +24,8 @@ place_track p e none = record { ids = p.ids ++ (p.next_id ∷ []); owners = assi
 
 -- "One without an engine id becomes clutter."
 abbrev pub place_one : List (ℕ × Prefix) → List Scan → Placing → Associated → Placing
-place_one ps ss p Nobody = record { ids = p.ids ++ (0 ∷ []); owners = p.owners; next_id = p.next_id }
-place_one ps ss p (Track e) = place_track p e.0 (free_owner ps ss p.ids (find e.0 p.owners))
+place_one ps ss p None = record { ids = p.ids ++ (0 ∷ []); owners = p.owners; next_id = p.next_id }
+place_one ps ss p (Some e) = place_track p e.0 (free_owner ps ss p.ids (find e.0 p.owners))
 
 -- "Push takes the frame's associations in order."
 unfoldable pub place : List (ℕ × Prefix) → List Scan → List Association → Placing → Placing

@@ -1,15 +1,13 @@
 -- The refiner: its state, push and take, and the refusals 5 to 10 and 13. Definitions only.
-use Rattle.std.specs.Prelude.{ℕ, suc, ◌+◌, Bool, true, false, cond, ◌||◌, length, leb, ltb}
+use Rattle.std.specs.Prelude.{ℕ, suc, ◌+◌, Bool, true, false, cond, ◌||◌, length, leb, ltb, None, Some}
 use mathlib.Core.List.{List, [], ◌∷◌, ◌++◌, map, foldr}
 use Rattle.std.proofs.Math.Option.{Option, none, some}
 use Rattle.bounds.specs.Bounds.{ACCEPTED, COUNTED, DETECTIONS, OWNED}
 use Rattle.buffers.specs.Answer.{Op, pushed, taken, Reply, refused, waits, gives}
 use Rattle.engine.specs.declared.config.FgoConfig.{FgoConfig}
-use Rattle.engine.specs.declared.types.Associated.{Associated}
-use Rattle.engine.specs.declared.types.Associated.TheVariants.{Nobody, Track}
 use Rattle.engine.specs.declared.types.Association.{Association}
 use Rattle.engine.specs.Config.{lag}
-use Rattle.engine.specs.Frame.{Frame}
+use Rattle.engine.specs.Frame.{Frame, Associated}
 use Rattle.engine.specs.Body.{Body, layout, Decoded, decode, refused as unread, read}
 use Rattle.fgo_spec.specs.declared.moves.FgoCounters.{FgoCounters}
 use Rattle.fgo_spec.specs.Lists.{keep, has}
@@ -110,8 +108,8 @@ full8 t =
 
 -- the association has an engine id
 abbrev pub has_id : Associated → Bool
-has_id Nobody = false
-has_id (Track e) = true
+has_id None = false
+has_id (Some e) = true
 
 -- "new associations with an id"
 abbrev pub id_count : List Association → ℕ
@@ -123,8 +121,8 @@ full9 t f = ltb DETECTIONS (length t.prefixes + window_count t.scans + id_count 
 
 -- an engine id joined to those of a list
 abbrev pub join : Associated → List ℕ → List ℕ
-join Nobody l = l
-join (Track e) l = cond (has e.0 l) l (e.0 ∷ l)
+join None l = l
+join (Some e) l = cond (has e.0 l) l (e.0 ∷ l)
 
 -- 10: "engine ids with a live owner, joined with the frame's, exceed 256"; by the state rule every entry has a live owner
 unfoldable pub full10 : State → Frame → Bool

@@ -3,15 +3,13 @@
 -- Of the rule's parts these hold of every state by the way it is written: "every track is frozen or has a window; windows hold only held associations". That
 -- they hold them "rising in scan", and that "each held association lies in exactly one window or in clutter", is `complete` and `apart` of `ColumnRule`: an id
 -- for each association, and no track twice in a scan.
-use Rattle.std.specs.Prelude.{ℕ, zero, suc, ◌+◌, ◌≤◌, ◌<◌, ◌≡◌, Bool, true, false, ◌&&◌, ◌||◌, not, List, [], ◌∷◌, map, length, T, leb, ltb, eqb}
+use Rattle.std.specs.Prelude.{ℕ, zero, suc, ◌+◌, ◌≤◌, ◌<◌, ◌≡◌, Bool, true, false, ◌&&◌, ◌||◌, not, List, [], ◌∷◌, map, length, T, leb, ltb, eqb, None, Some}
 use Rattle.std.proofs.Math.Option.{Option, none, some}
 use Rattle.bounds.specs.Bounds.{ACCEPTED, DETECTIONS, OWNED, HEIGHTS}
 use Rattle.engine.specs.declared.config.FgoConfig.{FgoConfig}
-use Rattle.engine.specs.declared.types.Associated.{Associated}
-use Rattle.engine.specs.declared.types.Associated.TheVariants.{Nobody, Track}
 use Rattle.engine.specs.declared.types.Association.{Association}
 use Rattle.engine.specs.Config.{legal, lag}
-use Rattle.engine.specs.Frame.{Frame}
+use Rattle.engine.specs.Frame.{Frame, Associated}
 use Rattle.engine.specs.Body.{Body, time_ok, frame_in, body_refusal}
 use Rattle.fgo_spec.specs.Lists.{has, times, find}
 use Rattle.fgo_spec.specs.Windows.{Scan, Prefix, live, window_count}
@@ -49,8 +47,8 @@ Rise first next x (e ∷ ps) = (x < e.0) × (e.0 < next) × PrefixRule first e.1
 
 -- "those without engine id in clutter"
 abbrev pub LooseOne : Associated → ℕ → Type 0
-LooseOne Nobody i = i ≡ 0
-LooseOne (Track e) i = Unit {0}
+LooseOne None i = i ≡ 0
+LooseOne (Some e) i = Unit {0}
 
 -- of all associations of a scan, and their ids
 abbrev pub Loose : List Association → List ℕ → Type 0
@@ -110,8 +108,8 @@ apart_ok (i ∷ is) = (eqb i 0 || not (has i is)) && apart_ok is
 
 -- of `LooseOne`
 abbrev pub loose_ok : Associated → ℕ → Bool
-loose_ok Nobody i = eqb i 0
-loose_ok (Track e) i = true
+loose_ok None i = eqb i 0
+loose_ok (Some e) i = true
 
 -- of `Loose`
 unfoldable pub clutter_ok : List Association → List ℕ → Bool
@@ -132,9 +130,9 @@ owner_is (some y) x = eqb y x
 
 -- where the association lies in a window, its engine id is owned by the holder of the latest
 abbrev pub owned_by : List (ℕ × ℕ) → List Scan → Associated → ℕ → Bool
-owned_by os ss Nobody i = true
-owned_by os ss (Track e) zero = true
-owned_by os ss (Track e) (suc i) = owner_is (find e.0 os) (latest e.0 0 ss)
+owned_by os ss None i = true
+owned_by os ss (Some e) zero = true
+owned_by os ss (Some e) (suc i) = owner_is (find e.0 os) (latest e.0 0 ss)
 
 -- of all associations of a scan
 unfoldable pub owned_ok : List (ℕ × ℕ) → List Scan → List Association → List ℕ → Bool

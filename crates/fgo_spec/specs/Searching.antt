@@ -1,5 +1,5 @@
 -- Document 01, "searching": pairs and cuts, the moves and their gains, passes. Definitions only.
-use Rattle.std.specs.Prelude.{ℕ, zero, suc, ◌+◌, min, Bool, true, false, cond, ◌&&◌, ◌||◌, length, leb, eqb, ltb, pos, Float}
+use Rattle.std.specs.Prelude.{ℕ, zero, suc, ◌+◌, min, Bool, true, false, cond, ◌&&◌, ◌||◌, length, leb, eqb, ltb, pos, Float, Option, Some, None}
 use mathlib.Core.List.{List, [], ◌∷◌, ◌++◌, map, foldl}
 use Rattle.std.proofs.Math.Option.{none}
 use Rattle.std.specs.Float.{binary64}
@@ -7,9 +7,9 @@ use Rattle.std.specs.Float.Ieee.{add, sub, mul, lt, of_bits, of_int}
 use Rattle.engine.specs.declared.config.FgoConfig.{FgoConfig}
 use Rattle.engine.specs.Config.{radius, clutter, max_passes_of}
 use Rattle.fgo_spec.specs.declared.moves.PairMove.{PairMove}
-use Rattle.fgo_spec.specs.declared.moves.PairMove.TheVariants.{Stay, Swap, Merge}
+use Rattle.fgo_spec.specs.declared.moves.PairMove.TheVariants.{Swap, Merge}
 use Rattle.fgo_spec.specs.declared.moves.TrackMove.{TrackMove}
-use Rattle.fgo_spec.specs.declared.moves.TrackMove.TheVariants.{Split, Drop, Stay as Rest}
+use Rattle.fgo_spec.specs.declared.moves.TrackMove.TheVariants.{Split, Drop}
 use Rattle.fgo_spec.specs.declared.moves.FgoCounters.{FgoCounters}
 use Rattle.fgo_spec.specs.Lists.{keep, any, has, up_from, find, is_some}
 use Rattle.fgo_spec.specs.Windows.{Scan, Detection, Prefix, window, present, price}
@@ -66,15 +66,13 @@ other_of a b k = cond (eqb a k) b a
 
 -- ---- the best move
 
--- "The best gain begins at 0.0"
+-- what a move of a pair gains
 abbrev pub pair_gain : PairMove → Float
-pair_gain Stay = of_bits binary64 0
 pair_gain (Swap f g) = g
 pair_gain (Merge k own g) = g
 
 -- likewise of a single track
 abbrev pub track_gain : TrackMove → Float
-track_gain Rest = of_bits binary64 0
 track_gain (Split f g) = g
 track_gain (Drop f g) = g
 
@@ -82,45 +80,47 @@ track_gain (Drop f g) = g
 abbrev pub wins : Float → Float → Bool
 wins d best = lt d (best ⊖ of_bits binary64 0x3e11_2e0b_e826_d695)
 
--- "keeps for each pair the best move with its gain": of equal gains the first tried stays
-abbrev pub better_pair : PairMove → PairMove → PairMove
-better_pair best m = cond (wins (pair_gain m) (pair_gain best)) m best
+-- "The best gain begins at 0.0"
+abbrev pub best_gain : {M : Type 0} → (M → Float) → Option M → Float
+best_gain gain None = of_bits binary64 0
+best_gain gain (Some m) = gain m
 
--- likewise of a single track
-abbrev pub better_track : TrackMove → TrackMove → TrackMove
-better_track best m = cond (wins (track_gain m) (track_gain best)) m best
+-- "keeps for each pair the best move with its gain": of equal gains the first tried stays; none while none wins
+abbrev pub better : {M : Type 0} → (M → Float) → Option M → M → Option M
+better gain best m = cond (wins (gain m) (best_gain gain best)) (Some m) best
+
+-- the better move of a pair
+abbrev pub better_pair : Option PairMove → PairMove → Option PairMove
+better_pair best m = better pair_gain best m
+
+-- and of a single track
+abbrev pub better_track : Option TrackMove → TrackMove → Option TrackMove
+better_track best m = better track_gain best m
 
 -- ---- counting
 
--- the counters after a move of a pair
-abbrev pub count_pair : PairMove → FgoCounters → FgoCounters
-count_pair Stay k = k
-count_pair (Swap f g) k = record { swaps = suc k.swaps; merges = k.merges; splits = k.splits; drops = k.drops }
-count_pair (Merge i own g) k = record { swaps = k.swaps; merges = suc k.merges; splits = k.splits; drops = k.drops }
+-- the counters after the best move of a pair
+abbrev pub count_pair : Option PairMove → FgoCounters → FgoCounters
+count_pair None k = k
+count_pair (Some (Swap f g)) k = record { swaps = suc k.swaps; merges = k.merges; splits = k.splits; drops = k.drops }
+count_pair (Some (Merge i own g)) k = record { swaps = k.swaps; merges = suc k.merges; splits = k.splits; drops = k.drops }
 
--- the counters after a move of a single track
-abbrev pub count_track : TrackMove → FgoCounters → FgoCounters
-count_track Rest k = k
-count_track (Split f g) k = record { swaps = k.swaps; merges = k.merges; splits = suc k.splits; drops = k.drops }
-count_track (Drop f g) k = record { swaps = k.swaps; merges = k.merges; splits = k.splits; drops = suc k.drops }
+-- the counters after the best move of a single track
+abbrev pub count_track : Option TrackMove → FgoCounters → FgoCounters
+count_track None k = k
+count_track (Some (Split f g)) k = record { swaps = k.swaps; merges = k.merges; splits = suc k.splits; drops = k.drops }
+count_track (Some (Drop f g)) k = record { swaps = k.swaps; merges = k.merges; splits = k.splits; drops = suc k.drops }
 
 -- the tail of a split "gets the next id"
-abbrev pub next_after : TrackMove → ℕ → ℕ
-next_after Rest n = n
-next_after (Split f g) n = suc n
-next_after (Drop f g) n = n
+abbrev pub next_after : Option TrackMove → ℕ → ℕ
+next_after None n = n
+next_after (Some (Split f g)) n = suc n
+next_after (Some (Drop f g)) n = n
 
--- a move of a pair was made
-abbrev pub pair_moves : PairMove → Bool
-pair_moves Stay = false
-pair_moves (Swap f g) = true
-pair_moves (Merge k own g) = true
-
--- a move of a single track was made
-abbrev pub track_moves : TrackMove → Bool
-track_moves Rest = false
-track_moves (Split f g) = true
-track_moves (Drop f g) = true
+-- a move was made
+abbrev pub moves : {M : Type 0} → Option M → Bool
+moves None = false
+moves (Some m) = true
 
 -- what a pass changes, and whether it made a move
 pub record Search : Type 0 where
@@ -182,17 +182,17 @@ module _ (c : FgoConfig) (first : ℕ) (ps : List (ℕ × Prefix)) where
   abbrev pub dropped : ℕ → ℕ → List Scan → List Scan
   dropped a f ss = recolumn (drop_column a f) first ss
 
-  -- what a move leaves
-  abbrev pub after_pair : ℕ → ℕ → List Scan → PairMove → List Scan
-  after_pair a b ss Stay = ss
-  after_pair a b ss (Swap f g) = swapped a b f.0 ss
-  after_pair a b ss (Merge k own g) = merged own k.0 (other_of a b k.0) ss
+  -- what the best move leaves
+  abbrev pub after_pair : ℕ → ℕ → List Scan → Option PairMove → List Scan
+  after_pair a b ss None = ss
+  after_pair a b ss (Some (Swap f g)) = swapped a b f.0 ss
+  after_pair a b ss (Some (Merge k own g)) = merged own k.0 (other_of a b k.0) ss
 
   -- "The tail has no frozen part; it gets the next id", here x
-  abbrev pub after_track : ℕ → ℕ → List Scan → TrackMove → List Scan
-  after_track a x ss Rest = ss
-  after_track a x ss (Split f g) = swapped a x f.0 ss
-  after_track a x ss (Drop f g) = dropped a f.0 ss
+  abbrev pub after_track : ℕ → ℕ → List Scan → Option TrackMove → List Scan
+  after_track a x ss None = ss
+  after_track a x ss (Some (Split f g)) = swapped a x f.0 ss
+  after_track a x ss (Some (Drop f g)) = dropped a f.0 ss
 
   -- ---- "A pass first lists, in ascending order, the pairs of tracks a < b"
 
@@ -248,8 +248,8 @@ module _ (c : FgoConfig) (first : ℕ) (ps : List (ℕ × Prefix)) where
       ∷ [])
 
   -- the best of them, from no move on
-  unfoldable pub best_of_pair : List Scan → Pair → PairMove
-  best_of_pair ss p = foldl better_pair Stay (pair_candidates ss p)
+  unfoldable pub best_of_pair : List Scan → Pair → Option PairMove
+  best_of_pair ss p = foldl better_pair None (pair_candidates ss p)
 
   -- ---- the best move of a track: "for a move of a single track it is that track's old cost"
 
@@ -272,8 +272,8 @@ module _ (c : FgoConfig) (first : ℕ) (ps : List (ℕ × Prefix)) where
       map (try_split a x ss base) (rest w) ++ map (try_drop a ss base) (droppable (is_some (find a ps)) w)
 
   -- the best of them, from no move on
-  unfoldable pub best_of_track : List Scan → ℕ → ℕ → TrackMove
-  best_of_track ss x a = foldl better_track Rest (track_candidates ss x a)
+  unfoldable pub best_of_track : List Scan → ℕ → ℕ → Option TrackMove
+  best_of_track ss x a = foldl better_track None (track_candidates ss x a)
 
   -- ---- passes
 
@@ -285,7 +285,7 @@ module _ (c : FgoConfig) (first : ℕ) (ps : List (ℕ × Prefix)) where
         scans = after_pair p.a p.b s.scans m;
         next_id = s.next_id;
         counters = count_pair m s.counters;
-        moved = s.moved || pair_moves m;
+        moved = s.moved || moves m;
       }
 
   -- a track's best move, made
@@ -296,7 +296,7 @@ module _ (c : FgoConfig) (first : ℕ) (ps : List (ℕ × Prefix)) where
         scans = after_track a s.next_id s.scans m;
         next_id = next_after m s.next_id;
         counters = count_track m s.counters;
-        moved = s.moved || track_moves m;
+        moved = s.moved || moves m;
       }
 
   -- the pairs listed at the start, with the windows as they are by then; "After the pairs the pass visits each id present"

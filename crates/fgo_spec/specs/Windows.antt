@@ -3,19 +3,15 @@
 -- A held scan has, for each of its associations in order, the refined id of the track in whose window the association lies, 0 where it is clutter.
 -- So each held association lies in exactly one window or in clutter, and a window is read off the scans, rising in scan. A track is live where it has
 -- a frozen part or a window: nothing else is kept of it.
-use Rattle.std.specs.Prelude.{ℕ, suc, Bool, cond, ◌||◌, length, get_or, eqb, ltb, ℤ, Float}
+use Rattle.std.specs.Prelude.{ℕ, suc, Bool, cond, ◌||◌, length, get_or, eqb, ltb, ℤ, Float, None, Some}
 use mathlib.Core.List.{List, [], ◌∷◌, ◌++◌, map, flat_map, foldr}
 use Rattle.std.proofs.Math.Option.{Option, none, some}
 use Rattle.scalar.specs.Scalar.{seconds_of}
 use Rattle.engine.specs.declared.config.FgoConfig.{FgoConfig}
-use Rattle.engine.specs.declared.types.Associated.{Associated}
-use Rattle.engine.specs.declared.types.Associated.TheVariants.{Nobody, Track}
-use Rattle.engine.specs.declared.types.ClassLabel.{ClassLabel}
-use Rattle.engine.specs.declared.types.ClassLabel.TheVariants.{Unknown}
 use Rattle.engine.specs.declared.types.EngineTrack.{EngineTrack}
 use Rattle.engine.specs.declared.types.Association.{Association}
 use Rattle.engine.specs.Config.{position_variance}
-use Rattle.engine.specs.Frame.{Frame, no_observation}
+use Rattle.engine.specs.Frame.{Frame, no_observation, Associated, ClassLabel}
 use Rattle.kf.specs.declared.filter.Kf.{Kf}
 use Rattle.cost.specs.declared.Fold.{Fold}
 use Rattle.cost.specs.declared.Fold.TheVariants.{Fresh, Frozen}
@@ -54,8 +50,8 @@ class_among e k (t ∷ ts) = class_among e (cond (eqb e t.id.0) t.class k) ts
 
 -- the class that an association knows
 abbrev pub class_for : Associated → List EngineTrack → ClassLabel
-class_for Nobody ts = Unknown
-class_for (Track e) ts = class_among e.0 Unknown ts
+class_for None ts = None
+class_for (Some e) ts = class_among e.0 None ts
 
 -- the observation of an association of scan n
 unfoldable pub detection_of : ℕ → Frame → Association → Detection

@@ -1,10 +1,9 @@
 // The moves of the search, each with its gain, and their counters.
 use engine::types::{RefinedId, ScanIndex};
 
-// The best move of a pair of tracks.
+// A move of a pair of tracks.
 #[derive(Clone, Copy)]
 pub enum PairMove {
-    Stay,
     // From the cut on the two exchange their windows.
     Swap {
         cut: ScanIndex,
@@ -18,10 +17,9 @@ pub enum PairMove {
     },
 }
 
-// The best move of one track.
+// A move of one track.
 #[derive(Clone, Copy)]
 pub enum TrackMove {
-    Stay,
     // From the cut on the window goes to a new track.
     Split { cut: ScanIndex, gain: f64 },
     // The detection of one scan becomes clutter.

@@ -3,7 +3,9 @@ use Prim.Native.Nat.{ℕ, zero, suc, ◌+◌, ◌*◌, ◌<◌}
 use mathlib.Core.Path.{◌≡◌}
 use mathlib.Core.Bool.{true}
 use mathlib.Core.List.{List, [], ◌∷◌}
-use lib.ListN.{take, drop}
+use lib.ListN.{take, drop, get_or}
+use mir.Syntax.{w8}
+use mir.Val.{Fits}
 use borrow.Author.Tests.{eqb-true}
 use Rattle.bounds.specs.Bounds.{BODY}
 use Rattle.engine.specs.Body.{body_refusal}
@@ -29,3 +31,8 @@ all_drop P (suc n) (a ∷ l) h = all_drop P n l h.1
 pub bytes_held : (bodies columns : List ℕ) (n : ℕ) → Bytes bodies → Bytes (bytes_at bodies columns n)
 unfolding bytes_at
 bytes_held bodies columns n h = all_take (λ b. b < 256) (length_in (head_at columns n)) (drop (BODY * slot_at n) bodies) (all_drop (λ b. b < 256) (BODY * slot_at n) bodies h)
+
+-- a list whose entries are bytes
+pub bytes_of : (l : List ℕ) → ((i : ℕ) → Fits w8 (get_or l i 0)) → Bytes l
+bytes_of [] h = tt
+bytes_of (b ∷ l) h = ((h 0).fits, bytes_of l (λ i. h (suc i)))

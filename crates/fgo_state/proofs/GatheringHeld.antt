@@ -1,12 +1,12 @@
 -- The detections in windows of the held scans, gathered scan by scan. Assumes nothing.
-use Prim.Native.Nat.{ℕ, zero, suc, ◌+◌, ◌*◌, ◌≤◌, ◌<◌}
+use Prim.Native.Nat.{ℕ, zero, suc, ◌+◌, ◌-◌, ◌*◌, ◌≤◌, ◌<◌}
 use native.Mathlib.Nat.{eq-or-lt_of_le}
 use native.Mathlib.Numerals.{add-one}
 use native.Mathlib.Omega.{arith}
 use mathlib.Core.Path.{◌≡◌, refl, sym, ap, ◌∙◌}
 use mathlib.Core.List.{List, ◌++◌, flat_map}
 use mathlib.Core.Logic.{⊎_elim}
-use lib.ListN.{length, get_or, set, length-append, length-map, length-set}
+use lib.ListN.{length, get_or, set, replicate, length-append, length-map, length-set}
 use lib.Seq.{get_or-set_same, get_or-set_other}
 use lib.Ieee.{Float}
 use Rattle.bounds.specs.Bounds.{DETECTIONS, STARTS, DOT, DOTS}
@@ -16,13 +16,15 @@ use Rattle.fgo_spec.specs.Lists.{keep}
 use Rattle.fgo_spec.specs.Windows.{window_count}
 use Rattle.buffers.specs.Buffers.{over}
 use Rattle.fgo_state.specs.Memory.{body_at, id_at, scan_in, scans_in}
-use Rattle.fgo_state.specs.Gathering.{gathered, ids_of, engines_of, dots_of, count_in, found_in, found_of, HeldScans, GathersScan, GatheredScan, FilledStarts, GatheredAll}
+use Rattle.fgo_state.specs.Gathering.{gathered, ids_of, engines_of, dots_of, count_in, found_in, found_of, HeldScans, GathersScan, GatheredScan, GatheredAll}
 use Rattle.engine.proofs.Passing.{length-rows}
 use Rattle.fgo_state.proofs.Counts.{associations_long}
 use Rattle.fgo_state.proofs.Detections as detections
 use Rattle.fgo_state.proofs.GatheredScans as scans
 use Rattle.fgo_state.proofs.GatheredScans.{ids-gathered, gathered_few}
 use Rattle.fgo_state.proofs.GatheringScan.{written-gathered, numbers_long_lem, numbers-append}
+use Rattle.std.proofs.lemmas.List.{length-replicate, get_or-replicate}
+use Rattle.buffers.proofs.Over.{length_over, over-before, over_in}
 use Rattle.buffers.proofs.Writes.{WrittenOver, written_none, written-more, written_same}
 
 -- those of one scan, counted
@@ -117,10 +119,16 @@ module _ (bodies columns : List ℕ) (first : ℕ) (is es : List ℕ) where
               (eq-or-lt_of_le j);
         }
 
-  pub held_all : {held k p : ℕ} {is' es' ts ts' : List ℕ} → GathersHeld bodies columns first k p is es is' es' ts → k ≡ held → length ts ≡ STARTS → FilledStarts (held + 1) p ts ts' → GatheredAll bodies columns first held p is es is' es' ts'
-  held_all {held} {k} {p} {is'} {es'} {ts} {ts'} g z n f =
+  pub held_all : {held k p : ℕ} {is' es' ts ts' : List ℕ} → GathersHeld bodies columns first k p is es is' es' ts → k ≡ held → length ts ≡ STARTS → (n : ℕ) → held + 1 + n ≡ STARTS → ts' ≡ over (held + 1) (replicate n p) ts → GatheredAll bodies columns first held p is es is' es' ts'
+  held_all {held} {k} {p} {is'} {es'} {ts} {ts'} g z long n room e =
+      let size : length (replicate n p) ≡ n = length-replicate n p in
+      let fits : held + 1 + length (replicate n p) ≤ length ts = omega arith in
+      let before : (i : ℕ) → i < held + 1 → get_or ts' i 0 ≡ get_or ts i 0 = λ i l. rw e (over-before (held + 1) (replicate n p) ts fits i 0 l) in
+      let beyond : (i : ℕ) → held < i → i < STARTS → get_or ts' i 0 ≡ p = λ i l m.
+      let at : held + 1 + (i - (held + 1)) ≡ i = omega arith in
+      rw e (rw at at (over_in (held + 1) (replicate n p) ts fits (i - (held + 1)) 0 (omega arith)) ∙ get_or-replicate n (i - (held + 1)) p 0 (omega arith)) in
       let c : p ≡ length (found_of bodies columns first held) = g.place ∙ ap (λ (x : ℕ). length (found_of bodies columns first x)) z in
-      let starts : (i : ℕ) → i ≤ held → get_or ts' i 0 ≡ length (found_of bodies columns first i) = λ i l. f.before i (omega arith) ∙ g.starts n i (omega arith) in
+      let starts : (i : ℕ) → i ≤ held → get_or ts' i 0 ≡ length (found_of bodies columns first i) = λ i l. before i (omega arith) ∙ g.starts long i (omega arith) in
       record {
         scans =
             record {
@@ -131,8 +139,8 @@ module _ (bodies columns : List ℕ) (first : ℕ) (is es : List ℕ) where
         starts = starts;
         beyond =
             λ i l m.
-            ⊎_elim (λ (d : held ≡ i). starts i (omega arith) ∙ ap (λ (x : ℕ). length (found_of bodies columns first x)) (sym d) ∙ sym c) (λ (d : held < i). f.beyond i (omega arith) m) (eq-or-lt_of_le l);
-        long = f.long;
+            ⊎_elim (λ (d : held ≡ i). starts i (omega arith) ∙ ap (λ (x : ℕ). length (found_of bodies columns first x)) (sym d) ∙ sym c) (λ (d : held < i). beyond i d m) (eq-or-lt_of_le l);
+        long = ap length e ∙ length_over (held + 1) (replicate n p) ts fits ∙ long;
       }
 
 -- ---- a loop that writes numbers stands at scan k

@@ -8,9 +8,7 @@ use mathlib.Core.List.{List, [], ◌∷◌, map, foldr}
 use lib.ListN.{length, get_or, take, drop}
 use lib.Seq.{drop-cons}
 use lib.Dec.{eqb}
-use Rattle.engine.specs.Frame.{engine_of}
-use Rattle.engine.specs.declared.types.Associated.{Associated}
-use Rattle.engine.specs.declared.types.Associated.TheVariants.{Nobody, Track}
+use Rattle.engine.specs.Frame.{engine_of, Associated}
 use Rattle.engine.specs.declared.types.Association.{Association}
 use Rattle.engine.specs.Body.{rows}
 use Rattle.fgo_spec.specs.Windows.{Scan}
@@ -19,6 +17,7 @@ use Rattle.fgo_spec.proofs.Ties.{Engine, Tied, TiedScan}
 use Rattle.fgo_spec.specs.Lists.{segment}
 use Rattle.fgo_spec.specs.Gathered.{column_at, picked, spread, put_back}
 use Rattle.fgo_state.specs.Gathering.{holder_of, latest_of}
+use Rattle.std.specs.Prelude.{None, Some}
 
 -- something of each scan of a list, by its number: the first is the k-th
 abbrev pub Each : (ℕ → Scan → Type 0) → ℕ → List Scan → Type 0
@@ -51,8 +50,8 @@ cond-zero true = refl
 cond-zero false = refl
 
 engine_same : (e : ℕ) (o : Associated) → Engine (λ e. Unit {0}) o → is_engine e o ≡ eqb e (engine_of o)
-engine_same e Nobody h = absurd h
-engine_same e (Track k) h = refl
+engine_same e None h = absurd h
+engine_same e (Some k) h = refl
 
 -- of the column with the ids put back
 scan_holder : (e : ℕ) (l : List Association) (is gs : List ℕ) → Tied (λ e. Unit {0}) l is → holder_in e l (spread is gs) ≡ holder_by e (engines_in is l) gs

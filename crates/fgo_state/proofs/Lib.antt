@@ -4,6 +4,7 @@ pub mod Bodies
 pub mod Testing
 pub mod Columns
 pub mod Counts
+pub mod Standing
 pub mod Detections
 pub mod LatestGathered
 pub mod GatheredScans

@@ -89,12 +89,6 @@ pub record GatheredScan (gs : List HeldDetection) (o r : ℕ) (is es is' es' : L
   pub ids : is' ≡ over o (ids_of gs) is
   pub engines : es' ≡ over o (engines_of gs) es
 
--- after the starts from the place o on were set to p
-pub record FilledStarts (o p : ℕ) (ts ts' : List ℕ) : Type 0 where
-  pub long : length ts' ≡ STARTS
-  pub before : (k : ℕ) → k < o → get_or ts' k 0 ≡ get_or ts k 0
-  pub beyond : (k : ℕ) → o ≤ k → k < STARTS → get_or ts' k 0 ≡ p
-
 -- of all the scans, with the number of those before each scan; no detection is past the scans held
 pub record GatheredAll (bodies columns : List ℕ) (first held r : ℕ) (is es is' es' ts' : List ℕ) : Type 0 where
   pub scans : GatheredScan (found_of bodies columns first held) 0 r is es is' es'

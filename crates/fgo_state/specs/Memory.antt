@@ -1,10 +1,10 @@
 -- What the lent memory of a refiner means: the one function from its arrays to the state of which the refiner is defined. Definitions only.
 --
--- The refiner keeps a few numbers by value, and lends five arrays along: the bodies of the held scans, beside each body its length and the refined id of each
+-- The refiner keeps a few numbers by value, and is lent five arrays: the bodies of the held scans, beside each body its length and the refined id of each
 -- association, the owners of engine ids, and the words and the numbers of the frozen parts. Whatever lies past a count is ignored.
-use Rattle.std.specs.Prelude.{ℕ, ◌+◌, ◌*◌, ◌%◌, Bool, cond, ◌&&◌, ◌||◌, List, ◌∷◌, take, drop, get_or, leb, ltb, Float}
+use Rattle.std.specs.Prelude.{ℕ, ◌+◌, ◌*◌, ◌%◌, Bool, cond, ◌&&◌, ◌||◌, ◌≡◌, List, ◌∷◌, length, take, drop, get_or, replicate, leb, ltb, Float}
 use Rattle.std.proofs.Math.Option.{Option, none, some}
-use Rattle.bounds.specs.Bounds.{SCANS, ASSOCIATIONS, BODY, COLUMN, OWNER}
+use Rattle.bounds.specs.Bounds.{SCANS, ASSOCIATIONS, BODY, BODIES, COLUMN, COLUMNS, OWNER, OWNERS}
 use Rattle.engine.specs.declared.types.BodyKind.{BodyKind}
 use Rattle.engine.specs.declared.types.BodyKind.TheVariants.{Narrow}
 use Rattle.engine.specs.declared.types.Association.{Association}
@@ -13,21 +13,34 @@ use Rattle.engine.specs.Body.{Body, body, frame_in, associations_in, rows}
 use Rattle.fgo_spec.specs.Lists.{any, has, find}
 use Rattle.fgo_spec.specs.Windows.{Scan}
 use Rattle.fgo_spec.specs.Refiner.{State}
-use Rattle.fgo_part.specs.Parts.{part_ids, table_in}
+use Rattle.fgo_spec.specs.Rule.{Bytes}
+use Rattle.fgo_part.specs.Parts.{part_ids, table_in, no_parts}
+use Rattle.fgo_state.specs.declared.scans.Scans.{Scans}
 use Rattle.fgo_state.specs.declared.state.FixedLagRefiner.{FixedLagRefiner}
+use Rattle.fgo_state.specs.declared.state.Memory.{Memory}
 
--- the five arrays that are lent along: bodies, columns of lengths and ids, owners, and the words and the numbers of the frozen parts
-pub record Memory : Type 0 where
-  pub bodies : List ℕ
-  pub columns : List ℕ
-  pub owners : List ℕ
-  pub tracks : List ℕ
-  pub filters : List Float
-
--- the memory of five arrays
+-- the memory of five arrays: bodies, columns of lengths and ids, owners, and the words and the numbers of the frozen parts
 abbrev pub memory : List ℕ → List ℕ → List ℕ → List ℕ → List Float → Memory
 memory bodies columns owners tracks filters =
-    record { bodies = bodies; columns = columns; owners = owners; tracks = tracks; filters = filters }
+    record {
+      scans = record { bodies = bodies; columns = columns };
+      owners = owners;
+      parts = record { tracks = tracks; filters = filters };
+    }
+
+-- memory that was never used: held scans
+abbrev pub no_scans : Scans
+no_scans = record { bodies = replicate BODIES 0; columns = replicate COLUMNS 0 }
+
+-- memory that was never used
+abbrev pub no_memory : Memory
+no_memory = record { scans = no_scans; owners = replicate OWNERS 0; parts = no_parts }
+
+-- what the types of the arrays of held scans say: their lengths, and that bodies are of bytes
+pub record Typed (s : Scans) : Type 0 where
+  pub bodies_long : length s.bodies ≡ BODIES
+  pub columns_long : length s.columns ≡ COLUMNS
+  pub bytes : Bytes s.bodies
 
 -- ---- held scans: the scan n lies in slot n mod SCANS
 
@@ -93,8 +106,8 @@ live_in bodies columns first held tracks frozen x =
     has x (part_ids tracks frozen) || (ltb 0 x && in_window x (scans_in bodies columns first held))
 
 -- the words of a column: its head, for a body of a kind and a length, and the ids of its associations
-abbrev pub column_words : BodyKind → ℕ → ℕ → List ℕ → List ℕ
-column_words kind size count ids = head_for kind size ∷ take count ids
+abbrev pub column_words : BodyKind → ℕ → List ℕ → List ℕ
+column_words kind size ids = head_for kind size ∷ ids
 
 -- ---- owners: pairs of an engine id and a refined id
 
@@ -130,8 +143,8 @@ unfoldable pub state_of : FixedLagRefiner → Memory → State
 state_of r m =
     record {
       first = r.first.0;
-      scans = scans_in m.bodies m.columns r.first.0 r.held;
-      prefixes = table_in m.tracks m.filters r.frozen;
+      scans = scans_in m.scans.bodies m.scans.columns r.first.0 r.held;
+      prefixes = table_in m.parts.tracks m.parts.filters r.frozen;
       owners = owners_in m.owners r.owned;
       next_id = r.next_id.0;
       counters = r.counters;

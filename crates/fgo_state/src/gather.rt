@@ -1,25 +1,26 @@
 // The detections in windows of the held scans, gathered in order into flat lists for the rule and the search, and their ids put back.
 ghost use Rattle.std.specs.Prelude.{◌≡◌, ◌+◌, ◌*◌, ◌≤◌, length};
-ghost use Rattle.bounds.specs.Bounds.{ASSOCIATIONS, COLUMNS, DETECTIONS, STARTS, DOT};
+ghost use Rattle.bounds.specs.Bounds.{ASSOCIATIONS, DETECTIONS, DOT};
 ghost use Rattle.engine.specs.Frame.{engine_of};
 ghost use Rattle.engine.specs.Body.{body as body_of, body_refusal};
 ghost use Rattle.buffers.specs.Buffers.{over};
 ghost use Rattle.fgo_state.specs.Memory.{association_in};
-ghost use Rattle.fgo_state.specs.Gathering.{dots_of, dot_in, count_in, Scattered, found_in, found_of, HeldScans, GathersScan, GatheredScan, FilledStarts, GatheredAll, ScatteredScan};
+ghost use Rattle.fgo_state.specs.Gathering.{dots_of, dot_in, count_in, Scattered, found_in, found_of, HeldScans, GathersScan, GatheredScan, GatheredAll, ScatteredScan};
 
-use crate::state;
-use bounds::{BODIES, COLUMN, COLUMNS, DETECTIONS, DOT, DOTS, STARTS};
+use crate::scans;
+use crate::scans::Scans;
+use bounds::{COLUMN, COLUMNS, DETECTIONS, DOT, DOTS, STARTS};
 use engine::body;
 use engine::config::FgoConfig;
-use engine::types::{Associated, BodyKind, EngineId, ScanIndex};
+use engine::types::{BodyKind, EngineId, ScanIndex};
 use scalar::bits;
 
-fn engine_in(a: Associated) -> EngineId
+fn engine_in(a: Option<EngineId>) -> EngineId
     ensures { result.0 ≡ engine_of a }
 {
     match a {
-        Associated::Nobody => EngineId(0),
-        Associated::Track(e) => e,
+        None => EngineId(0),
+        Some(e) => e,
     }
 }
 
@@ -27,186 +28,152 @@ fn engine_in(a: Associated) -> EngineId
 fn engine_of(kind: BodyKind, s: &[u8], j: usize) -> EngineId
     ensures { body_refusal (body_of kind s.now) ≡ 0 → result.0 ≡ engine_of (association_in (body_of kind s.now) j).track }
 {
-    let a = body::association(kind, s, j);
-    let t = a.track;
-    engine_in(t)
+    engine_in(body::association(kind, s, j).track)
 }
 
 // The detections in windows of scan n, from place o on; the place after the last.
-fn gather_scan<'a, 'b, 'c>(
+fn gather_scan(
     kind: BodyKind,
-    s: &'c [u8],
-    columns: &'c [u64; COLUMNS],
+    s: &[u8],
+    scans: &Scans,
     n: ScanIndex,
     o: usize,
-    ids: &'a mut [u64],
-    engines: &'b mut [u64],
+    ids: &mut [u64],
+    engines: &mut [u64],
 ) -> usize
-    requires { GathersScan (body_of kind s.now) columns.now n.0 o ids.old engines.old }
-    ensures { GatheredScan (found_in columns.now n.0 (body_of kind s.now)) o result ids.old engines.old ids.new engines.new }
+    requires { GathersScan (body_of kind s.now) scans.now.columns n.0 o ids.old engines.old }
+    ensures { GatheredScan (found_in scans.now.columns n.0 (body_of kind s.now)) o result ids.old engines.old ids.new engines.new }
 {
     let mut p = o;
-    let mut j: usize = 0;
-    while j < body::association_count(kind, s) {
-        let id = state::id_at(columns, n, j);
+    for j in 0..body::association_count(kind, s) {
+        let id = scans.id_at(n, j);
         if 0 < id.0 {
             ids[p] = id.0;
             engines[p] = engine_of(kind, s, j).0;
             p += 1;
         }
-        j += 1;
     }
     p
-}
-
-// The places of the scans not held, from place `from` on: no detection is past the last one, the p-th.
-fn fill_starts(starts: &mut [usize], from: usize, p: usize)
-    requires { length starts.old ≡ STARTS }
-    ensures { FilledStarts from p starts.old starts.new }
-{
-    let mut k = from;
-    while k < starts.len() {
-        starts[k] = p;
-        k += 1;
-    }
 }
 
 // The detections in windows of the held scans, and the number of those before each scan; how many they are. It asks for SCANS scans and DETECTIONS
 // detections at most, and bodies that pass.
-pub fn gather<'a, 'b, 'c, 'd>(
-    bodies: &'d [u8; BODIES],
-    columns: &'d [u64; COLUMNS],
+pub fn gather(
+    scans: &Scans,
     first: ScanIndex,
     held: usize,
-    ids: &'a mut [u64; DETECTIONS],
-    engines: &'b mut [u64; DETECTIONS],
-    starts: &'c mut [usize; STARTS],
+    ids: &mut [u64; DETECTIONS],
+    engines: &mut [u64; DETECTIONS],
+    starts: &mut [usize; STARTS],
 ) -> usize
-    requires { HeldScans bodies.now columns.now first.0 held }
-    ensures { GatheredAll bodies.now columns.now first.0 held result ids.old engines.old ids.new engines.new starts.new }
+    requires { HeldScans scans.now.bodies scans.now.columns first.0 held }
+    ensures { GatheredAll scans.now.bodies scans.now.columns first.0 held result ids.old engines.old ids.new engines.new starts.new }
 {
     let mut p: usize = 0;
     starts[0] = 0;
-    let mut k: usize = 0;
-    while k < held {
+    for k in 0..held {
         let n = ScanIndex(first.0 + k as u64);
-        let s = state::body_in(bodies, columns, n);
-        p = gather_scan(state::kind_of(columns, n), s, columns, n, p, ids, engines);
+        p = gather_scan(
+            scans.kind_of(n),
+            scans.body_in(n),
+            scans,
+            n,
+            p,
+            ids,
+            engines,
+        );
         starts[k + 1] = p;
-        k += 1;
     }
-    fill_starts(starts, held + 1, p);
+    starts[held + 1..].fill(p);
     p
 }
 
 // The numbers of association j of a scan: x, y, the variance and the time in seconds.
-fn put_dot<'a, 'b>(
-    c: FgoConfig,
-    kind: BodyKind,
-    s: &'b [u8],
-    j: usize,
-    p: usize,
-    dots: &'a mut [f64],
-)
+fn put_dot(c: FgoConfig, kind: BodyKind, s: &[u8], j: usize, p: usize, dots: &mut [f64])
     requires { (body_refusal (body_of kind s.now) ≡ 0) × (DOT + DOT * p ≤ length dots.old) }
     ensures { dots.new ≡ over (DOT * p) (dot_in c (body_of kind s.now) j) dots.old }
 {
-    let a = body::association(kind, s, j);
-    let index = a.index;
-    let d = body::observation(kind, s, index);
+    let d = body::observation(kind, s, body::association(kind, s, j).index);
     let t = bits::seconds(body::time_of(kind, s));
     let ns = [d.x, d.y, c.position_variance(), t];
-    buffers::put_numbers(dots, DOT * p, &ns);
+    buffers::put(dots, DOT * p, &ns);
 }
 
 // The numbers of the detections in windows of scan n, of which the first is detection o; the number after the last.
-fn dot_scan<'a, 'b>(
+fn dot_scan(
     c: FgoConfig,
     kind: BodyKind,
-    s: &'b [u8],
-    columns: &'b [u64; COLUMNS],
+    s: &[u8],
+    scans: &Scans,
     n: ScanIndex,
     o: usize,
-    dots: &'a mut [f64],
+    dots: &mut [f64],
 ) -> usize
-    requires { (body_refusal (body_of kind s.now) ≡ 0) × (DOT * (o + length (found_in columns.now n.0 (body_of kind s.now))) ≤ length dots.old) }
-    ensures { (result ≡ o + length (found_in columns.now n.0 (body_of kind s.now))) × (dots.new ≡ over (DOT * o) (dots_of c (found_in columns.now n.0 (body_of kind s.now))) dots.old) }
+    requires { (body_refusal (body_of kind s.now) ≡ 0) × (DOT * (o + length (found_in scans.now.columns n.0 (body_of kind s.now))) ≤ length dots.old) }
+    ensures count { result ≡ o + length (found_in scans.now.columns n.0 (body_of kind s.now)) }
+    ensures numbers { dots.new ≡ over (DOT * o) (dots_of c (found_in scans.now.columns n.0 (body_of kind s.now))) dots.old }
 {
     let mut p = o;
-    let mut j: usize = 0;
-    while j < body::association_count(kind, s) {
-        if 0 < state::id_at(columns, n, j).0 {
+    for j in 0..body::association_count(kind, s) {
+        if 0 < scans.id_at(n, j).0 {
             put_dot(c, kind, s, j, p, dots);
             p += 1;
         }
-        j += 1;
     }
     p
 }
 
 // The numbers of the detections in windows of the held scans. It asks what `gather` asks.
-pub fn gather_dots<'a, 'b>(
+pub fn gather_dots(
     c: FgoConfig,
-    bodies: &'b [u8; BODIES],
-    columns: &'b [u64; COLUMNS],
+    scans: &Scans,
     first: ScanIndex,
     held: usize,
-    dots: &'a mut [f64; DOTS],
+    dots: &mut [f64; DOTS],
 )
-    requires { HeldScans bodies.now columns.now first.0 held }
-    ensures { dots.new ≡ over 0 (dots_of c (found_of bodies.now columns.now first.0 held)) dots.old }
+    requires { HeldScans scans.now.bodies scans.now.columns first.0 held }
+    ensures { dots.new ≡ over 0 (dots_of c (found_of scans.now.bodies scans.now.columns first.0 held)) dots.old }
 {
     let mut p: usize = 0;
-    let mut k: usize = 0;
-    while k < held {
+    for k in 0..held {
         let n = ScanIndex(first.0 + k as u64);
-        let s = state::body_in(bodies, columns, n);
-        p = dot_scan(c, state::kind_of(columns, n), s, columns, n, p, dots);
-        k += 1;
+        p = dot_scan(c, scans.kind_of(n), scans.body_in(n), scans, n, p, dots);
     }
 }
 
 // The ids of scan n, of m associations, taken from place o on; the place after the last.
-fn scatter_scan<'a, 'b>(
-    columns: &'a mut [u64],
+fn scatter_scan(
+    columns: &mut [u64; COLUMNS],
     n: ScanIndex,
     m: usize,
     o: usize,
-    ids: &'b [u64],
+    ids: &[u64; DETECTIONS],
 ) -> usize
-    requires { (m ≤ ASSOCIATIONS) × (o + count_in columns.old n.0 m ≤ DETECTIONS) × (length ids.now ≡ DETECTIONS) × (length columns.old ≡ COLUMNS) }
-    ensures { (result ≡ o + count_in columns.old n.0 m) × ScatteredScan n.0 m o ids.now columns.old columns.new }
+    requires { (m ≤ ASSOCIATIONS) × (o + count_in columns.old n.0 m ≤ DETECTIONS) }
+    ensures count { result ≡ o + count_in columns.old n.0 m }
+    ensures ids { ScatteredScan n.0 m o ids.now columns.old columns.new }
 {
-    let a = COLUMN * state::slot_of(n) + 1;
+    let a = COLUMN * scans::slot_of(n) + 1;
     let mut p = o;
-    let mut j: usize = 0;
-    while j < m {
+    for j in 0..m {
         if 0 < columns[a + j] {
             columns[a + j] = ids[p];
             p += 1;
         }
-        j += 1;
     }
     p
 }
 
 // The ids of the held scans, put back. It asks what `gather` asks.
-pub fn scatter<'a, 'b>(
-    bodies: &'b [u8; BODIES],
-    columns: &'a mut [u64; COLUMNS],
-    first: ScanIndex,
-    held: usize,
-    ids: &'b [u64; DETECTIONS],
-)
-    requires { HeldScans bodies.now columns.old first.0 held }
-    ensures { Scattered bodies.now first.0 held ids.now columns.old columns.new }
+pub fn scatter(scans: &mut Scans, first: ScanIndex, held: usize, ids: &[u64; DETECTIONS])
+    requires { HeldScans scans.old.bodies scans.old.columns first.0 held }
+    ensures ids { Scattered scans.old.bodies first.0 held ids.now scans.old.columns scans.new.columns }
+    ensures bodies { scans.new.bodies ≡ scans.old.bodies }
 {
     let mut p: usize = 0;
-    let mut k: usize = 0;
-    while k < held {
+    for k in 0..held {
         let n = ScanIndex(first.0 + k as u64);
-        let m = state::count_of(bodies, columns, n);
-        p = scatter_scan(columns, n, m, p, ids);
-        k += 1;
+        let m = scans.count_of(n);
+        p = scatter_scan(&mut scans.columns, n, m, p, ids);
     }
 }

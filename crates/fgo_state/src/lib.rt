@@ -3,4 +3,5 @@
 
 pub mod gather;
 pub mod owners;
+pub mod scans;
 pub mod state;

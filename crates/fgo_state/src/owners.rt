@@ -1,6 +1,6 @@
 // The owners of engine ids in lent memory: which refined id an engine id belongs to, and which held its latest detection.
-ghost use Rattle.std.specs.Prelude.{◌≡◌, ◌*◌, ◌<◌, ◌≤◌, [], ◌∷◌, length};
-ghost use Rattle.bounds.specs.Bounds.{DETECTIONS, OWNED, OWNER, OWNERS};
+ghost use Rattle.std.specs.Prelude.{◌≡◌, ◌*◌, ◌<◌, ◌≤◌, [], ◌∷◌};
+ghost use Rattle.bounds.specs.Bounds.{DETECTIONS, OWNED, OWNER};
 ghost use Rattle.buffers.specs.Buffers.{over};
 ghost use Rattle.fgo_state.specs.Memory.{engine_at, owner_at, owner_of};
 ghost use Rattle.fgo_state.specs.Gathering.{StartsWithin, holder_of, latest_of};
@@ -26,11 +26,10 @@ pub fn owner_at(owners: &[u64; OWNERS], k: usize) -> RefinedId
 
 // Entry k, which is below OWNED, written.
 pub fn put_owner(owners: &mut [u64; OWNERS], k: usize, e: EngineId, x: RefinedId)
-    requires { (k < OWNED) × (length owners.old ≡ OWNERS) }
+    requires { k < OWNED }
     ensures { owners.new ≡ over (OWNER * k) (e.0 ∷ x.0 ∷ []) owners.old }
 {
-    let ws = [e.0, x.0];
-    buffers::put_words(owners, OWNER * k, &ws);
+    buffers::put(owners, OWNER * k, &[e.0, x.0]);
 }
 
 // The owner of an engine id; 0 if none.
@@ -38,58 +37,50 @@ pub fn owner_of(owners: &[u64; OWNERS], owned: usize, e: EngineId) -> RefinedId
     requires { owned ≤ OWNED }
     ensures { result.0 ≡ owner_of owners.now owned e.0 }
 {
-    let mut k: usize = 0;
-    while k < owned {
+    for k in 0..owned {
         if engine_at(owners, k).0 == e.0 {
             return owner_at(owners, k);
         }
-        k += 1;
     }
     RefinedId(0)
 }
 
 // The greatest id that holds the engine id e among the detections from place a to before place b; 0 if none.
-fn holder_in<'a>(
+fn holder_in(
     e: EngineId,
-    ids: &'a [u64; DETECTIONS],
-    engines: &'a [u64; DETECTIONS],
+    ids: &[u64; DETECTIONS],
+    engines: &[u64; DETECTIONS],
     a: usize,
     b: usize,
 ) -> RefinedId
     requires { b ≤ DETECTIONS }
     ensures { result.0 ≡ holder_of e.0 ids.now engines.now a b }
 {
-    let mut most: u64 = 0;
-    let mut i = a;
-    while i < b {
+    let mut most = 0;
+    for i in a..b {
         if engines[i] == e.0 {
-            if most < ids[i] {
-                most = ids[i];
-            }
+            most = most.max(ids[i]);
         }
-        i += 1;
     }
     RefinedId(most)
 }
 
 // The holder of the latest detection of the engine id e in the first `held` scans; 0 if none.
-pub fn latest_in<'a>(
+pub fn latest_in(
     e: EngineId,
-    ids: &'a [u64; DETECTIONS],
-    engines: &'a [u64; DETECTIONS],
-    starts: &'a [usize; STARTS],
+    ids: &[u64; DETECTIONS],
+    engines: &[u64; DETECTIONS],
+    starts: &[usize; STARTS],
     held: usize,
 ) -> RefinedId
     requires { StartsWithin starts.now held }
     ensures { result.0 ≡ latest_of e.0 ids.now engines.now starts.now held }
 {
-    let mut k = held;
-    while 0 < k {
-        let x = holder_in(e, ids, engines, starts[k - 1], starts[k]);
+    for k in (0..held).rev() {
+        let x = holder_in(e, ids, engines, starts[k], starts[k + 1]);
         if 0 < x.0 {
             return x;
         }
-        k -= 1;
     }
     RefinedId(0)
 }

@@ -30,7 +30,7 @@ use Rattle.fgo_spec.proofs.Arrival.{Column}
 use Rattle.fgo_spec.proofs.HistoryLaw.{ran}
 use Rattle.fgo_spec.proofs.Following.{sightings-append, followed}
 use Rattle.fgo_state.specs.declared.state.FixedLagRefiner.{FixedLagRefiner}
-use Rattle.fgo_state.specs.Memory.{Memory}
+use Rattle.fgo_state.specs.declared.state.Memory.{Memory}
 use Rattle.smoother_frame.specs.Frame.{id_word}
 use Rattle.histories.specs.Calls.{operations, accepted, wrote}
 use Rattle.histories.specs.Refined.{Call, Session}

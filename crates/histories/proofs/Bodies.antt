@@ -13,13 +13,9 @@ use mir.Val.{Fits}
 use Rattle.bounds.specs.Bounds.{ACCEPTED}
 use Rattle.buffers.specs.Answer.{Op}
 use Rattle.engine.specs.declared.config.FgoConfig.{FgoConfig}
-use Rattle.engine.specs.declared.types.ClassLabel.{ClassLabel}
-use Rattle.engine.specs.declared.types.ClassLabel.TheVariants.{Unknown, Known}
-use Rattle.engine.specs.declared.types.Associated.{Associated}
-use Rattle.engine.specs.declared.types.Associated.TheVariants.{Nobody, Track}
 use Rattle.engine.specs.declared.types.EngineTrack.{EngineTrack}
 use Rattle.engine.specs.Little.{little}
-use Rattle.engine.specs.Frame.{Frame, class_of}
+use Rattle.engine.specs.Frame.{Frame, class_of, Associated, ClassLabel}
 use Rattle.engine.specs.Body.{Body, layout, rows, track_at, frame_of, frame_in, body_refusal, tracks_in, sensors_in}
 use Rattle.engine.proofs.Bytes.{little_below}
 use Rattle.engine.proofs.Passing.{sized-body, few_sensors, length-rows}
@@ -36,6 +32,7 @@ use Rattle.fgo_spec.proofs.Windows.{window-All, window-length}
 use Rattle.fgo_spec.proofs.Ruled.{emitted_spoken}
 use Rattle.fgo_spec.proofs.HistoryLaw.{ran, spoken, history}
 use Rattle.histories.proofs.Formed.{Bounded, Fine}
+use Rattle.std.specs.Prelude.{None, Some}
 
 -- ---- what a body says
 
@@ -95,8 +92,8 @@ among_bound e k (t ∷ ts) h g = among_bound e (cond (eqb e t.id.0) t.class k) t
     go false = h
 
 for_bound : (a : Associated) (ts : List EngineTrack) → All (λ t. Classed t.class) ts → Classed (class_for a ts)
-for_bound Nobody ts g = omega arith
-for_bound (Track e) ts g = among_bound e.0 Unknown ts (omega arith) g
+for_bound None ts g = omega arith
+for_bound (Some e) ts g = among_bound e.0 None ts (omega arith) g
 
 over_bound : (k : ClassLabel) (ds : List Detection) → Classed k → All (λ d. Classed d.class) ds → Classed (class_over k ds)
 unfolding class_over
@@ -104,8 +101,8 @@ over_bound k [] h g = h
 over_bound k (d ∷ ds) h g = over_bound (newer d.class k) ds (go d.class g.0) g.1
   where
     go : (l : ClassLabel) → Classed l → Classed (newer l k)
-    go Unknown q = h
-    go (Known n) q = q
+    go None q = h
+    go (Some n) q = q
 
 -- ---- a listed track
 
@@ -152,7 +149,7 @@ module _ (c : FgoConfig) (ops : List (Op Body)) (sent : All Sent ops) (past : Li
           let k : All (λ d. Classed d.class) (d ∷ ds) =
           subst (All (λ d. Classed d.class)) p
           (window-All (λ d. Classed d.class) Bounded (length ss) (λ n f a g b. unfold detection_of in (for_bound a.track f.tracks b.classes)) l.id 0 ss (omega arith) bounded-all) in (
-            subst (λ l. Classed l.class) r (over_bound Unknown (d ∷ ds) (omega arith) k),
+            subst (λ l. Classed l.class) r (over_bound None (d ∷ ds) (omega arith) k),
             subst (λ l. l.count < 2 ^ 32) r (omega (arith, ap length p, few-scans)),
           )
 

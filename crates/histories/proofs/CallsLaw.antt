@@ -8,9 +8,8 @@ use mathlib.Core.Option.{some, some-injective, none-ne-some}
 use lib.ListN.{length, drop}
 use lib.Seq.{take-append_seam}
 use lib.Ieee.{Float}
-use Rattle.buffers.specs.declared.Answer.TheVariants.{Refused}
 use Rattle.buffers.specs.Buffers.{over}
-use Rattle.buffers.specs.Answer.{Op, pushed, taken, Reply, refused, waits, gives, refusal_in, Written, number_of, checked, answer_of, words_after, numbers_after, Unchanged, Ends}
+use Rattle.buffers.specs.Answer.{Op, pushed, taken, Reply, refused, waits, gives, refusal_in, Written, number_of, checked, answer_of, words_after, numbers_after, Unchanged, Ends, Refused}
 use Rattle.buffers.specs.Run.{Run, emitted_by, accepted_by, step, run_from}
 use Rattle.buffers.proofs.Running.{run_snoc}
 use Rattle.fgo_spec.specs.Lists.{cons_if, keep}

@@ -14,8 +14,6 @@ use Rattle.scalar.specs.Ln.{ln_of}
 use Rattle.engine.specs.declared.types.BodyKind.TheVariants.{Narrow}
 use Rattle.engine.specs.declared.types.TrackingMode.TheVariants.{LidarOnly}
 use Rattle.engine.specs.declared.types.Outcome.TheVariants.{Spawned}
-use Rattle.engine.specs.declared.types.Associated.TheVariants.{Track}
-use Rattle.engine.specs.declared.types.Cost.TheVariants.{Absent}
 use Rattle.engine.specs.Config.{defaults, density}
 use Rattle.engine.specs.Little.{little}
 use Rattle.engine.specs.Frame.{Frame}
@@ -44,6 +42,7 @@ use Rattle.smoother_pass.specs.Pass.{chain, run_back, smoothed_at, states_to, em
 use Rattle.smoother.specs.Smoother.{settle as settle_frame, emit_oldest, push as push_smoother, takes as take_smoother}
 use Rattle.histories.specs.Audit.{ids_in, observed}
 use Rattle.histories.specs.Smoothed.{smoothing}
+use Rattle.std.specs.Prelude.{None, Some}
 
 -- a dot at (x, 2, 0.5) at time t, of engine id 7
 dotted : ℕ → ℕ → Frame
@@ -54,7 +53,7 @@ dotted t x =
       tracks = [];
       sensors = [];
       observations = record { x = of_bits binary64 x; y = of_bits binary64 0x4000_0000_0000_0000; z = of_bits binary64 0x3fe0_0000_0000_0000 } ∷ [];
-      associations = record { index = record { 0 = 0 }; track = Track (record { 0 = 7 }); outcome = Spawned; cost = Absent } ∷ [];
+      associations = record { index = record { 0 = 0 }; track = Some (record { 0 = 7 }); outcome = Spawned; cost = None } ∷ [];
     }
 
 -- it stands at x 1 at time 0, then at 1.25 at time t

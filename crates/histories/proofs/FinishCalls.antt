@@ -7,8 +7,7 @@ use mathlib.Core.Bool.{Bool, true, false, cond}
 use mathlib.Core.List.{List, [], ◌∷◌, ◌++◌, map, flat_map, map-append, append-nil, nil≢cons}
 use mathlib.Core.Option.{some-injective}
 use lib.ListN.{length}
-use Rattle.buffers.specs.declared.Answer.TheVariants.{Refused}
-use Rattle.buffers.specs.Answer.{Op, taken, Reply, refused, gives, refusal_in, Written, checked, answer_of}
+use Rattle.buffers.specs.Answer.{Op, taken, Reply, refused, gives, refusal_in, Written, checked, answer_of, Refused}
 use Rattle.buffers.specs.Run.{Run, emitted_by, run_from}
 use Rattle.fgo_spec.specs.Rule.{All}
 use Rattle.histories.specs.Calls.{Call, written_by, Calls, left, enough, wrote, due_after, Finish}

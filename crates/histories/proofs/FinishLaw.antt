@@ -12,7 +12,8 @@ use Rattle.fgo_spec.specs.Rule.{All}
 use Rattle.fgo_spec.specs.History.{Sent, run}
 use Rattle.fgo_spec.proofs.All.{All-right}
 use Rattle.fgo_state.specs.declared.state.FixedLagRefiner.{FixedLagRefiner}
-use Rattle.fgo_state.specs.Memory.{Memory, state_of, scan_in}
+use Rattle.fgo_state.specs.declared.state.Memory.{Memory}
+use Rattle.fgo_state.specs.Memory.{state_of, scan_in}
 use Rattle.histories.specs.Calls.{left, operations, Finish, Ending}
 use Rattle.histories.specs.Refined.{Call, Keeps, Session, Finished}
 use Rattle.histories.proofs.CallsLaw.{left-append, calls_then}
@@ -36,7 +37,7 @@ takes_one c =
 -- as many frames are held as the refiner counts
 held_is : (r : FixedLagRefiner) (m : Memory) → length (state_of r m).scans ≡ r.held
 unfolding state_of
-held_is r m = length-rows (scan_in m.bodies m.columns) r.first.0 r.held
+held_is r m = length-rows (scan_in m.scans.bodies m.scans.columns) r.first.0 r.held
 
 module _ (c : FgoConfig) (r : FixedLagRefiner) (m : Memory) (ks fs : List Call) (s : Session c r m (ks ++ fs)) where
   sent-then : All (λ k. Sent k.sent) fs

@@ -14,9 +14,7 @@ use Rattle.engine.specs.declared.types.TrackingMode.{TrackingMode}
 use Rattle.engine.specs.declared.types.TrackingMode.TheVariants.{LidarOnly, CameraAssociated, CameraAssisted}
 use Rattle.engine.specs.declared.types.Outcome.{Outcome}
 use Rattle.engine.specs.declared.types.Outcome.TheVariants.{Updated, Spawned, Unmatched}
-use Rattle.engine.specs.declared.types.Cost.{Cost}
-use Rattle.engine.specs.declared.types.Cost.TheVariants.{Absent, Paid}
-use Rattle.engine.specs.Frame.{Frame, mode_number}
+use Rattle.engine.specs.Frame.{Frame, mode_number, Cost}
 use Rattle.engine.specs.Body.{code_ok, present_ok, time_ok}
 use Rattle.engine.proofs.Every.{all_true}
 use Rattle.engine.specs.Encode.{cost_present}
@@ -26,6 +24,7 @@ use Rattle.smoother_frame.specs.Frame as Form
 use Rattle.smoother_frame.specs.Frame.{track_ok, association_ok, sensor_ok, head_ok, exact, rows_ok, well_formed}
 use Rattle.histories.proofs.Reading.{element, association, track_word, association_word, cost-number, sensor_word_lem, words-length, numbers-length}
 use Rattle.histories.proofs.Fresh.{time-is}
+use Rattle.std.specs.Prelude.{None, Some}
 
 -- what a frame that a body says keeps to
 pub record Bounded (f : Frame) : Type 0 where
@@ -59,8 +58,8 @@ outcome_code (suc i) Unmatched = refl
 
 cost-present : (v : Cost) → present_ok (cost_present v) (bits_of (cost_number v)) ≡ true
 unfolding present_ok of_bits to_bits
-cost-present Absent = refl
-cost-present (Paid v) = refl
+cost-present None = refl
+cost-present (Some v) = refl
 
 lifecycle_code : (n : ℕ) → lifecycle n ≤ 1
 lifecycle_code n = go (leb 2 n)

@@ -9,8 +9,7 @@ use lib.ListN.{length, length-append}
 use lib.Dec.{ltb}
 use borrow.Author.Tests.{le-leb}
 use Rattle.bounds.specs.Bounds.{TRACKS}
-use Rattle.buffers.specs.declared.Answer.TheVariants.{Refused}
-use Rattle.buffers.specs.Answer.{Op, pushed, taken, Reply, refused, waits, gives, refusal_in, Written, roomy, checked, Ends}
+use Rattle.buffers.specs.Answer.{Op, pushed, taken, Reply, refused, waits, gives, refusal_in, Written, roomy, checked, Ends, Refused}
 use Rattle.buffers.specs.Run.{emitted_by, run_from}
 use Rattle.buffers.proofs.Checking.{open_passed}
 use Rattle.engine.specs.declared.config.FgoConfig.{FgoConfig}
@@ -22,7 +21,7 @@ use Rattle.fgo_spec.specs.Rule.{All}
 use Rattle.fgo_spec.specs.History.{Sent, run}
 use Rattle.fgo_spec.proofs.All.{mem_All}
 use Rattle.fgo_state.specs.declared.state.FixedLagRefiner.{FixedLagRefiner}
-use Rattle.fgo_state.specs.Memory.{Memory}
+use Rattle.fgo_state.specs.declared.state.Memory.{Memory}
 use Rattle.scalar.specs.Scalar.{finite}
 use Rattle.smoother_frame.specs.Frame.{well_formed}
 use Rattle.smoother_window.specs.declared.FixedLagSmoother.{FixedLagSmoother}

@@ -24,7 +24,8 @@ use Rattle.fgo_spec.proofs.All.{All-append, All-right}
 use Rattle.fgo_spec.proofs.RuleLaw.{rule_ok_lem}
 use Rattle.fgo_spec.proofs.HistoryLaw.{history}
 use Rattle.fgo_state.specs.declared.state.FixedLagRefiner.{FixedLagRefiner}
-use Rattle.fgo_state.specs.Memory.{Memory, body_at, state_of}
+use Rattle.fgo_state.specs.declared.state.Memory.{Memory}
+use Rattle.fgo_state.specs.Memory.{body_at, state_of}
 use Rattle.fgo_state.specs.Sound.{bodies_ok, sound_ok}
 use Rattle.fgo.specs.Promise.{new_by, later_refusal, due}
 use Rattle.fgo.proofs.Opening.{opened_new}
@@ -51,7 +52,7 @@ module _ (c : FgoConfig) where
         state = s.state ∙ a.state;
         bodies =
             all_true _ r.held
-            (λ i l. ap (λ (b : Body). eqb (body_refusal b) 0) (s.bodies i l) ∙ all-at (λ i. eqb (body_refusal (body_at m.bodies m.columns (r.first.0 + i))) 0) r.held i a.bodies l);
+            (λ i l. ap (λ (b : Body). eqb (body_refusal b) 0) (s.bodies i l) ∙ all-at (λ i. eqb (body_refusal (body_at m.scans.bodies m.scans.columns (r.first.0 + i))) 0) r.held i a.bodies l);
         bytes = a.bytes;
       }
 

@@ -5,19 +5,17 @@ use mathlib.Core.Path.{◌≡◌, refl, sym, ap, subst, ◌∙◌}
 use mathlib.Core.Bool.{Bool, true, false, cond}
 use mathlib.Core.Option.{some-injective}
 use lib.ListN.{length}
-use Rattle.buffers.specs.declared.Answer.TheVariants.{Refused}
-use Rattle.buffers.specs.Answer.{Reply, refused, refusal_in, roomy, checked, answer_of}
+use Rattle.buffers.specs.Answer.{Reply, refused, refusal_in, roomy, checked, answer_of, Refused}
 use Rattle.fgo_spec.specs.declared.moves.FgoCounters.{FgoCounters}
 use Rattle.fgo_spec.specs.Emitting.{Emitted, written}
 use Rattle.fgo_spec.specs.Refiner.{State, reply}
 use Rattle.fgo_spec.specs.Rule.{Bytes}
 use Rattle.fgo_state.specs.declared.state.FixedLagRefiner.{FixedLagRefiner}
-use Rattle.fgo_state.specs.Memory.{Memory, state_of}
+use Rattle.fgo_state.specs.declared.state.Memory.{Memory}
+use Rattle.fgo_state.specs.Memory.{state_of}
 use Rattle.fgo_state.specs.Sound.{sound_ok, Sound}
 use Rattle.fgo_state.proofs.Testing.{tested}
-use Rattle.fgo.specs.declared.Counted.{Counted}
-use Rattle.fgo.specs.declared.Counted.TheVariants.{Refused as NotCounted, Moves}
-use Rattle.fgo.specs.Promise.{later_refusal, due, counted_by, count_refusal}
+use Rattle.fgo.specs.Promise.{later_refusal, due, counted_by, count_refusal, Counted, NotCounted, Moves}
 use Rattle.histories.specs.Refined.{Call, Meets, Third}
 use Rattle.histories.proofs.CallsLaw.{Numbered, refused_of}
 use Rattle.histories.proofs.Numbered.{numbered}
@@ -32,7 +30,7 @@ module _ (s : State) (a : Reply Emitted × State) (n : Numbered a.0) where
   three-due true b e = absurd (not_three b e)
   three-due false b e = refl
 
-module _ (r : FixedLagRefiner) (m : Memory) (bytes : Bytes m.bodies) where
+module _ (r : FixedLagRefiner) (m : Memory) (bytes : Bytes m.scans.bodies) where
   -- where the test fails the rule does not hold, and the other way round
   fails : (t : Bool) → sound_ok r m ≡ t → (t ≡ false → Sound r m → ⊥) × ((Sound r m → ⊥) → t ≡ false)
   fails true e = (λ q s. absurd (never q), λ h. absurd (h ((tested r m bytes).0 e)))

@@ -1,9 +1,7 @@
 -- Calls of a refiner or of a smoother, one after another, with any buffers: what is handed on, what a caller sees, and what it is due. Definitions only.
 use Rattle.std.specs.Prelude.{ℕ, suc, ◌≡◌, Bool, true, false, cond, length, take, Float}
 use mathlib.Core.List.{List, [], ◌∷◌, ◌++◌, map, flat_map}
-use Rattle.buffers.specs.declared.Answer.{Answer}
-use Rattle.buffers.specs.declared.Answer.TheVariants.{Refused, Held, Frame}
-use Rattle.buffers.specs.Answer.{Op, taken, Reply, Written, roomy, number_of, checked, answer_of, words_after, numbers_after}
+use Rattle.buffers.specs.Answer.{Op, taken, Reply, Written, roomy, number_of, checked, answer_of, words_after, numbers_after, Answer, Refused, Held, Frame}
 use Rattle.buffers.specs.Run.{Run, accepted_by, run_from}
 use Rattle.fgo_spec.specs.Lists.{keep}
 use Rattle.fgo_spec.specs.Rule.{All}

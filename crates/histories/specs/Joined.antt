@@ -2,15 +2,14 @@
 -- a refiner too, and pushes the frames that it writes. Definitions only.
 use Rattle.std.specs.Prelude.{ℕ, ◌≡◌, Bool, true, false, List, [], ◌∷◌, ◌++◌, map, length}
 use Rattle.bounds.specs.Bounds.{TRACKS}
-use Rattle.buffers.specs.declared.Answer.TheVariants.{Refused}
-use Rattle.buffers.specs.Answer.{Op, pushed, taken, Written}
+use Rattle.buffers.specs.Answer.{Op, pushed, taken, Written, Refused}
 use Rattle.engine.specs.declared.config.FgoConfig.{FgoConfig}
 use Rattle.fgo_spec.specs.History.{run}
 use Rattle.smoother_frame.specs.Frame.{well_formed}
 use Rattle.smoother_window.specs.declared.FixedLagSmoother.{FixedLagSmoother}
 use Rattle.smoother_window.specs.declared.SmootherConfig.{SmootherConfig}
 use Rattle.smoother_window.specs.Config.{most}
-use Rattle.smoother.specs.declared.Opened.TheVariants.{Ready}
+use Rattle.std.specs.Prelude.{Ok}
 use Rattle.smoother.specs.Smoother.{new, window_fits, opens, reply, finish}
 use Rattle.smoother.specs.Promise.{Window, state_in, opening_of, Promised}
 use Rattle.histories.specs.Calls as calls
@@ -43,7 +42,7 @@ pub record Reached (d : SmootherConfig) (ops : List (Op Written)) (s : FixedLagS
 
 -- an opened smoother, as the contract of open has it, and calls from there; the window holds anything at first, and the other buffers anything at each call
 pub record Session (d : SmootherConfig) (s : FixedLagSmoother) (w : Window) (ks : List Call) : Type 0 where
-  pub opening : opening_of (Ready s) w ≡ opens d (length w.words) (length w.numbers)
+  pub opening : opening_of (Ok s) w ≡ opens d (length w.words) (length w.numbers)
   pub calls : Calls Keeps s w ks
 
 -- what holds of all the calls of a session

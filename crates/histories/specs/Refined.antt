@@ -9,7 +9,8 @@ use Rattle.fgo_spec.specs.Refiner.{new, reply, finish}
 use Rattle.fgo_spec.specs.Rule.{All}
 use Rattle.fgo_spec.specs.History.{run, settled, Sent, Told, History}
 use Rattle.fgo_state.specs.declared.state.FixedLagRefiner.{FixedLagRefiner}
-use Rattle.fgo_state.specs.Memory.{Memory, body_at, state_of}
+use Rattle.fgo_state.specs.declared.state.Memory.{Memory}
+use Rattle.fgo_state.specs.Memory.{body_at, state_of}
 use Rattle.fgo_state.specs.Sound.{bodies_ok, sound_ok, Sound}
 use Rattle.fgo.specs.Promise.{new_by, open_refusal, due, Promised}
 use Rattle.histories.specs.Calls as calls
@@ -22,14 +23,14 @@ Call = calls.Call Body FixedLagRefiner Memory
 -- it is lent the memory m, and is as the contract of push, or of take, says
 abbrev pub Meets : FixedLagRefiner → Memory → Call → Type 0
 Meets r m k =
-    Promised (due r m k.sent k.words k.numbers) r m k.words k.numbers (record { answer = k.answer; state = k.value }) k.memory
+    Promised (due r m k.sent k.words k.numbers) r m k.words k.numbers k.answer k.value k.memory
     k.words_back k.numbers_back
 
 -- memory that stands for the same: the bodies held are those of m, and so is all that the state says. What lies past a count may be anything: a caller may
 -- clear it, and move or copy the rest.
 pub record Same (r : FixedLagRefiner) (m m' : Memory) : Type 0 where
   pub bodies :
-      (i : ℕ) → i < r.held → body_at m'.bodies m'.columns (r.first.0 + i) ≡ body_at m.bodies m.columns (r.first.0 + i)
+      (i : ℕ) → i < r.held → body_at m'.scans.bodies m'.scans.columns (r.first.0 + i) ≡ body_at m.scans.bodies m.scans.columns (r.first.0 + i)
   pub state : state_of r m' ≡ state_of r m
 
 -- after the memory m came back, it is lent memory that stands for the same, and is as its contract says
@@ -40,7 +41,7 @@ Keeps r m k = Same r m k.lent × Meets r k.lent k
 pub record Reached (c : FgoConfig) (ops : List (Op Body)) (r : FixedLagRefiner) (m : Memory) : Type 0 where
   pub settings : r.config ≡ c
   pub state : state_of r m ≡ (run c ops).state
-  pub bodies : bodies_ok m.bodies m.columns r.first.0 r.held ≡ true
+  pub bodies : bodies_ok m.scans.bodies m.scans.columns r.first.0 r.held ≡ true
   pub bytes : All Sent ops
 
 -- "any list of pushes and takes runs from a new refiner, refused ones included": the refiner is one that open gave, and what is pushed are bytes; the memory
@@ -81,8 +82,8 @@ pub record Third (r : FixedLagRefiner) (m : Memory) (three : Type 0) : Type 0 wh
   pub only : three → Sound r m → ⊥
   pub always : (Sound r m → ⊥) → three
 
--- the laws, in proofs/: third : .. → Bytes m.bodies → Meets r m k → Third r m (k.answer ≡ Refused 3)
---                       third_counted : .. → Bytes m.bodies → Third r m (counted_by (count_refusal r m) n ≡ NotCounted 3)
+-- the laws, in proofs/: third : .. → Bytes m.scans.bodies → Meets r m k → Third r m (k.answer ≡ Refused 3)
+--                       third_counted : .. → Bytes m.scans.bodies → Third r m (counted_by (count_refusal r m) n ≡ NotCounted 3)
 
 -- ---- finish
 

@@ -3,7 +3,7 @@ ghost use Rattle.std.specs.Prelude.{◌≡◌, ◌+◌, ◌≤◌, length};
 ghost use Rattle.bounds.specs.Bounds.{KF};
 ghost use Rattle.scalar.specs.F64.{f64};
 ghost use Rattle.kf.specs.Plain.{log_term};
-ghost use Rattle.kf.specs.Filter.{started, predicted, updated, log_of, kf_in, kf_numbers};
+ghost use Rattle.kf.specs.Filter.{started, predicted, updated, worked, log_of, kf_in, kf_numbers};
 
 use bounds::KF;
 use scalar::log;
@@ -99,6 +99,13 @@ impl Kf {
             t: self.t,
         };
         Updated { kf, nll }
+    }
+
+    // Predict to the time t, then update with a position: the filter that is lent moves on by one detection.
+    pub fn advance(&mut self, t: f64, q: f64, x: f64, y: f64, r: f64)
+        ensures { self.new ≡ (worked self.old t q x y r).kf }
+    {
+        *self = self.predict(t, q).update(x, y, r).kf;
     }
 
     // The filter whose numbers stand in a list from place o on; they must be there.

@@ -11,7 +11,7 @@ use borrow.Author.Tests.{lt-ltb, ltb-true, ltb-false}
 use Rattle.scalar.specs.Num.{Num, Exact}
 use Rattle.scalar.proofs.Algebra.{mul-zero, add_cancel, mul-div}
 use Rattle.linalg.specs.Grown.{tabulate}
-use Rattle.linalg.specs.Matrix.{at, entry, matrix, mul, transpose}
+use Rattle.linalg.specs.Matrix.{entry, mul, transpose}
 use Rattle.linalg.specs.Cholesky.{less, cholesky, positive, lower_part, Triangular}
 use Rattle.linalg.specs.Sizes.{sum}
 use Rattle.linalg.proofs.Fill.{tabulated}

@@ -4,7 +4,7 @@ ghost use Rattle.scalar.specs.F64.{f64};
 ghost use Rattle.linalg.specs.Matrix as Matrix;
 ghost use Rattle.linalg.specs.Rows as Rows;
 
-use crate::rows::{column, put_row, row, sized};
+use crate::rows::{column, put_row, row};
 
 // Six products: the one at index 0, the rest added upwards.
 fn dot6(u: &[f64; 6], v: &[f64; 6]) -> f64
@@ -39,16 +39,13 @@ fn mul_row(a: &[f64; 36], i: usize, b: &[f64; 36]) -> [f64; 6]
 }
 
 // The product: an entry is the product at index 0, the rest added upwards.
+// As it is: given back by value the product would be copied, which costs instructions in each step; so it is written where it is wanted.
 pub fn mul6(a: &[f64; 36], b: &[f64; 36], out: &mut [f64; 36])
     ensures { out.new ≡ Matrix.mul f64 a.now b.now }
 {
-    let before = *out;
-    sized(before);
-    let mut i = 0usize;
-    while i < 6 {
+    for i in 0..6 {
         let r = mul_row(a, i, b);
         put_row(out, i, &r);
-        i += 1;
     }
 }
 
@@ -57,11 +54,9 @@ pub fn mul_vec6(a: &[f64; 36], v: &[f64; 6]) -> [f64; 6]
     ensures { result ≡ Matrix.mul_vec f64 a.now v.now }
 {
     let mut out = [0.0; 6];
-    let mut i = 0usize;
-    while i < 6 {
+    for i in 0..6 {
         let u = row(a, i);
         out[i] = dot6(&u, v);
-        i += 1;
     }
     out
 }
@@ -71,37 +66,31 @@ pub fn transpose6(a: &[f64; 36]) -> [f64; 36]
     ensures { result ≡ Matrix.transpose f64 a.now }
 {
     let mut out = [0.0; 36];
-    let mut j = 0usize;
-    while j < 6 {
+    for j in 0..6 {
         let r = column(a, j);
         put_row(&mut out, j, &r);
-        j += 1;
     }
     out
 }
 
-// The sum.
-pub fn add6(a: &[f64; 36], b: &[f64; 36]) -> [f64; 36]
-    ensures { result ≡ Matrix.add f64 36 a.now b.now }
+// The sum of two vectors, or of two matrices.
+pub fn add<const N: usize>(a: &[f64; N], b: &[f64; N]) -> [f64; N]
+    ensures { result ≡ Matrix.add f64 N a.now b.now }
 {
-    let mut out = [0.0; 36];
-    let mut n = 0usize;
-    while n < 36 {
-        out[n] = a[n] + b[n];
-        n += 1;
+    let mut out = [0.0; N];
+    for k in 0..N {
+        out[k] = a[k] + b[k];
     }
     out
 }
 
-// The difference.
-pub fn sub6(a: &[f64; 36], b: &[f64; 36]) -> [f64; 36]
-    ensures { result ≡ Matrix.sub f64 36 a.now b.now }
+// The difference of two vectors, or of two matrices.
+pub fn sub<const N: usize>(a: &[f64; N], b: &[f64; N]) -> [f64; N]
+    ensures { result ≡ Matrix.sub f64 N a.now b.now }
 {
-    let mut out = [0.0; 36];
-    let mut n = 0usize;
-    while n < 36 {
-        out[n] = a[n] - b[n];
-        n += 1;
+    let mut out = [0.0; N];
+    for k in 0..N {
+        out[k] = a[k] - b[k];
     }
     out
 }
@@ -112,38 +101,8 @@ pub fn half_sum6(a: &[f64; 36]) -> [f64; 36]
 {
     let t = transpose6(a);
     let mut out = [0.0; 36];
-    let mut n = 0usize;
-    while n < 36 {
+    for n in 0..36 {
         out[n] = 0.5 * (a[n] + t[n]);
-        n += 1;
     }
     out
-}
-
-// The sum of two vectors.
-pub fn add_vec6(a: &[f64; 6], b: &[f64; 6]) -> [f64; 6]
-    ensures { result ≡ Matrix.add f64 6 a.now b.now }
-{
-    [
-        a[0] + b[0],
-        a[1] + b[1],
-        a[2] + b[2],
-        a[3] + b[3],
-        a[4] + b[4],
-        a[5] + b[5],
-    ]
-}
-
-// The difference of two vectors.
-pub fn sub_vec6(a: &[f64; 6], b: &[f64; 6]) -> [f64; 6]
-    ensures { result ≡ Matrix.sub f64 6 a.now b.now }
-{
-    [
-        a[0] - b[0],
-        a[1] - b[1],
-        a[2] - b[2],
-        a[3] - b[3],
-        a[4] - b[4],
-        a[5] - b[5],
-    ]
 }

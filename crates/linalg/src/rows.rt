@@ -1,20 +1,16 @@
 // Rows and columns of a matrix: six numbers at a time. A matrix's 36 numbers stand by rows.
-ghost use Rattle.std.specs.Prelude.{◌≡◌, ◌<◌, length};
+ghost use Rattle.std.specs.Prelude.{◌≡◌, ◌+◌, ◌*◌, ◌<◌};
 ghost use Rattle.scalar.specs.F64.{f64};
 ghost use Rattle.linalg.specs.Rows as Rows;
 
-// A matrix has 36 numbers. A lent array does not say so, a copy of it does; neither the copy nor this call costs anything once compiled.
-pub fn sized(m: [f64; 36])
-    ensures { length m ≡ 36 }
-{}
+use std::array::from_fn;
 
 // Row i.
 pub fn row(a: &[f64; 36], i: usize) -> [f64; 6]
     requires { i < 6 }
     ensures { result ≡ Rows.row f64 a.now i }
 {
-    let p = i * 6;
-    [a[p], a[p + 1], a[p + 2], a[p + 3], a[p + 4], a[p + 5]]
+    from_fn(|k| a[i * 6 + k])
 }
 
 // Column j.
@@ -22,7 +18,21 @@ pub fn column(a: &[f64; 36], j: usize) -> [f64; 6]
     requires { j < 6 }
     ensures { result ≡ Rows.column f64 a.now j }
 {
-    [a[j], a[6 + j], a[12 + j], a[18 + j], a[24 + j], a[30 + j]]
+    from_fn(|k| a[k * 6 + j])
+}
+
+// Stores six numbers, s places apart from place p on.
+// As it is: the clause names six writes, one after the other, and the code shows them; a loop would need them counted.
+fn put_strided(m: &mut [f64; 36], p: usize, s: usize, v: &[f64; 6])
+    requires { p + 5 * s < 36 }
+    ensures { m.new ≡ Rows.stored f64 m.old p s v.now }
+{
+    m[p] = v[0];
+    m[p + s] = v[1];
+    m[p + 2 * s] = v[2];
+    m[p + 3 * s] = v[3];
+    m[p + 4 * s] = v[4];
+    m[p + 5 * s] = v[5];
 }
 
 // Stores row i.
@@ -30,13 +40,7 @@ pub fn put_row(m: &mut [f64; 36], i: usize, v: &[f64; 6])
     requires { i < 6 }
     ensures { m.new ≡ Rows.put_row f64 m.old i v.now }
 {
-    let p = i * 6;
-    m[p] = v[0];
-    m[p + 1] = v[1];
-    m[p + 2] = v[2];
-    m[p + 3] = v[3];
-    m[p + 4] = v[4];
-    m[p + 5] = v[5];
+    put_strided(m, i * 6, 1, v);
 }
 
 // Stores column j.
@@ -44,10 +48,5 @@ pub fn put_column(m: &mut [f64; 36], j: usize, v: &[f64; 6])
     requires { j < 6 }
     ensures { m.new ≡ Rows.put_column f64 m.old j v.now }
 {
-    m[j] = v[0];
-    m[j + 6] = v[1];
-    m[j + 12] = v[2];
-    m[j + 18] = v[3];
-    m[j + 24] = v[4];
-    m[j + 30] = v[5];
+    put_strided(m, j, 6, v);
 }

@@ -6,10 +6,11 @@ ghost use Rattle.scalar.specs.F64.{f64};
 ghost use Rattle.linalg.specs.Matrix as Matrix;
 ghost use Rattle.models.specs.Motion as Motion;
 
-use linalg::rows::{column, put_column, put_row, row, sized};
+use linalg::rows::{column, put_column, put_row, row};
 
 // The motion over dt.
 #[rattlefmt::skip]
+#[tactic(auto, unfolding(crate::specs::Motion::cv_f, linalg::specs::Grown::tabulate))]
 pub fn cv_f6(dt: f64) -> [f64; 36]
     ensures { result ≡ Motion.cv_f f64 dt }
 {
@@ -25,6 +26,7 @@ pub fn cv_f6(dt: f64) -> [f64; 36]
 
 // The motion's noise over dt, of the spectral density q.
 #[rattlefmt::skip]
+#[tactic(auto, unfolding(crate::specs::Motion::cv_q, linalg::specs::Grown::tabulate))]
 pub fn cv_q6(dt: f64, q: f64) -> [f64; 36]
     ensures { result ≡ Motion.cv_q f64 dt q }
 {
@@ -44,15 +46,11 @@ pub fn cv_q6(dt: f64, q: f64) -> [f64; 36]
 }
 
 // The motion times a vector: the products with 0.0 count, since they spread a NaN and an infinity.
+#[tactic(auto, unfolding(crate::specs::Motion::cv_f, linalg::specs::Matrix::mul_vec, linalg::specs::Grown::tabulate))]
 pub fn cv_f6_mul_vec(dt: f64, v: &[f64; 6]) -> [f64; 6]
     ensures { result ≡ Matrix.mul_vec f64 (Motion.cv_f f64 dt) v.now }
 {
-    let a = v[0];
-    let b = v[1];
-    let c = v[2];
-    let d = v[3];
-    let e = v[4];
-    let f = v[5];
+    let [a, b, c, d, e, f] = *v;
     [
         1.0 * a + 0.0 * b + 0.0 * c + dt * d + 0.0 * e + 0.0 * f,
         0.0 * a + 1.0 * b + 0.0 * c + 0.0 * d + dt * e + 0.0 * f,
@@ -68,27 +66,22 @@ pub fn cv_f6_mul(dt: f64, m: &[f64; 36]) -> [f64; 36]
     ensures { result ≡ Matrix.mul f64 (Motion.cv_f f64 dt) m.now }
 {
     let mut out = [0.0; 36];
-    let mut j = 0usize;
-    while j < 6 {
+    for j in 0..6 {
         let v = column(m, j);
         let r = cv_f6_mul_vec(dt, &v);
         put_column(&mut out, j, &r);
-        j += 1;
     }
     out
 }
 
 // A matrix times the transposed motion, row by row.
+// As it is: given back by value the product would be copied, which costs instructions in each step; so it is written where it is wanted.
 pub fn mul_cv_f6t(m: &[f64; 36], dt: f64, out: &mut [f64; 36])
     ensures { out.new ≡ Matrix.mul f64 m.now (Matrix.transpose f64 (Motion.cv_f f64 dt)) }
 {
-    let before = *out;
-    sized(before);
-    let mut i = 0usize;
-    while i < 6 {
+    for i in 0..6 {
         let v = row(m, i);
         let r = cv_f6_mul_vec(dt, &v);
         put_row(out, i, &r);
-        i += 1;
     }
 }

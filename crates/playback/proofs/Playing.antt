@@ -9,7 +9,7 @@ use lib.Ieee.{Float}
 use borrow.Author.Tests.{leb-true}
 use Rattle.bounds.specs.Bounds.{LAG, WORDS, NUMBERS, TEXT}
 use Rattle.scalar.specs.Digits.{nil}
-use Rattle.buffers.specs.Answer.{opened_by, Op, pushed, taken}
+use Rattle.buffers.specs.Answer.{opened_by, Op, pushed, taken, opening_of}
 use Rattle.engine.specs.declared.config.FgoConfig.{FgoConfig}
 use Rattle.engine.specs.declared.types.BodyKind.TheVariants.{Narrow}
 use Rattle.engine.specs.Config.{legal}
@@ -18,20 +18,16 @@ use Rattle.engine.proofs.Every.{both}
 use Rattle.recording.specs.Recording.{recorded_body}
 use Rattle.fgo_spec.proofs.Rows.{front_more}
 use Rattle.fgo_state.specs.declared.state.FixedLagRefiner.{FixedLagRefiner}
-use Rattle.fgo_state.specs.Memory.{Memory}
+use Rattle.fgo_state.specs.declared.state.Memory.{Memory}
 use Rattle.fgo_emit.specs.Writing.{Roomy}
-use Rattle.fgo.specs.declared.Opened.{Opened}
-use Rattle.fgo.specs.declared.Opened.TheVariants.{Ready}
-use Rattle.fgo.specs.declared.Counted.{Counted}
-use Rattle.fgo.specs.declared.Counted.TheVariants.{Refused as NotCounted, Moves}
-use Rattle.fgo.specs.Promise.{new_by, open_refusal, opening_of}
+use Rattle.std.specs.Prelude.{Result, Ok}
+use Rattle.refusals.specs.declared.Refusal.{Refusal}
+use Rattle.fgo.specs.Promise.{new_by, open_refusal, Counted, NotCounted, Moves}
 use Rattle.fgo.proofs.Opening.{opened_new}
 use Rattle.print.proofs.Fitting.{Few, refused_few, counters_few}
 use Rattle.smoother_window.specs.declared.FixedLagSmoother.{FixedLagSmoother}
 use Rattle.smoother_window.specs.declared.SmootherConfig.{SmootherConfig}
 use Rattle.smoother_window.specs.Config as Config
-use Rattle.smoother.specs.declared.Opened.{Opened as OpenedSmoother}
-use Rattle.smoother.specs.declared.Opened.TheVariants.{Ready as ReadySmoother}
 use Rattle.smoother.specs.Smoother.{opens}
 use Rattle.smoother.specs.Promise.{Window, opening_of as opening_in}
 use Rattle.histories.specs.Calls.{Calls}
@@ -208,7 +204,7 @@ module _ (r : FixedLagRefiner) (m : Memory) (f : Fresh r) where
 -- ---- the start of a run
 
 -- an opening that gives a refiner
-pub fresh_of : (c : FgoConfig) (r : FixedLagRefiner) {o : Opened} → o ≡ Ready r → opening_of o ≡ opened_by (open_refusal c) (new_by c) → Fresh r
+pub fresh_of : (c : FgoConfig) (r : FixedLagRefiner) {o : Result FixedLagRefiner Refusal} → o ≡ Ok r → opening_of o ≡ opened_by (open_refusal c) (new_by c) → Fresh r
 fresh_of c r e h =
     let p = opened_new c r (sym h ∙ ap opening_of e) in
     subst Fresh p.1 (record { settings = p.0; new = refl })
@@ -220,7 +216,7 @@ lag-within r f = leb-true _ _ (both (leb r.config.lag_frames LAG) _ f.settings).
 
 -- an opening that gives a smoother
 pub opened_serves :
-    (d : SmootherConfig) (w : Window) {o : OpenedSmoother} {s : FixedLagSmoother} → o ≡ ReadySmoother s →
+    (d : SmootherConfig) (w : Window) {o : Result FixedLagSmoother Refusal} {s : FixedLagSmoother} → o ≡ Ok s →
     opening_in o w ≡ opens d (length w.words) (length w.numbers) → Smoothed s w
 unfolding Calls
 opened_serves d w {s = s} e h =

@@ -8,9 +8,7 @@ use lib.ListN.{length, take, replicate, length-replicate}
 use lib.Ieee.{Float}
 use Rattle.bounds.specs.Bounds.{WORDS, NUMBERS, TEXT}
 use Rattle.scalar.specs.Digits.{nil}
-use Rattle.buffers.specs.declared.Answer.{Answer}
-use Rattle.buffers.specs.declared.Answer.TheVariants.{Refused, Held, Frame}
-use Rattle.buffers.specs.Answer.{Op, pushed, taken, Written, roomy, checked}
+use Rattle.buffers.specs.Answer.{Op, pushed, taken, Written, roomy, checked, Answer, Refused, Held, Frame}
 use Rattle.print.specs.Text.{Puts, refused_line, short_answer, full_answer}
 use Rattle.print.specs.Printed.{Shown, Counted}
 use Rattle.print.proofs.Showing.{shown}
@@ -20,9 +18,8 @@ use Rattle.smoother_window.specs.declared.FixedLagSmoother.{FixedLagSmoother}
 use Rattle.smoother_window.specs.declared.SmootherConfig.{SmootherConfig}
 use Rattle.smoother_window.specs.Config.{legal}
 use Rattle.smoother_window.proofs.Forms.{frames_long}
-use Rattle.smoother.specs.declared.Pushed.{Pushed}
 use Rattle.smoother.specs.Smoother.{State, emit_oldest, takes, reply}
-use Rattle.smoother.specs.Promise.{Window, state_in, Promised}
+use Rattle.smoother.specs.Promise.{Window, state_in, Promised, Pushed}
 use Rattle.histories.specs.Smoothed.{smoothing}
 use Rattle.histories.specs.Joined.{Call, Same, Reached}
 use Rattle.histories.proofs.CallsLaw.{more}

@@ -9,7 +9,7 @@ use lib.ListN.{length, take, drop}
 use lib.Ieee.{Float}
 use borrow.Author.Tests.{le-leb}
 use Rattle.bounds.specs.Bounds.{WORDS, NUMBERS}
-use Rattle.buffers.specs.Answer.{Op, pushed, taken, Reply, refused, waits, gives, roomy, checked, answer_of, words_after}
+use Rattle.buffers.specs.Answer.{Op, pushed, taken, Reply, refused, waits, gives, roomy, checked, answer_of, words_after, Answer}
 use Rattle.engine.specs.declared.config.FgoConfig.{FgoConfig}
 use Rattle.engine.specs.declared.types.BodyKind.TheVariants.{Narrow}
 use Rattle.engine.specs.Body.{Body, body}
@@ -21,9 +21,9 @@ use Rattle.fgo_spec.specs.Rule.{Bytes}
 use Rattle.fgo_spec.specs.History.{Sent, run}
 use Rattle.recording.specs.Recording.{offset, size, holds, recorded_body}
 use Rattle.fgo_state.specs.declared.state.FixedLagRefiner.{FixedLagRefiner}
-use Rattle.fgo_state.specs.Memory.{Memory, state_of, scan_in}
+use Rattle.fgo_state.specs.declared.state.Memory.{Memory}
+use Rattle.fgo_state.specs.Memory.{state_of, scan_in}
 use Rattle.fgo_emit.specs.Writing.{Roomy}
-use Rattle.fgo.specs.declared.Pushed.{Pushed}
 use Rattle.fgo.specs.Promise.{due, Sized, GivenSized, Promised}
 use Rattle.smoother_frame.specs.Frame.{Counts}
 use Rattle.print.specs.Printed.{Counted}
@@ -77,7 +77,7 @@ enough {ws} {ns} h = rw (le-leb WORDS (length ws) h.words, le-leb NUMBERS (lengt
 -- as many frames are held as the refiner counts
 held_is : (r : FixedLagRefiner) (m : Memory) → length (state_of r m).scans ≡ r.held
 unfolding state_of
-held_is r m = length-rows (scan_in m.bodies m.columns) r.first.0 r.held
+held_is r m = length-rows (scan_in m.scans.bodies m.scans.columns) r.first.0 r.held
 
 -- a take leaves one frame fewer, if one is held
 take-fewer : (c : FgoConfig) (t : State) (l : List Scan) → 0 < length l → length l ≡ suc (length (freeze_oldest c t l).1.scans)
@@ -85,8 +85,8 @@ unfolding freeze_oldest leave
 take-fewer c t [] h = absurd (omega arith)
 take-fewer c t (s ∷ ss) h = refl
 
-module _ (op : Op Body) (r : FixedLagRefiner) (m : Memory) {ws : List ℕ} {ns : List Float} {p : Pushed} {m' : Memory} {ws' : List ℕ} {ns' : List Float}
-    (room : Roomy ws ns) (h : Promised (due r m op ws ns) r m ws ns p m' ws' ns') where
+module _ (op : Op Body) (r : FixedLagRefiner) (m : Memory) {ws : List ℕ} {ns : List Float} {g : Answer} {u : FixedLagRefiner} {m' : Memory} {ws' : List ℕ} {ns' : List Float}
+    (room : Roomy ws ns) (h : Promised (due r m op ws ns) r m ws ns g u m' ws' ns') where
   -- the call
   abbrev call : Call
   call =
@@ -95,19 +95,19 @@ module _ (op : Op Body) (r : FixedLagRefiner) (m : Memory) {ws : List ℕ} {ns :
         lent = m;
         words = ws;
         numbers = ns;
-        answer = p.answer;
-        value = p.state;
+        answer = g;
+        value = u;
         memory = m';
         words_back = ws';
         numbers_back = ns';
       }
 
-  leads : Sent op → Leads (op ∷ []) r m p.state m'
+  leads : Sent op → Leads (op ∷ []) r m u m'
   leads sent ok ops a =
-      subst (λ b. Reached r.config (ops ++ more b op) p.state m') (enough room)
+      subst (λ b. Reached r.config (ops ++ more b op) u m') (enough room)
       ((known r.config ok).next ops r m a call sent (same r m, h))
 
-  steps : Sent op → Steps (op ∷ []) r m p m' ws' ns'
+  steps : Sent op → Steps (op ∷ []) r m g u m' ws' ns'
   steps sent =
       record {
         leads = leads sent;
@@ -117,20 +117,20 @@ module _ (op : Op Body) (r : FixedLagRefiner) (m : Memory) {ws : List ℕ} {ns :
 
 -- a push of frame i of the recording s, given as b
 pub push_steps :
-    (r : FixedLagRefiner) (m : Memory) (s : List ℕ) (i : ℕ) {b : List ℕ} {ws : List ℕ} {ns : List Float} {p : Pushed} {m' : Memory} {ws' : List ℕ} {ns' : List Float} →
-    Bytes s → b ≡ recorded_body s i → Roomy ws ns → Promised (due r m (pushed (body Narrow b)) ws ns) r m ws ns p m' ws' ns' →
-    Steps (pushed (body Narrow (recorded_body s i)) ∷ []) r m p m' ws' ns'
-push_steps r m s i {b} {p = p} {m'} {ws'} {ns'} h e room k =
-    subst (λ b. Steps (pushed (body Narrow b) ∷ []) r m p m' ws' ns') e
+    (r : FixedLagRefiner) (m : Memory) (s : List ℕ) (i : ℕ) {b : List ℕ} {ws : List ℕ} {ns : List Float} {g : Answer} {u : FixedLagRefiner} {m' : Memory} {ws' : List ℕ} {ns' : List Float} →
+    Bytes s → b ≡ recorded_body s i → Roomy ws ns → Promised (due r m (pushed (body Narrow b)) ws ns) r m ws ns g u m' ws' ns' →
+    Steps (pushed (body Narrow (recorded_body s i)) ∷ []) r m g u m' ws' ns'
+push_steps r m s i {b} {g = g} {u} {m'} {ws'} {ns'} h e room k =
+    subst (λ b. Steps (pushed (body Narrow b) ∷ []) r m g u m' ws' ns') e
     (steps (pushed (body Narrow b)) r m room k (subst Bytes (sym e) (recorded_bytes s i h)))
 
 -- a take
-module _ (r : FixedLagRefiner) (m : Memory) {ws : List ℕ} {ns : List Float} {p : Pushed} {m' : Memory} {ws' : List ℕ} {ns' : List Float}
-    (room : Roomy ws ns) (h : Promised (due r m taken ws ns) r m ws ns p m' ws' ns') where
-  pub take_steps : Steps (taken ∷ []) r m p m' ws' ns'
+module _ (r : FixedLagRefiner) (m : Memory) {ws : List ℕ} {ns : List Float} {g : Answer} {u : FixedLagRefiner} {m' : Memory} {ws' : List ℕ} {ns' : List Float}
+    (room : Roomy ws ns) (h : Promised (due r m taken ws ns) r m ws ns g u m' ws' ns') where
+  pub take_steps : Steps (taken ∷ []) r m g u m' ws' ns'
   take_steps = steps taken r m room h tt
 
-  pub fewer : Fewer r m p.state
+  pub fewer : Fewer r m u
   unfolding takes
   fewer l some =
       let c = r.config in
@@ -138,6 +138,6 @@ module _ (r : FixedLagRefiner) (m : Memory) {ws : List ℕ} {ns : List Float} {p
       let e = l.reached.state in
       let n = ((known c l.settings).ends l.calls r m l.reached (call taken r m room h) tt (same r m, h)).state in
       let held : length t.scans ≡ r.held = sym (ap (λ t. length t.scans) e) ∙ held_is r m in
-      let after : p.state.held ≡ length (freeze_oldest c t t.scans).1.scans =
-      sym (held_is p.state m') ∙ ap (λ t. length t.scans) (n ∙ ap (λ b. (checked (cond b 0 4) t (reply c t taken)).1) (enough room)) in
+      let after : u.held ≡ length (freeze_oldest c t t.scans).1.scans =
+      sym (held_is u m') ∙ ap (λ t. length t.scans) (n ∙ ap (λ b. (checked (cond b 0 4) t (reply c t taken)).1) (enough room)) in
       sym held ∙ take-fewer c t t.scans (omega arith) ∙ ap suc (sym after)

@@ -1,13 +1,12 @@
 -- What a run of a recording is: every frame pushed in order, then takes until none is held. Definitions only.
 use Rattle.std.specs.Prelude.{ℕ, suc, ◌<◌, ◌≡◌, true, List, ◌++◌, replicate, Float}
-use Rattle.buffers.specs.Answer.{Op, pushed, taken, Written}
+use Rattle.buffers.specs.Answer.{Op, pushed, taken, Written, Answer}
 use Rattle.engine.specs.declared.types.BodyKind.TheVariants.{Narrow}
 use Rattle.engine.specs.Body.{Body, body, rows}
 use Rattle.engine.specs.Config.{legal}
 use Rattle.recording.specs.Recording.{recorded_body}
 use Rattle.fgo_state.specs.declared.state.FixedLagRefiner.{FixedLagRefiner}
-use Rattle.fgo_state.specs.Memory.{Memory}
-use Rattle.fgo.specs.declared.Pushed.{Pushed}
+use Rattle.fgo_state.specs.declared.state.Memory.{Memory}
 use Rattle.fgo.specs.Promise.{new_by}
 use Rattle.print.specs.Printed.{Shown, Counted}
 use Rattle.smoother_window.specs.declared.FixedLagSmoother.{FixedLagSmoother}
@@ -46,10 +45,10 @@ Leads more r m r' m' =
     legal r.config ≡ true → (ops : List (Op Body)) → Refined.Reached r.config ops r m → Refined.Reached r.config (ops ++ more) r' m'
 
 -- a push or a take that leads on, and whose answer can be told
-pub record Steps (more : List (Op Body)) (r : FixedLagRefiner) (m : Memory) (p : Pushed) (m' : Memory) (fw : List ℕ) (fx : List Float) : Type 0 where
-  pub leads : Leads more r m p.state m'
-  pub shown : Shown p.answer fw fx
-  pub counted : Counted p.answer fw
+pub record Steps (more : List (Op Body)) (r : FixedLagRefiner) (m : Memory) (o : Answer) (u : FixedLagRefiner) (m' : Memory) (fw : List ℕ) (fx : List Float) : Type 0 where
+  pub leads : Leads more r m u m'
+  pub shown : Shown o fw fx
+  pub counted : Counted o fw
 
 -- a take after pushes and takes leaves one frame fewer, if one is held
 abbrev pub Fewer : FixedLagRefiner → Memory → FixedLagRefiner → Type 0

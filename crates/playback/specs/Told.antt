@@ -2,20 +2,16 @@
 use Rattle.std.specs.Prelude.{ℕ, ◌≡◌, List, [], take, replicate, Float}
 use Rattle.bounds.specs.Bounds.{WORDS, NUMBERS}
 use Rattle.scalar.specs.Digits.{nil}
-use Rattle.buffers.specs.declared.Answer.{Answer}
-use Rattle.buffers.specs.declared.Answer.TheVariants.{Refused, Held, Frame}
-use Rattle.buffers.specs.Answer.{Op, pushed, Written}
-use Rattle.fgo.specs.declared.Counted.{Counted}
-use Rattle.fgo.specs.declared.Counted.TheVariants.{Refused as NotCounted, Moves}
+use Rattle.buffers.specs.Answer.{Op, pushed, Written, Answer, Refused, Held, Frame}
 use Rattle.print.specs.Text.{Ready, refused_line, counters_line, short_answer, full_answer}
 use Rattle.smoother_frame.specs.Frame.{frame}
 use Rattle.smoother_window.specs.declared.FixedLagSmoother.{FixedLagSmoother}
-use Rattle.smoother.specs.declared.Pushed.{Pushed}
-use Rattle.smoother.specs.Promise.{Window, Promised}
+use Rattle.smoother.specs.Promise.{Window, Promised, Pushed}
 use Rattle.playback.specs.declared.sink.Sink.{Sink}
 use Rattle.playback.specs.declared.sink.Sink.TheVariants.{Short, Full, Smoother}
 use Rattle.playback.specs.declared.sink.Smoothed.{Smoothed}
 use Rattle.playback.specs.declared.sink.Told.{Told}
+use Rattle.fgo.specs.Promise.{Counted, NotCounted, Moves}
 
 -- the line of the counters, or of a refusal
 unfoldable pub counted_line : Counted → List ℕ

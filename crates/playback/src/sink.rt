@@ -4,7 +4,7 @@
 // text of an answer is put together at the start of out.
 ghost use Rattle.std.specs.Prelude.{◌≤◌, length};
 ghost use Rattle.bounds.specs.Bounds.{TEXT};
-ghost use Rattle.buffers.specs.Answer.{pushed, taken};
+ghost use Rattle.buffers.specs.Answer.{answer_in, pushed, taken};
 ghost use Rattle.print.specs.Printed.{Shown, Counted};
 ghost use Rattle.smoother_frame.specs.Frame.{frame as frame_of};
 ghost use Rattle.smoother.specs.Promise as Smoothing;
@@ -56,9 +56,8 @@ fn smooth_one<'a, 'b, 'c, 'd>(
     let mut smoothed_numbers = [0.0; NUMBERS];
     let words: &mut [u64] = &mut smoothed_words;
     let numbers: &mut [f64] = &mut smoothed_numbers;
-    let t = smoother::push(state, window, values, fw, fx, words, numbers);
-    let answer = t.answer;
-    let next = t.state;
+    let mut next = state;
+    let answer = smoother::push(&mut next, window, values, fw, fx, words, numbers);
     let end = answers::put_full(out, answer, words, numbers);
     Smoothed { state: next, end }
 }
@@ -78,9 +77,8 @@ pub fn take_smoothed<'a, 'b>(
     let mut smoothed_numbers = [0.0; NUMBERS];
     let words: &mut [u64] = &mut smoothed_words;
     let numbers: &mut [f64] = &mut smoothed_numbers;
-    let t = smoother::take(state, window, values, words, numbers);
-    let answer = t.answer;
-    let next = t.state;
+    let mut next = state;
+    let answer = smoother::take(&mut next, window, values, words, numbers);
     let end = answers::put_full(out, answer, words, numbers);
     Smoothed { state: next, end }
 }
@@ -97,20 +95,17 @@ fn put_smoothed<'a, 'b, 'c, 'd>(
     values: &'b mut [f64],
     out: &'c mut [u8],
 ) -> Smoothed
-    requires { (TEXT ≤ length out.old) × Shown answer fw.now fx.now }
+    requires { (TEXT ≤ length out.old) × Shown (answer_in answer) fw.now fx.now }
     ensures { Smooths state (Smoothing.window window.old values.old) result
-        (Smoothing.window window.new values.new) out.new answer fw.now fx.now }
+        (Smoothing.window window.new values.new) out.new (answer_in answer) fw.now fx.now }
 {
     match answer {
-        Answer::Refused(code) => {
-            let end = lines::put_refused(out, 0, code);
+        Err(refusal) => {
+            let end = lines::put_refused(out, 0, refusal);
             Smoothed { state, end }
         }
-        Answer::Held => Smoothed { state, end: 0 },
-        Answer::Frame {
-            words: w,
-            numbers: x,
-        } => smooth_one(state, &fw[..w], &fx[..x], window, values, out),
+        Ok(None) => Smoothed { state, end: 0 },
+        Ok(Some(f)) => smooth_one(state, &fw[..f.words], &fx[..f.numbers], window, values, out),
     }
 }
 
@@ -124,9 +119,9 @@ pub fn put_answer<'a, 'b, 'c, 'd>(
     values: &'b mut [f64],
     out: &'c mut [u8],
 ) -> Told
-    requires { (TEXT ≤ length out.old) × Shown answer fw.now fx.now × Counted answer fw.now }
+    requires { (TEXT ≤ length out.old) × Shown (answer_in answer) fw.now fx.now × Counted (answer_in answer) fw.now }
     ensures { Prints (Smoothing.window window.old values.old) result
-        (Smoothing.window window.new values.new) out.new sink answer fw.now fx.now }
+        (Smoothing.window window.new values.new) out.new sink (answer_in answer) fw.now fx.now }
 {
     match sink {
         Sink::Short => {

@@ -1,14 +1,13 @@
 // The steps of a run: every frame of a recording is pushed to the refiner, at the end all are taken, then all from the smoother, if there is one. Each answer
 // is printed when it comes.
 //
-// The five arrays from bodies on are the refiner's memory, fw and fx its output buffers. Of window to out sink.rt says what they hold.
+// Of a refiner fw and fx are the output buffers. Of window to out sink.rt says what they hold.
 ghost use Rattle.std.specs.Prelude.{◌≡◌, [], ◌∷◌, ◌≤◌, length};
 ghost use Rattle.bounds.specs.Bounds.{TEXT};
-ghost use Rattle.buffers.specs.Answer.{pushed, taken};
+ghost use Rattle.buffers.specs.Answer.{answer_in, pushed, taken};
 ghost use Rattle.engine.specs.declared.types.BodyKind.TheVariants.{Narrow};
 ghost use Rattle.engine.specs.Body.{body as body_of};
 ghost use Rattle.recording.specs.Recording.{recorded_body};
-ghost use Rattle.fgo_state.specs.Memory.{memory};
 ghost use Rattle.fgo_emit.specs.Writing.{Roomy};
 ghost use Rattle.smoother.specs.Promise as Smoothing;
 ghost use Rattle.print.specs.Printed.{Shown, Counted as InBounds};
@@ -16,10 +15,9 @@ ghost use Rattle.playback.specs.Played.{pushes, Led, Leads, Steps, Fewer, TakesA
 
 use crate::sink;
 use crate::sink::Sink;
-use bounds::{BODIES, COLUMNS, FILTERS, OWNERS, PARTS};
+use buffers::Answer;
 use engine::types::BodyKind;
-use fgo::Pushed;
-use fgo_state::state::FixedLagRefiner;
+use fgo_state::state::{FixedLagRefiner, Memory};
 use smoother_window::FixedLagSmoother;
 
 // Where a run stands: the refiner, where its frames go, and whether all that was printed could be written.
@@ -40,85 +38,50 @@ struct Rest {
 // ---- a push and a take of the refiner, with output buffers that are long enough
 
 // Frame i of a recording, pushed.
-fn push_one<'a, 'b, 'c, 'd, 'e, 'f, 'g, 'h>(
-    r: FixedLagRefiner,
-    s: &'h [u8],
+fn push_one(
+    r: &mut FixedLagRefiner,
+    s: &[u8],
     i: usize,
-    bodies: &'a mut [u8; BODIES],
-    columns: &'b mut [u64; COLUMNS],
-    owners: &'c mut [u64; OWNERS],
-    tracks: &'d mut [u64; PARTS],
-    filters: &'e mut [f64; FILTERS],
-    fw: &'f mut [u64],
-    fx: &'g mut [f64],
-) -> Pushed
+    memory: &mut Memory,
+    fw: &mut [u64],
+    fx: &mut [f64],
+) -> Answer
     requires { Roomy fw.old fx.old }
-    ensures { Steps (pushed (body_of Narrow (recorded_body s.now i)) ∷ []) r
-        (memory bodies.old columns.old owners.old tracks.old filters.old) result
-        (memory bodies.new columns.new owners.new tracks.new filters.new)
-        fw.new fx.new }
+    ensures { Steps (pushed (body_of Narrow (recorded_body s.now i)) ∷ []) r.old memory.old (answer_in result) r.new memory.new fw.new fx.new }
 {
     let body = recording::frame_at(s, i);
-    fgo::push(
-        r,
-        BodyKind::Narrow,
-        body,
-        bodies,
-        columns,
-        owners,
-        tracks,
-        filters,
-        fw,
-        fx,
-    )
+    fgo::push(r, BodyKind::Narrow, body, memory, fw, fx)
 }
 
 // The oldest frame, taken.
-fn take_one<'a, 'b, 'c, 'd, 'e, 'f, 'g>(
-    r: FixedLagRefiner,
-    bodies: &'a mut [u8; BODIES],
-    columns: &'b mut [u64; COLUMNS],
-    owners: &'c mut [u64; OWNERS],
-    tracks: &'d mut [u64; PARTS],
-    filters: &'e mut [f64; FILTERS],
-    fw: &'f mut [u64],
-    fx: &'g mut [f64],
-) -> Pushed
+fn take_one(r: &mut FixedLagRefiner, memory: &mut Memory, fw: &mut [u64], fx: &mut [f64]) -> Answer
     requires { Roomy fw.old fx.old }
-    ensures steps { Steps (taken ∷ []) r
-        (memory bodies.old columns.old owners.old tracks.old filters.old) result
-        (memory bodies.new columns.new owners.new tracks.new filters.new)
-        fw.new fx.new }
-    ensures fewer { Fewer r (memory bodies.old columns.old owners.old tracks.old filters.old)
-        result.state }
+    ensures steps { Steps (taken ∷ []) r.old memory.old (answer_in result) r.new memory.new fw.new fx.new }
+    ensures fewer { Fewer r.old memory.old r.new }
 {
-    fgo::take(r, bodies, columns, owners, tracks, filters, fw, fx)
+    fgo::take(r, memory, fw, fx)
 }
 
 // A run after a push or a take of the refiner, of which the answer is printed.
-fn print_step<'a, 'b, 'c, 'd>(
+fn print_step(
     rt: &(impl Print + Eprint),
     p: Player,
-    t: Pushed,
-    fw: &'d [u64],
-    fx: &'d [f64],
-    window: &'a mut [u64],
-    values: &'b mut [f64],
-    out: &'c mut [u8],
+    answer: Answer,
+    fw: &[u64],
+    fx: &[f64],
+    window: &mut [u64],
+    values: &mut [f64],
+    out: &mut [u8],
 ) -> Player
-    requires in_bounds { (TEXT ≤ length out.old) × Shown t.answer fw.now fx.now × InBounds t.answer fw.now }
+    requires in_bounds { (TEXT ≤ length out.old) × Shown (answer_in answer) fw.now fx.now × InBounds (answer_in answer) fw.now }
     requires serves { Serves p.sink (Smoothing.window window.old values.old) }
-    ensures { (result.refiner ≡ t.state) × Serves result.sink (Smoothing.window window.new values.new) }
+    ensures { (result.refiner ≡ p.refiner) × Serves result.sink (Smoothing.window window.new values.new) }
 {
-    let answer = t.answer;
-    let refiner = t.state;
-    let last = p.sink;
-    let told = sink::put_answer(last, answer, fw, fx, window, values, out);
+    let told = sink::put_answer(p.sink, answer, fw, fx, window, values, out);
     let well = console::write(rt, out, told.end, p.well);
-    let sink = told.sink;
     Player {
-        refiner,
-        sink,
+        refiner: p.refiner,
+        sink: told.sink,
         well,
     }
 }
@@ -126,66 +89,50 @@ fn print_step<'a, 'b, 'c, 'd>(
 // ---- the run
 
 // The n frames of a recording, pushed.
-pub fn push_all<'a, 'b, 'c, 'd, 'e, 'f, 'g, 'h, 'i, 'j, 'k>(
+pub fn push_all(
     rt: &(impl Print + Eprint),
     first: Player,
-    s: &'k [u8],
+    s: &[u8],
     n: usize,
-    bodies: &'a mut [u8; BODIES],
-    columns: &'b mut [u64; COLUMNS],
-    owners: &'c mut [u64; OWNERS],
-    tracks: &'d mut [u64; PARTS],
-    filters: &'e mut [f64; FILTERS],
-    fw: &'f mut [u64],
-    fx: &'g mut [f64],
-    window: &'h mut [u64],
-    values: &'i mut [f64],
-    out: &'j mut [u8],
+    memory: &mut Memory,
+    fw: &mut [u64],
+    fx: &mut [f64],
+    window: &mut [u64],
+    values: &mut [f64],
+    out: &mut [u8],
 ) -> Player
     requires { (TEXT ≤ length out.old) × Roomy fw.old fx.old × Serves first.sink (Smoothing.window window.old values.old) }
     ensures serves { Serves result.sink (Smoothing.window window.new values.new) }
-    ensures leads { Leads (pushes s.now n) first.refiner
-        (memory bodies.old columns.old owners.old tracks.old filters.old) result.refiner
-        (memory bodies.new columns.new owners.new tracks.new filters.new) }
+    ensures leads { Leads (pushes s.now n) first.refiner memory.old result.refiner memory.new }
 {
     let mut p = first;
-    let mut i: usize = 0;
-    while i < n {
-        let r = p.refiner;
-        let t = push_one(r, s, i, bodies, columns, owners, tracks, filters, fw, fx);
-        p = print_step(rt, p, t, fw, fx, window, values, out);
-        i += 1;
+    for i in 0..n {
+        let answer = push_one(&mut p.refiner, s, i, memory, fw, fx);
+        p = print_step(rt, p, answer, fw, fx, window, values, out);
     }
     p
 }
 
 // All that are held, taken.
-pub fn take_all<'a, 'b, 'c, 'd, 'e, 'f, 'g, 'h, 'i, 'j>(
+pub fn take_all(
     rt: &(impl Print + Eprint),
     first: Player,
-    bodies: &'a mut [u8; BODIES],
-    columns: &'b mut [u64; COLUMNS],
-    owners: &'c mut [u64; OWNERS],
-    tracks: &'d mut [u64; PARTS],
-    filters: &'e mut [f64; FILTERS],
-    fw: &'f mut [u64],
-    fx: &'g mut [f64],
-    window: &'h mut [u64],
-    values: &'i mut [f64],
-    out: &'j mut [u8],
+    memory: &mut Memory,
+    fw: &mut [u64],
+    fx: &mut [f64],
+    window: &mut [u64],
+    values: &mut [f64],
+    out: &mut [u8],
 ) -> Player
     requires in_bounds { (TEXT ≤ length out.old) × Roomy fw.old fx.old × Serves first.sink (Smoothing.window window.old values.old) }
-    requires led { Led first.refiner (memory bodies.old columns.old owners.old tracks.old filters.old) }
+    requires led { Led first.refiner memory.old }
     ensures serves { Serves result.sink (Smoothing.window window.new values.new) }
-    ensures takes_all { TakesAll first.refiner
-        (memory bodies.old columns.old owners.old tracks.old filters.old) result.refiner
-        (memory bodies.new columns.new owners.new tracks.new filters.new) }
+    ensures takes_all { TakesAll first.refiner memory.old result.refiner memory.new }
 {
     let mut p = first;
     while 0 < p.refiner.held {
-        let r = p.refiner;
-        let t = take_one(r, bodies, columns, owners, tracks, filters, fw, fx);
-        p = print_step(rt, p, t, fw, fx, window, values, out);
+        let answer = take_one(&mut p.refiner, memory, fw, fx);
+        p = print_step(rt, p, answer, fw, fx, window, values, out);
     }
     p
 }

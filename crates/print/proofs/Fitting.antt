@@ -13,8 +13,6 @@ use lib.Ieee.{Float, nan}
 use Rattle.io.specs.Digits.{last_digits, hex_digit_ascii}
 use Rattle.bounds.specs.Bounds.{WORDS, NUMBERS, LINK, STATE, DECIMAL, HEXADECIMAL, TEXT}
 use Rattle.scalar.specs.Scalar.{bits_of}
-use Rattle.buffers.specs.declared.Answer.{Answer}
-use Rattle.buffers.specs.declared.Answer.TheVariants.{Refused, Held, Frame}
 use Rattle.buffers.specs.Buffers.{over}
 use Rattle.smoother_frame.specs.Frame.{time, track_count, association_count, associations_from, id_word, lifecycle_word, count_word, Counts}
 use Rattle.fgo_spec.specs.declared.moves.FgoCounters.{FgoCounters}
@@ -52,6 +50,7 @@ use Rattle.print.specs.Text.{
 }
 use Rattle.print.specs.Printed.{Shown, Counted}
 use Rattle.print.proofs.Putting.{put_whole, put_long}
+use Rattle.buffers.specs.Answer.{Answer, Refused, Held, Frame}
 
 -- a text has at most so many bytes
 pub record Few (text : List ℕ) (most : ℕ) : Type 0 where

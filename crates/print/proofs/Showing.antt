@@ -6,8 +6,7 @@ use mathlib.Core.List.{List}
 use lib.ListN.{length, take, drop, length-append}
 use lib.Seq.{take-append_seam}
 use lib.Ieee.{Float}
-use Rattle.buffers.specs.declared.Answer.{Answer}
-use Rattle.buffers.specs.Answer.{Reply, refused, waits, gives, Written, answer_of, words_after, numbers_after, Small, Ends}
+use Rattle.buffers.specs.Answer.{Reply, refused, waits, gives, Written, answer_of, words_after, numbers_after, Small, Ends, Answer}
 use Rattle.buffers.specs.Buffers.{over}
 use Rattle.print.specs.Printed.{Shown}
 

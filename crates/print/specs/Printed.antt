@@ -1,9 +1,8 @@
 -- What a frame must be for it to be printed. Definitions only.
 use Rattle.std.specs.Prelude.{ℕ, ◌≤◌, List, length, take, Float}
 use Rattle.bounds.specs.Bounds.{WORDS, NUMBERS}
-use Rattle.buffers.specs.declared.Answer.{Answer}
-use Rattle.buffers.specs.declared.Answer.TheVariants.{Refused, Held, Frame}
 use Rattle.smoother_frame.specs.Frame.{Counts}
+use Rattle.buffers.specs.Answer.{Answer, Refused, Held, Frame}
 
 -- a frame of so many words and numbers stands at the front of the words ws and the numbers xs, and is no longer than a frame may be
 pub record Stands (w x : ℕ) (ws : List ℕ) (xs : List Float) : Type 0 where

@@ -1,17 +1,15 @@
 -- Document 01, "Recording and print": what the programs print, as bytes, in the words and numbers of a frame. Definitions only.
 use Rattle.std.specs.Prelude.{ℕ, zero, suc, ◌+◌, ◌-◌, ◌*◌, ◌^◌, ◌≤◌, ◌<◌, ◌≡◌, cond, List, [], ◌∷◌, ◌++◌, length, take, get_or, leb, ℤ, pos, negsuc, Float}
 use Prim.Native.String.{String}
-use Prim.Native.String as String
 use Prim.Native.Char.{code}
 use Rattle.std.specs.Float.{nan}
 use Rattle.io.specs.Digits.{last_digits}
 use Rattle.bounds.specs.Bounds.{HEAD, TRACK, LINK, STATE}
-use Rattle.buffers.specs.declared.Answer.{Answer}
-use Rattle.buffers.specs.declared.Answer.TheVariants.{Refused, Held, Frame}
 use Rattle.buffers.specs.Buffers.{over}
 use Rattle.scalar.specs.Scalar.{bits_of, signed}
 use Rattle.smoother_frame.specs.Frame.{time, track_count, association_count, associations_from, id_word, lifecycle_word, count_word}
 use Rattle.fgo_spec.specs.declared.moves.FgoCounters.{FgoCounters}
+use Rattle.buffers.specs.Answer.{Answer, Refused, Held, Frame}
 
 -- ---- a text in a lent buffer
 

@@ -1,5 +1,6 @@
 // An answer of refiner or smoother, from the start of a buffer on: the line of a refusal; nothing where a frame is held; or the frame that stands at the front
 // of words and numbers.
+ghost use Rattle.buffers.specs.Answer.{answer_in};
 ghost use Rattle.print.specs.Text.{short_answer, full_answer, call_answer, Puts};
 ghost use Rattle.print.specs.Printed.{Shown, Counted};
 
@@ -7,46 +8,39 @@ use crate::{fields, full, lines, short};
 use buffers::Answer;
 
 // With its frame in full.
+#[tactic(auto, unfolding(crate::specs::Text::full_answer), using(crate::proofs::Putting::puts_none))]
 pub fn put_full<'a>(out: &mut [u8], answer: Answer, words: &'a [u64], numbers: &'a [f64]) -> usize
-    requires { Shown answer words.now numbers.now }
-    ensures { Puts (full_answer answer words.now numbers.now) 0 out.old out.new result }
+    requires { Shown (answer_in answer) words.now numbers.now }
+    ensures { Puts (full_answer (answer_in answer) words.now numbers.now) 0 out.old out.new result }
 {
     match answer {
-        Answer::Refused(code) => lines::put_refused(out, 0, code),
-        Answer::Held => 0,
-        Answer::Frame {
-            words: w,
-            numbers: x,
-        } => full::put_frame(out, 0, &words[..w], &numbers[..x]),
+        Err(refusal) => lines::put_refused(out, 0, refusal),
+        Ok(None) => 0,
+        Ok(Some(f)) => full::put_frame(out, 0, &words[..f.words], &numbers[..f.numbers]),
     }
 }
 
 // With its frame in short.
+#[tactic(auto, unfolding(crate::specs::Text::short_answer), using(crate::proofs::Putting::puts_none))]
 pub fn put_short<'a>(out: &mut [u8], answer: Answer, words: &'a [u64], numbers: &'a [f64]) -> usize
-    requires { Shown answer words.now numbers.now × Counted answer words.now }
-    ensures { Puts (short_answer answer words.now numbers.now) 0 out.old out.new result }
+    requires { Shown (answer_in answer) words.now numbers.now × Counted (answer_in answer) words.now }
+    ensures { Puts (short_answer (answer_in answer) words.now numbers.now) 0 out.old out.new result }
 {
     match answer {
-        Answer::Refused(code) => lines::put_refused(out, 0, code),
-        Answer::Held => 0,
-        Answer::Frame {
-            words: w,
-            numbers: x,
-        } => short::put_frame(out, 0, &words[..w], &numbers[..x]),
+        Err(refusal) => lines::put_refused(out, 0, refusal),
+        Ok(None) => 0,
+        Ok(Some(f)) => short::put_frame(out, 0, &words[..f.words], &numbers[..f.numbers]),
     }
 }
 
 // With its frame in full, and where one is held that is said.
+#[tactic(auto, unfolding(crate::specs::Text::call_answer))]
 pub fn put_call<'a>(out: &mut [u8], answer: Answer, words: &'a [u64], numbers: &'a [f64]) -> usize
-    requires { Shown answer words.now numbers.now }
-    ensures { Puts (call_answer answer words.now numbers.now) 0 out.old out.new result }
+    requires { Shown (answer_in answer) words.now numbers.now }
+    ensures { Puts (call_answer (answer_in answer) words.now numbers.now) 0 out.old out.new result }
 {
     match answer {
-        Answer::Refused(_) => put_full(out, answer, words, numbers),
-        Answer::Held => fields::put_text(out, 0, b"held\n"),
-        Answer::Frame {
-            words: _,
-            numbers: _,
-        } => put_full(out, answer, words, numbers),
+        Ok(None) => fields::put_text(out, 0, b"held\n"),
+        Ok(Some(_)) | Err(_) => put_full(out, answer, words, numbers),
     }
 }

@@ -16,10 +16,10 @@ pub fn put_text<'a, 'b>(out: &'a mut [u8], n: usize, s: &'b [u8]) -> usize
     }
     let room = out.len() - n;
     if room < s.len() {
-        buffers::put_bytes(out, n, &s[..room]);
+        buffers::put(out, n, &s[..room]);
         return out.len() + 1;
     }
-    buffers::put_bytes(out, n, s);
+    buffers::put(out, n, s);
     n + s.len()
 }
 

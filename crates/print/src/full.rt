@@ -9,10 +9,8 @@ fn put_each_word(out: &mut [u8], n: usize, words: &[u64]) -> usize
     ensures { Puts (texts (word_field words.now) (length words.now)) n out.old out.new result }
 {
     let mut at = n;
-    let mut i: usize = 0;
-    while i < words.len() {
+    for i in 0..words.len() {
         at = fields::put_word(out, at, words, i);
-        i += 1;
     }
     at
 }
@@ -22,10 +20,8 @@ fn put_each_number(out: &mut [u8], n: usize, x: &[f64]) -> usize
     ensures { Puts (texts (bits_field x.now) (length x.now)) n out.old out.new result }
 {
     let mut at = n;
-    let mut i: usize = 0;
-    while i < x.len() {
+    for i in 0..x.len() {
         at = fields::put_bits(out, at, x, i);
-        i += 1;
     }
     at
 }

@@ -1,15 +1,17 @@
 // Lines: of a refusal, of the counters, of an opening, of a digest and of a bad call.
+ghost use Rattle.refusals.specs.Refusals.{number_of};
 ghost use Rattle.print.specs.Text.{refused_line, counters_line, opened_line, digest_line, bad_line, Puts};
 
 use crate::fields;
 use fgo_spec::moves::FgoCounters;
+use refusals::Refusal;
 
 // `refused` and the number of a refusal.
-pub fn put_refused(out: &mut [u8], n: usize, code: u8) -> usize
-    ensures { Puts (refused_line code) n out.old out.new result }
+pub fn put_refused(out: &mut [u8], n: usize, refusal: Refusal) -> usize
+    ensures { Puts (refused_line (number_of refusal)) n out.old out.new result }
 {
     let a = fields::put_text(out, n, b"refused");
-    let b = fields::put_decimal(out, a, code as u64);
+    let b = fields::put_decimal(out, a, u64::from(u8::from(refusal)));
     fields::put_text(out, b, b"\n")
 }
 

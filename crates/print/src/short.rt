@@ -6,7 +6,7 @@ ghost use Rattle.print.specs.Text.{position, frame_line, track_line, assoc_line,
 
 use crate::fields;
 use bounds::{HEAD, LINK, STATE, TRACK};
-use smoother_frame::frame;
+use smoother_frame::counts::FrameCounts;
 
 // `frame` time, tracks, associations.
 fn put_head(out: &mut [u8], n: usize, words: &[u64]) -> usize
@@ -63,10 +63,8 @@ fn put_tracks<'a>(out: &mut [u8], n: usize, words: &'a [u64], x: &'a [f64], many
     ensures { Puts (texts (track_line words.now x.now) many) n out.old out.new result }
 {
     let mut at = n;
-    let mut i: usize = 0;
-    while i < many {
+    for i in 0..many {
         at = put_track(out, at, words, x, i);
-        i += 1;
     }
     at
 }
@@ -77,10 +75,8 @@ fn put_associations(out: &mut [u8], n: usize, words: &[u64], o: usize, many: usi
     ensures { Puts (texts (λ j. assoc_line words.now (o + LINK * j)) many) n out.old out.new result }
 {
     let mut at = n;
-    let mut j: usize = 0;
-    while j < many {
+    for j in 0..many {
         at = put_association(out, at, words, o + LINK * j);
-        j += 1;
     }
     at
 }
@@ -90,9 +86,14 @@ pub fn put_frame<'a>(out: &mut [u8], n: usize, words: &'a [u64], x: &'a [f64]) -
     requires { Counts words.now }
     ensures { Puts (short_form words.now x.now) n out.old out.new result }
 {
-    let tracks = frame::track_count(words);
-    let associations = frame::association_count(words);
+    let counts = FrameCounts::of(words);
     let a = put_head(out, n, words);
-    let b = put_tracks(out, a, words, x, tracks);
-    put_associations(out, b, words, HEAD + TRACK * tracks, associations)
+    let b = put_tracks(out, a, words, x, counts.tracks);
+    put_associations(
+        out,
+        b,
+        words,
+        HEAD + TRACK * counts.tracks,
+        counts.associations,
+    )
 }

@@ -13,9 +13,7 @@ use Rattle.engine.specs.declared.config.FgoConfig.{FgoConfig}
 use Rattle.engine.specs.Config.{legal}
 use Rattle.engine.specs.Body.{all}
 use Rattle.engine.proofs.Every.{both, neither, all-at}
-use Rattle.recording.specs.declared.Contents.{Contents}
-use Rattle.recording.specs.declared.Contents.TheVariants.{Refused, Frames}
-use Rattle.recording.specs.Recording.{count, offset, size, settings, start, ill_sized, fills, refusal, holds, contents_by, contents_of}
+use Rattle.recording.specs.Recording.{Contents, Refused, Frames, count, offset, size, settings, start, ill_sized, fills, refusal, holds, contents_by, contents_of}
 
 pub start-more : (s : List ℕ) (i : ℕ) → start s (i + 1) ≡ start s i + size s i
 unfolding start

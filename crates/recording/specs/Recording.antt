@@ -1,5 +1,5 @@
 -- Document 01, "Recording and print", and what a recording is refused for: 11, 12, then 1. Definitions only.
-use Rattle.std.specs.Prelude.{ℕ, zero, suc, ◌+◌, ◌*◌, List, [], Bool, cond, not, ◌&&◌, ◌||◌, length, take, drop, leb, ltb, eqb, Float, ℤ}
+use Rattle.std.specs.Prelude.{ℕ, zero, suc, ◌+◌, ◌*◌, List, [], Bool, cond, not, ◌&&◌, ◌||◌, length, take, drop, leb, ltb, eqb, Float, ℤ, Result, Ok, Err}
 use Rattle.std.specs.Float.{binary64}
 use Rattle.std.specs.Float.Ieee.{of_bits}
 use Rattle.bounds.specs.Bounds.{SETTING, SETTINGS, CONTENTS, ENTRY, FRAMES, RECORDING}
@@ -8,8 +8,9 @@ use Rattle.engine.specs.Little.{little}
 use Rattle.engine.specs.Body.{all}
 use Rattle.engine.specs.Config.{legal}
 use Rattle.engine.specs.declared.config.FgoConfig.{FgoConfig}
-use Rattle.recording.specs.declared.Contents.{Contents}
-use Rattle.recording.specs.declared.Contents.TheVariants.{Refused, Frames}
+use Rattle.refusals.specs.declared.Refusal.{Refusal}
+use Rattle.refusals.specs.Refusals.{number_of}
+use Rattle.recording.specs.declared.Contents.{Contents as Start}
 
 module _ (s : List ℕ) where
   -- field i of the settings, as a number
@@ -77,6 +78,16 @@ module _ (s : List ℕ) where
   -- the body of frame i; nothing where the recording does not hold one
   unfoldable pub recorded_body : ℕ → List ℕ
   recorded_body i = cond (holds i) (take (size i) (drop (offset i) s)) []
+
+-- what a recording says at its start, by value: a refusal's number, or the settings and how many frames there are
+pub data Contents : Type 0 where
+  Refused : ℕ → Contents
+  Frames : FgoConfig → ℕ → Contents
+
+-- what the code answers, so read
+abbrev pub contents_in : Result Start Refusal → Contents
+contents_in (Ok a) = Frames a.config a.count
+contents_in (Err r) = Refused (number_of r)
 
 -- by the refusal that a recording gets
 abbrev pub contents_by : ℕ → FgoConfig → ℕ → Contents

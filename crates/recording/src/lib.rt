@@ -3,17 +3,18 @@
 
 ghost use Rattle.std.specs.Prelude.{◌≡◌, ◌+◌, ◌*◌, ◌≤◌, length};
 ghost use Rattle.bounds.specs.Bounds.{SETTINGS, CONTENTS, ENTRY, RECORDING};
-ghost use Rattle.recording.specs.Recording.{count, offset, size, holds, ill_sized, fills, settings, contents_of, recorded_body};
+ghost use Rattle.recording.specs.Recording.{count, offset, size, holds, ill_sized, fills, settings, contents_in, contents_of, recorded_body};
 
 use bounds::{CONTENTS, ENTRY, FRAMES, RECORDING, SETTING, SETTINGS};
 use engine::config::FgoConfig;
 use engine::little;
+use refusals::Refusal;
 
-// What a recording says at its start: refusal 11, 12 or 1, or its settings and the number of its frames.
+// What a recording says at its start: its settings, and the number of its frames.
 #[derive(Clone, Copy)]
-pub enum Contents {
-    Refused(u8),
-    Frames { config: FgoConfig, count: usize },
+pub struct Contents {
+    pub config: FgoConfig,
+    pub count: usize,
 }
 
 fn count_of(s: &[u8]) -> usize
@@ -46,13 +47,11 @@ fn fills_rest(s: &[u8]) -> bool
 {
     let n = count_of(s);
     let mut at = CONTENTS + ENTRY * n;
-    let mut i = 0;
-    while i < n {
+    for i in 0..n {
         if offset_of(s, i) != at {
             return false;
         }
         at += size_of(s, i);
-        i += 1;
     }
     at == s.len()
 }
@@ -106,25 +105,25 @@ pub fn settings_of(s: &[u8]) -> FgoConfig
 }
 
 // What a recording says at its start, or the first of 11, 12 and 1 that it is refused for.
-pub fn contents_of(s: &[u8]) -> Contents
-    ensures { result ≡ contents_of s.now }
+pub fn contents_of(s: &[u8]) -> Result<Contents, Refusal>
+    ensures { contents_in result ≡ contents_of s.now }
 {
     if is_ill_sized(s) {
-        return Contents::Refused(11);
+        return Err(Refusal::Size);
     }
     let filled = fills_rest(s);
     let config = settings_of(s);
     let legal = config.is_legal();
     if !filled {
-        return Contents::Refused(12);
+        return Err(Refusal::Bodies);
     }
     if !legal {
-        return Contents::Refused(1);
+        return Err(Refusal::Setting);
     }
-    Contents::Frames {
+    Ok(Contents {
         config,
         count: count_of(s),
-    }
+    })
 }
 
 // The contents table is there as far as entry i, has that entry, and the recording has the bytes that it names.
@@ -162,36 +161,40 @@ pub struct Reader<'a> {
     pub entry: usize,
 }
 
-// A reader at the first entry.
-pub fn new<'a>(recording: &'a [u8]) -> Reader<'a>
-    ensures { (result.recording ≡ recording.entry) × (result.entry ≡ 0) }
-{
-    Reader {
-        recording,
-        entry: 0,
+impl<'a> Reader<'a> {
+    // A reader at the first entry.
+    pub fn new(recording: &'a [u8]) -> Reader<'a>
+        ensures recording { result.recording ≡ recording.entry }
+        ensures first { result.entry ≡ 0 }
+    {
+        Reader {
+            recording,
+            entry: 0,
+        }
     }
-}
 
-// The reader at another entry.
-pub fn moved<'a>(r: Reader<'a>, entry: usize) -> Reader<'a>
-    ensures { (result.recording ≡ r.entry.recording) × (result.entry ≡ entry) }
-{
-    Reader {
-        recording: r.recording,
-        entry,
+    // The reader at another entry.
+    pub fn moved(self, entry: usize) -> Reader<'a>
+        ensures recording { result.recording ≡ self.entry.recording }
+        ensures moved { result.entry ≡ entry }
+    {
+        Reader {
+            recording: self.recording,
+            entry,
+        }
     }
-}
 
-// The body at the reader's entry.
-pub fn body<'a>(r: Reader<'a>) -> &'a [u8]
-    ensures { result.now ≡ recorded_body r.entry.recording.now r.entry.entry }
-{
-    body_at(r.recording, r.entry)
+    // The body at the reader's entry.
+    pub fn body(self) -> &'a [u8]
+        ensures { result.now ≡ recorded_body self.entry.recording.now self.entry.entry }
+    {
+        body_at(self.recording, self.entry)
+    }
 }
 
 // The body of frame i, by a reader: what a caller with a plain slice uses.
 pub fn frame_at(s: &[u8], i: usize) -> &[u8]
     ensures { result.now ≡ recorded_body s.now i }
 {
-    body(moved(new(s), i))
+    Reader::new(s).moved(i).body()
 }

@@ -33,10 +33,7 @@ fn play_all(rt: &(impl Print + Eprint), s: &[u8]) {
 
 fn main(rt: HostRuntime) {
     let mut buffer = [0u8; SAMPLE];
-    match console::read_all(&rt, &mut buffer) {
-        console::Input::Bytes(n) => {
-            play_all(&rt, &buffer[..n]);
-        }
-        console::Input::Unreadable => {}
+    if let Some(n) = console::read_all(&rt, &mut buffer) {
+        play_all(&rt, &buffer[..n]);
     }
 }

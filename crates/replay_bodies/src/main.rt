@@ -18,7 +18,7 @@
 
 ghost use Rattle.std.specs.Prelude.{◌≤◌, length};
 
-use engine::types::{Associated, Association, BodyKind};
+use engine::types::{Association, BodyKind};
 use engine::{body, little};
 use std::io;
 use std::io::Read;
@@ -39,30 +39,23 @@ fn print_association(rt: &impl Print, a: Association) -> io::Result<()> {
     print_number(rt, index.0 as u64)?;
     let track = a.track;
     match track {
-        Associated::Nobody => {
-            print!(rt; " -")?;
-        }
-        Associated::Track(id) => {
-            print_number(rt, id.0)?;
-        }
+        None => print!(rt; " -")?,
+        Some(id) => print_number(rt, id.0)?,
     }
     let outcome = a.outcome;
-    print_number(rt, outcome.number())
+    print_number(rt, u64::from(outcome))
 }
 
 fn print_associations(rt: &impl Print, kind: BodyKind, s: &[u8]) -> io::Result<()> {
-    let n = body::association_count(kind, s);
-    let mut j = 0;
-    while j < n {
+    for j in 0..body::association_count(kind, s) {
         print_association(rt, body::association(kind, s, j))?;
-        j += 1;
     }
     Ok(())
 }
 
 fn print_frame(rt: &impl Print, kind: BodyKind, s: &[u8]) -> io::Result<()> {
     let mode = body::mode(kind, s);
-    print_number(rt, mode.number())?;
+    print_number(rt, u64::from(mode))?;
     print_time(rt, body::time_of(kind, s))?;
     print_number(rt, body::track_count(kind, s) as u64)?;
     print_number(rt, body::observation_count(kind, s) as u64)?;
@@ -72,10 +65,15 @@ fn print_frame(rt: &impl Print, kind: BodyKind, s: &[u8]) -> io::Result<()> {
 }
 
 fn print_body(rt: &impl Print, kind: BodyKind, s: &[u8]) -> io::Result<()> {
-    let refusal = engine_check::refusal_of(kind, s);
-    print!(rt; "{refusal}")?;
-    if refusal == 0 {
-        print_frame(rt, kind, s)?;
+    match engine_check::check_body(kind, s) {
+        Ok(()) => {
+            print!(rt; "0")?;
+            print_frame(rt, kind, s)?;
+        }
+        Err(refusal) => {
+            let number = u8::from(refusal);
+            print!(rt; "{number}")?;
+        }
     }
     print!(rt; "\n")
 }

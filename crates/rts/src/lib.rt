@@ -7,7 +7,7 @@ ghost use Rattle.rts.specs.Smoothing as Smoothing;
 ghost use Rattle.rts.specs.Smoothing.{estimate, back_step};
 
 use cholesky::{cholesky6, inverse6};
-use linalg::matrix::{add_vec6, add6, half_sum6, mul_vec6, mul6, sub_vec6, sub6, transpose6};
+use linalg::matrix::{add, half_sum6, mul_vec6, mul6, sub, transpose6};
 use models::{cv_f6_mul, cv_f6_mul_vec, cv_q6, mul_cv_f6t};
 
 // What a step did.
@@ -22,6 +22,7 @@ pub enum Step {
 }
 
 // The predicted covariance: f·p·fᵀ + cv_q6.
+#[tactic(auto, unfolding(crate::specs::Smoothing::p_pred))]
 fn predicted(q: f64, dt: f64, p: &[f64; 36]) -> [f64; 36]
     ensures { result ≡ Smoothing.p_pred f64 q dt p.now }
 {
@@ -29,10 +30,11 @@ fn predicted(q: f64, dt: f64, p: &[f64; 36]) -> [f64; 36]
     let mut fpf = [0.0; 36];
     mul_cv_f6t(&fp, dt, &mut fpf);
     let noise = cv_q6(dt, q);
-    add6(&fpf, &noise)
+    add(&fpf, &noise)
 }
 
 // The gain: (p·fᵀ)·inverse, where l is the factor of the predicted covariance.
+#[tactic(auto, unfolding(crate::specs::Smoothing::gain))]
 fn gain(dt: f64, p: &[f64; 36], l: &[f64; 36]) -> [f64; 36]
     ensures { result ≡ Smoothing.gain f64 dt p.now l.now }
 {
@@ -46,30 +48,33 @@ fn gain(dt: f64, p: &[f64; 36], l: &[f64; 36]) -> [f64; 36]
 }
 
 // The state: x + gain·(xs − x_pred).
+#[tactic(auto, unfolding(crate::specs::Smoothing::smoothed_x, crate::specs::Smoothing::x_pred))]
 fn smoothed_x(dt: f64, x: &[f64; 6], g: &[f64; 36], xs: &[f64; 6]) -> [f64; 6]
     ensures { result ≡ Smoothing.smoothed_x f64 dt x.now g.now xs.now }
 {
     let x_pred = cv_f6_mul_vec(dt, x);
-    let d = sub_vec6(xs, &x_pred);
+    let d = sub(xs, &x_pred);
     let gd = mul_vec6(g, &d);
-    add_vec6(x, &gd)
+    add(x, &gd)
 }
 
 // The covariance: p + (gain·(ps − p_pred))·gainᵀ, then half the sum of it and its transpose.
+#[tactic(auto, unfolding(crate::specs::Smoothing::smoothed_p))]
 fn smoothed_p(p: &[f64; 36], p_pred: &[f64; 36], g: &[f64; 36], ps: &[f64; 36]) -> [f64; 36]
     ensures { result ≡ Smoothing.smoothed_p f64 p.now p_pred.now g.now ps.now }
 {
-    let d = sub6(ps, p_pred);
+    let d = sub(ps, p_pred);
     let mut gd = [0.0; 36];
     mul6(g, &d, &mut gd);
     let gt = transpose6(g);
     let mut gdg = [0.0; 36];
     mul6(&gd, &gt, &mut gdg);
-    let sum = add6(p, &gdg);
+    let sum = add(p, &gdg);
     half_sum6(&sum)
 }
 
 // One step back: from (xs, ps), the smoothed form of the state dt later, to that of the state (x, p), where q is the density of the motion's noise.
+#[tactic(auto, unfolding(crate::specs::Smoothing::back, crate::specs::Smoothing::smoothed))]
 pub fn back(
     q: f64,
     dt: f64,
@@ -84,8 +89,7 @@ pub fn back(
         return Step::Skipped;
     }
     let p_pred = predicted(q, dt, p);
-    let mut l = [0.0; 36];
-    if cholesky6(&p_pred, &mut l) {
+    if let Some(l) = cholesky6(&p_pred) {
         let g = gain(dt, p, &l);
         *xs = smoothed_x(dt, x, &g, xs);
         *ps = smoothed_p(p, &p_pred, &g, ps);

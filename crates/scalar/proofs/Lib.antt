@@ -6,7 +6,6 @@ pub mod Logarithm
 pub mod Reciprocals
 pub mod Floor
 pub mod RootDigits
-pub mod RootGuess
 pub mod RootScale
 pub mod RootCases
 pub mod Nearest

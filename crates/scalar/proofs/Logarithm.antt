@@ -2,10 +2,10 @@
 use Rattle.std.proofs.Common.{◌≡◌, ℕ, zero, suc, ◌+◌, ◌-◌, ◌*◌, ◌/◌, ◌%◌, ◌^◌, ◌<◌, ◌≤◌, Bool, true, false, cond, not, T, ltb, leb, ℤ, pos, negsuc, ◌+ℤ◌, sym, refl, ap, ◌∙◌, subst, lt_of_lt_of_le, lt_of_le_of_lt, lt_irrefl, mul-le-mul_right, mod-eq_of_lt, mul_assoc, lt_of_mul-lt-mul_right, one-mul, le_of_mul-le-mul_right, arith, lit≤, leb→le, pow_pos, pow-add, ltb-false, ltb-true, le-ltb, lt-ltb, le-leb, leb-false, leb-true}
 use lib.IntN.{sub_ℕ}
 use lib.Dec.{nleb→lt}
-use lib.Ieee.{Float, inf, fin, binary64, minus, size, odd, of_bits, lt, eq, mul, div, neg, nan_bits}
+use lib.Ieee.{Float, inf, fin, binary64, minus, size, odd, of_bits, lt, eq, mul, nan_bits}
 use lib.Ieee.Bits.{nan_bits_above}
 use borrow.Author.Tests.{lt-leb}
-use Rattle.scalar.specs.Ln.{ln_of, ln_scaled, ln_near, root_two, half, one}
+use Rattle.scalar.specs.Ln.{ln_of, ln_scaled, ln_near, root_two, half}
 use Rattle.scalar.specs.Digits.{nil}
 use Rattle.scalar.proofs.Positive.{oddly, odd_shift, pow_lt_back, size_exact, Shift}
 use Rattle.scalar.proofs.NotPositive.{zero_of, none_of}
@@ -106,13 +106,13 @@ pub not_above : (m : Float) (k : ℕ) → lt root_two m ≡ false → ln_scaled 
 unfolding ln_scaled
 not_above m k e = rw e
 
-pub zero_is : (a : Float) → eq a nil ≡ true → ln_of a ≡ div binary64 (neg one) nil
-unfolding ln_of of_bits div neg
-zero_is = zero_of (λ a. ln_of a ≡ div binary64 (neg one) nil) (λ s x. refl)
+pub zero_is : (a : Float) → eq a nil ≡ true → ln_of a ≡ of_bits binary64 0xfff0_0000_0000_0000
+unfolding ln_of of_bits
+zero_is = zero_of (λ a. ln_of a ≡ of_bits binary64 0xfff0_0000_0000_0000) (λ s x. refl)
 
-pub none_is : (a : Float) → lt nil a ≡ false → eq a nil ≡ false → ln_of a ≡ div binary64 nil nil
-unfolding ln_of of_bits div
-none_is = none_of (λ a. ln_of a ≡ div binary64 nil nil) refl refl (λ m x. refl)
+pub none_is : (a : Float) → lt nil a ≡ false → eq a nil ≡ false → ln_of a ≡ of_bits binary64 0x7ff8_0000_0000_0000
+unfolding ln_of of_bits
+none_is = none_of (λ a. ln_of a ≡ of_bits binary64 0x7ff8_0000_0000_0000) refl refl (λ m x. refl)
 
 pub top_is : ln_of (inf false) ≡ inf false
 unfolding ln_of

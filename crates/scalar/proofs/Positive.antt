@@ -150,9 +150,9 @@ module _ (a : Float) (held : T (fits binary64 a)) (p : lt nil a ≡ true) where
   field_mid n z = at_mid (sign (to_bits binary64 a)) (exponent_field (to_bits binary64 a)) (digits_field (to_bits binary64 a)) a (by_fields a held) p n z
 
   -- what a pattern says of a number above 0 is so
-  falls-in : Falls a (digits_in (to_bits binary64 a))
+  pub falls_in : Falls a (digits_in (to_bits binary64 a))
   unfolding digits_in
-  falls-in = go (eqb (exponent_field b) 2047) (eqb (exponent_field b) 0) refl refl
+  falls_in = go (eqb (exponent_field b) 2047) (eqb (exponent_field b) 0) refl refl
     where
       b : ℕ
       b = to_bits binary64 a
@@ -172,6 +172,6 @@ unfolding digits_of
 falls a h = go (lt nil a) (eq a nil) refl refl
   where
     go : (p z : Bool) → lt nil a ≡ p → eq a nil ≡ z → Falls a (cond p (digits_in (to_bits binary64 a)) (cond z Zero Other))
-    go true z e f = falls-in a h e
+    go true z e f = falls_in a h e
     go false true e f = f
     go false false e f = (e, f)

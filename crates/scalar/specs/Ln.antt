@@ -1,6 +1,6 @@
 -- Document 01, "Arithmetic", the logarithm: each operation rounded once, in the order written. Definitions only.
 use Rattle.std.specs.Prelude.{ℕ, zero, suc, ◌-◌, true, false, cond, List, [], ◌∷◌, map, ℤ, pos, ◌+ℤ◌, from_bits, Float}
-use mathlib.Core.List.{foldl}
+use Rattle.std.specs.List.{fold}
 use Rattle.std.specs.Float.{nan, inf, fin, binary64}
 use Rattle.std.specs.Float.Ieee.{add, sub, mul, div, lt, of_int, round, size, minus}
 
@@ -13,13 +13,13 @@ unfoldable pub odds_down : List ℕ
 odds_down = 19 ∷ 17 ∷ 15 ∷ 13 ∷ 11 ∷ 9 ∷ 7 ∷ 5 ∷ 3 ∷ 1 ∷ []
 
 -- "s = s·w + 1/n"
-unfoldable pub series_step : Float → Float → Float → Float
+abbrev pub series_step : Float → Float → Float → Float
 series_step w s r = add binary64 (mul binary64 s w) r
 
 -- "s = 1/21; for n = 19, 17, .., 1: s = s·w + 1/n"
 unfoldable pub ln_series : Float → Float
-unfolding reciprocal odds_down series_step
-ln_series w = foldl (series_step w) (reciprocal 21) (map reciprocal odds_down)
+unfolding reciprocal odds_down
+ln_series w = fold (series_step w) (reciprocal 21) (map reciprocal odds_down)
 
 -- 1.4142135623730951
 abbrev pub root_two : Float

@@ -1,6 +1,6 @@
 // What a float is, for a function of positive numbers.
 ghost use Rattle.std.specs.Prelude.{◌≡◌};
-ghost use Rattle.scalar.specs.Digits.{digits_of};
+ghost use Rattle.scalar.specs.Digits.{digits_of, digits_in, Falls};
 
 #[derive(Clone, Copy)]
 pub enum Digits {
@@ -14,27 +14,34 @@ pub enum Digits {
     Other,
 }
 
-// The kind of a float, with the digits of a positive one.
-pub fn digits_of(a: f64) -> Digits
-    ensures { result ≡ digits_of a }
+// By the pattern of a float above 0.
+#[tactic(auto, unfolding(crate::specs::Digits::digits_in))]
+fn digits_in(b: u64) -> Digits
+    ensures { result ≡ digits_in b }
 {
-    if 0.0 < a {
-        let b = f64::to_bits(a);
-        let exponent = b % 0x8000_0000_0000_0000 / 0x10_0000_0000_0000;
-        let fraction = b % 0x10_0000_0000_0000;
-        if exponent == 2047 {
-            return Digits::Infinite;
-        }
-        if exponent == 0 {
-            return Digits::Finite { q: fraction, y: 0 };
-        }
-        return Digits::Finite {
+    let exponent = b % 0x8000_0000_0000_0000 / 0x10_0000_0000_0000;
+    let fraction = b % 0x10_0000_0000_0000;
+    match exponent {
+        2047 => Digits::Infinite,
+        0 => Digits::Finite { q: fraction, y: 0 },
+        _ => Digits::Finite {
             q: 0x10_0000_0000_0000 + fraction,
             y: exponent - 1,
-        };
+        },
     }
-    if a == 0.0 {
-        return Digits::Zero;
+}
+
+// The kind of a float, with the digits of a positive one.
+#[tactic(auto, unfolding(crate::specs::Digits::digits_of))]
+pub fn digits_of(a: f64) -> Digits
+    ensures value { result ≡ digits_of a }
+    ensures kind { Falls a result }
+{
+    if 0.0 < a {
+        digits_in(a.to_bits())
+    } else if a == 0.0 {
+        Digits::Zero
+    } else {
+        Digits::Other
     }
-    Digits::Other
 }

@@ -26,10 +26,8 @@ fn series(w: f64) -> f64
     ensures { result ≡ ln_series w }
 {
     let mut s = RECIPROCALS[0];
-    let mut i: usize = 1;
-    while i < 11 {
-        s = s * w + RECIPROCALS[i];
-        i += 1;
+    for r in &RECIPROCALS[1..] {
+        s = s * w + *r;
     }
     s
 }
@@ -43,6 +41,7 @@ fn exponent(k: u64) -> f64
 }
 
 // The logarithm of m · 2^(k - 1074), where m lies between the root of a half and the root of two.
+#[tactic(auto, unfolding(crate::specs::Ln::ln_near))]
 fn ln_near(m: f64, k: u64) -> f64
     requires { k < 4096 }
     ensures { result ≡ ln_near m (sub_ℕ k 1074) }
@@ -57,7 +56,7 @@ fn ln_digits(q: u64, y: u64) -> f64
     requires { (0 < q) × (q < 2 ^ 53) × (y < 2046) }
     ensures { result ≡ ln_of (odd 53 false q y 1074) }
 {
-    let shift = u64::leading_zeros(q) as u64 - 11;
+    let shift = q.leading_zeros() as u64 - 11;
     let digits = q << shift;
     let m = f64::from_bits(digits + 0x3fe0_0000_0000_0000);
     let k = y + (52 - shift);
@@ -74,7 +73,7 @@ pub fn ln(a: f64) -> f64
     match digits_of(a) {
         Digits::Finite { q, y } => ln_digits(q, y),
         Digits::Infinite => a,
-        Digits::Zero => -1.0 / 0.0,
-        Digits::Other => 0.0 / 0.0,
+        Digits::Zero => f64::NEG_INFINITY,
+        Digits::Other => f64::NAN,
     }
 }

@@ -1,4 +1,5 @@
 -- An id that stands in no scan: it has no window, it is not present, it has no move, and no move of others brings it back. Assumes nothing.
+use Rattle.std.specs.Prelude.{Option, Some, None}
 use Prim.Native.Nat.{ℕ, suc, ◌+◌, ◌<◌}
 use native.Mathlib.Nat.{eq-zero-or-pos}
 use native.Mathlib.Omega.{arith}
@@ -10,9 +11,9 @@ use lib.ListN.{length}
 use lib.Dec.{T, eqb, leb, ltb}
 use Rattle.engine.specs.declared.config.FgoConfig.{FgoConfig}
 use Rattle.fgo_spec.specs.declared.moves.PairMove.{PairMove}
-use Rattle.fgo_spec.specs.declared.moves.PairMove.TheVariants.{Stay, Swap, Merge}
+use Rattle.fgo_spec.specs.declared.moves.PairMove.TheVariants.{Swap, Merge}
 use Rattle.fgo_spec.specs.declared.moves.TrackMove.{TrackMove}
-use Rattle.fgo_spec.specs.declared.moves.TrackMove.TheVariants.{Split, Drop, Stay as Rest}
+use Rattle.fgo_spec.specs.declared.moves.TrackMove.TheVariants.{Split, Drop}
 use Rattle.fgo_spec.specs.Lists.{has, times, find, is_some}
 use Rattle.fgo_spec.specs.Windows.{Scan, Detection, Prefix, window, present}
 use Rattle.fgo_spec.specs.Searching.{exchange, clear, recolumn, absorb, swap_column, drop_column, other_of, rest, droppable, after_pair, after_track, try_split, try_drop, track_candidates, best_of_track, better_track, track_cost}
@@ -75,10 +76,10 @@ module _ (c : FgoConfig) (first : ℕ) (ps : List (ℕ × Prefix)) where
   absent-swapped : (a b f x : ℕ) → (a ≡ x → ⊥) → (b ≡ x → ⊥) → (ss : List Scan) → Absent x ss → Absent x (recolumn (swap_column a b f) first ss)
   absent-swapped a b f x p q = absent_recolumn x (swap_column a b f) (λ n is e. absent_cond x (leb f n) (map (exchange a b) is) is (absent_exchange a b x p q is e) e) first
 
-  pub absent_pair : (a b x : ℕ) → 0 < x → (a ≡ x → ⊥) → (b ≡ x → ⊥) → (ss : List Scan) (m : PairMove) → Fits a b m → Absent x ss → Absent x (after_pair c first ps a b ss m)
-  absent_pair a b x h p q ss Stay t k = k
-  absent_pair a b x h p q ss (Swap f g) t k = absent-swapped a b f.0 x p q ss k
-  absent_pair a b x h p q ss (Merge i own g) t k = absent_recolumn x (λ n. absorb own i.0 (other_of a b i.0)) (λ n. absent_absorb i.0 (other_of a b i.0) x h (keeper t) (other (eqb a i.0)) own) first ss k
+  pub absent_pair : (a b x : ℕ) → 0 < x → (a ≡ x → ⊥) → (b ≡ x → ⊥) → (ss : List Scan) (m : Option PairMove) → Fits a b m → Absent x ss → Absent x (after_pair c first ps a b ss m)
+  absent_pair a b x h p q ss None t k = k
+  absent_pair a b x h p q ss (Some (Swap f g)) t k = absent-swapped a b f.0 x p q ss k
+  absent_pair a b x h p q ss (Some (Merge i own g)) t k = absent_recolumn x (λ n. absorb own i.0 (other_of a b i.0)) (λ n. absent_absorb i.0 (other_of a b i.0) x h (keeper t) (other (eqb a i.0)) own) first ss k
     where
       keeper : (i.0 ≡ a) ⊎ (i.0 ≡ b) → i.0 ≡ x → ⊥
       keeper (inl d) r = p (sym d ∙ r)
@@ -88,19 +89,19 @@ module _ (c : FgoConfig) (first : ℕ) (ps : List (ℕ × Prefix)) where
       other true = q
       other false = p
 
-  pub absent_track : (a y x : ℕ) → 0 < x → (a ≡ x → ⊥) → (y ≡ x → ⊥) → (ss : List Scan) (m : TrackMove) → Absent x ss → Absent x (after_track c first ps a y ss m)
-  absent_track a y x h p q ss Rest k = k
-  absent_track a y x h p q ss (Split f g) k = absent-swapped a y f.0 x p q ss k
-  absent_track a y x h p q ss (Drop f g) k = absent_recolumn x (drop_column a f.0) (λ n is e. absent_cond x (eqb f.0 n) (map (clear a) is) is (absent_clear a x h is e) e) first ss k
+  pub absent_track : (a y x : ℕ) → 0 < x → (a ≡ x → ⊥) → (y ≡ x → ⊥) → (ss : List Scan) (m : Option TrackMove) → Absent x ss → Absent x (after_track c first ps a y ss m)
+  absent_track a y x h p q ss None k = k
+  absent_track a y x h p q ss (Some (Split f g)) k = absent-swapped a y f.0 x p q ss k
+  absent_track a y x h p q ss (Some (Drop f g)) k = absent_recolumn x (drop_column a f.0) (λ n is e. absent_cond x (eqb f.0 n) (map (clear a) is) is (absent_clear a x h is e) e) first ss k
 
   -- who has no window has no move
-  pub absent_rests : (x y : ℕ) (ss : List Scan) → Absent x ss → best_of_track c first ps ss y x ≡ Rest
+  pub absent_rests : (x y : ℕ) (ss : List Scan) → Absent x ss → best_of_track c first ps ss y x ≡ None
   unfolding best_of_track track_candidates
-  absent_rests x y ss h = (λ i. foldl better_track Rest (map (try_split c first ps x y ss (track_cost c first ps x ss)) (rest (e i)) ++ map (try_drop c first ps x ss (track_cost c first ps x ss)) (droppable (is_some (find x ps)) (e i)))) ∙ go (ltb 1 (length {A = Detection} [] + cond (is_some (find x ps)) 1 0))
+  absent_rests x y ss h = (λ i. foldl better_track None (map (try_split c first ps x y ss (track_cost c first ps x ss)) (rest (e i)) ++ map (try_drop c first ps x ss (track_cost c first ps x ss)) (droppable (is_some (find x ps)) (e i)))) ∙ go (ltb 1 (length {A = Detection} [] + cond (is_some (find x ps)) 1 0))
     where
       e : window x first ss ≡ []
       e = absent_window x first ss h
 
-      go : (b : Bool) → foldl better_track Rest (map (try_split c first ps x y ss (track_cost c first ps x ss)) (rest []) ++ map (try_drop c first ps x ss (track_cost c first ps x ss)) (cond b [] [])) ≡ Rest
+      go : (b : Bool) → foldl better_track None (map (try_split c first ps x y ss (track_cost c first ps x ss)) (rest []) ++ map (try_drop c first ps x ss (track_cost c first ps x ss)) (cond b [] [])) ≡ None
       go true = unfold rest in refl
       go false = unfold rest in refl

@@ -1,4 +1,5 @@
 -- The gathered ids after a move still stand for scans that are regular, and name no id from the next one on. Assumes nothing.
+use Rattle.std.specs.Prelude.{Some}
 use Prim.Native.Nat.{ℕ, ◌<◌}
 use native.Mathlib.Omega.{arith}
 use mathlib.Core.Path.{◌≡◌, sym, subst}
@@ -8,7 +9,7 @@ use lib.ListN.{length}
 use Rattle.bounds.specs.Bounds.{DETECTIONS}
 use Rattle.fgo_spec.specs.declared.moves.PairMove.{PairMove}
 use Rattle.fgo_spec.specs.declared.moves.TrackMove.{TrackMove}
-use Rattle.fgo_spec.specs.declared.moves.TrackMove.TheVariants.{Split, Drop, Stay as Rest}
+use Rattle.fgo_spec.specs.declared.moves.TrackMove.TheVariants.{Split, Drop}
 use Rattle.fgo_spec.specs.Lists.{times}
 use Rattle.fgo_spec.specs.Windows.{Scan}
 use Rattle.fgo_spec.specs.Searching.{next_after, after_pair, after_track}
@@ -51,27 +52,26 @@ module _ {e : Scene} {next : ℕ} {ss : List Scan} {ids : List ℕ} (s : Standin
       }
 
   pub pair_standing :
-      (a b : ℕ) → 0 < a → 0 < b → (a ≡ b → ⊥) → a < next → b < next → (m : PairMove) → Fits a b m →
+      (a b : ℕ) → 0 < a → 0 < b → (a ≡ b → ⊥) → a < next → b < next → (m : PairMove) → Fits a b (Some m) →
       Standing e next ss (pair_ids e.hall.first.0 e.starts m a b (row_on e ids a) (row_on e ids b) ids)
   unfolding pair_ids
   pair_standing a b ha hb d la lb m f =
       standing next (pair_ids e.hall.first.0 e.starts m a b (row_on e ids a) (row_on e ids b) ids)
-      (after_pair e.hall.config e.hall.first.0 [] a b (scans_now e ss ids) m) (pair_ids_lem e next [] ss ids s a b ha hb d m f)
+      (after_pair e.hall.config e.hall.first.0 [] a b (scans_now e ss ids) (Some m)) (pair_ids_lem e next [] ss ids s a b ha hb d m f)
       (renamed_length s.held.starts a b _ ids s.long) s.begun
       (kept_pair (λ x. ⊥) 1 (omega arith) (λ s t. Regular t) (λ s t a b. regular_exchange t a b) (λ s t a. regular_clear t a)
-      e.hall.config e.hall.first.0 [] (scans_now e ss ids) next a b (ha, inr (ha, la)) (hb, inr (hb, lb)) m f (scans_now e ss ids) good)
+      e.hall.config e.hall.first.0 [] (scans_now e ss ids) next a b (ha, inr (ha, la)) (hb, inr (hb, lb)) (Some m) f (scans_now e ss ids) good)
 
-  next-begun : (m : TrackMove) → 0 < next_after m next
-  next-begun Rest = s.begun
+  next-begun : (m : TrackMove) → 0 < next_after (Some m) next
   next-begun (Split f g) = omega arith
   next-begun (Drop f g) = s.begun
 
   pub track_standing :
-      (a : ℕ) → 0 < a → a < next → (m : TrackMove) → Standing e (next_after m next) ss (track_ids e.hall.first.0 e.starts m a next ids)
+      (a : ℕ) → 0 < a → a < next → (m : TrackMove) → Standing e (next_after (Some m) next) ss (track_ids e.hall.first.0 e.starts m a next ids)
   unfolding track_ids
   track_standing a ha la m =
-      standing (next_after m next) (track_ids e.hall.first.0 e.starts m a next ids)
-      (after_track e.hall.config e.hall.first.0 [] a next (scans_now e ss ids) m) (track_ids_lem e next [] ss ids s a next ha s.begun m)
+      standing (next_after (Some m) next) (track_ids e.hall.first.0 e.starts m a next ids)
+      (after_track e.hall.config e.hall.first.0 [] a next (scans_now e ss ids) (Some m)) (track_ids_lem e next [] ss ids s a next ha s.begun m)
       (renamed_length s.held.starts a next _ ids s.long) (next-begun m)
       (kept_track (λ x. ⊥) 1 (omega arith) (λ s t. Regular t) (λ s t a b. regular_exchange t a b) (λ s t a. regular_clear t a)
-      e.hall.config e.hall.first.0 [] (scans_now e ss ids) next a s.begun (ha, inr (ha, la)) m (scans_now e ss ids) good)
+      e.hall.config e.hall.first.0 [] (scans_now e ss ids) next a s.begun (ha, inr (ha, la)) (Some m) (scans_now e ss ids) good)

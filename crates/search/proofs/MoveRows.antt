@@ -1,4 +1,5 @@
 -- The gathered ids after a move stand for fgo_spec's scans after it. Assumes nothing.
+use Rattle.std.specs.Prelude.{Some}
 use Prim.Native.Nat.{ℕ, suc, ◌+◌, ◌≤◌, ◌<◌}
 use native.Mathlib.Omega.{arith}
 use mathlib.Core.Path.{◌≡◌, refl, sym, ap, ◌∙◌}
@@ -10,9 +11,9 @@ use lib.Dec.{eqb, ltb, leb}
 use borrow.Author.Tests.{eqb-true, eq-eqb, ne_eqb}
 use Rattle.bounds.specs.Bounds.{SCANS, DETECTIONS}
 use Rattle.fgo_spec.specs.declared.moves.PairMove.{PairMove}
-use Rattle.fgo_spec.specs.declared.moves.PairMove.TheVariants.{Stay, Swap, Merge}
+use Rattle.fgo_spec.specs.declared.moves.PairMove.TheVariants.{Swap, Merge}
 use Rattle.fgo_spec.specs.declared.moves.TrackMove.{TrackMove}
-use Rattle.fgo_spec.specs.declared.moves.TrackMove.TheVariants.{Split, Drop, Stay as Rest}
+use Rattle.fgo_spec.specs.declared.moves.TrackMove.TheVariants.{Split, Drop}
 use Rattle.fgo_spec.specs.Lists.{has, any}
 use Rattle.fgo_spec.specs.Windows.{Scan, Prefix}
 use Rattle.fgo_spec.specs.Searching.{exchange, clear, recolumn, absorb, swap_column, drop_column, other_of, after_pair, after_track}
@@ -103,12 +104,10 @@ module _ (k o : ℕ) (hk : 0 < k) (ho : 0 < o) (apart : k ≡ o → ⊥) where
 
 -- what a move of a pair, or of a track, does to a column of ids
 abbrev pair_column : ℕ → ℕ → PairMove → ℕ → List ℕ → List ℕ
-pair_column a b Stay n is = is
 pair_column a b (Swap f g) n is = swap_column a b f.0 n is
 pair_column a b (Merge k own g) n is = absorb own k.0 (other_of a b k.0) is
 
 abbrev track_column : ℕ → ℕ → TrackMove → ℕ → List ℕ → List ℕ
-track_column a x Rest n is = is
 track_column a x (Split f g) n is = swap_column a x f.0 n is
 track_column a x (Drop f g) n is = drop_column a f.0 n is
 
@@ -124,7 +123,6 @@ module _ (a b : ℕ) where
       go false = same-column is
 
   track-column : (m : TrackMove) (n : ℕ) (is : List ℕ) → map (retarget a b (track_targets m a b n)) is ≡ track_column a b m n is
-  track-column Rest n is = same-column is
   track-column (Split f g) n is = swap-column f.0 n is
   track-column (Drop f g) n is = go (eqb f.0 n)
     where
@@ -132,8 +130,7 @@ module _ (a b : ℕ) where
       go true = λ j. map (λ i. retarget-clear a b i j) is
       go false = same-column is
 
-  pair-column : 0 < a → 0 < b → (a ≡ b → ⊥) → (m : PairMove) → Fits a b m → (n : ℕ) (is : List ℕ) → map (retarget a b (pair_targets m a b n (has a is) (has b is))) is ≡ pair_column a b m n is
-  pair-column ha hb d Stay h n is = same-column is
+  pair-column : 0 < a → 0 < b → (a ≡ b → ⊥) → (m : PairMove) → Fits a b (Some m) → (n : ℕ) (is : List ℕ) → map (retarget a b (pair_targets m a b n (has a is) (has b is))) is ≡ pair_column a b m n is
   pair-column ha hb d (Swap f g) h n is = swap-column f.0 n is
   pair-column ha hb d (Merge k own g) (inl e) n is = rw (eq-eqb a k.0 (sym e), e) (absorb-column a b ha hb d own is)
   pair-column ha hb d (Merge k own g) (inr e) n is =
@@ -141,11 +138,6 @@ module _ (a b : ℕ) where
       ((λ j. map (λ i. retarget_flip a b d (other_target own (has b is) b) (keeper_target own (has a is) b) i j) is) ∙ absorb-column b a hb ha (λ z. d (sym z)) own is)
 
 -- ---- all scans
-
-recolumn_same : (n : ℕ) (ss : List Scan) → recolumn (λ m is. is) n ss ≡ ss
-unfolding recolumn
-recolumn_same n [] = refl
-recolumn_same n (s ∷ ss) = ap (λ (l : List Scan). s ∷ l) (recolumn_same (suc n) ss)
 
 module _ (e : Scene) (ids : List ℕ) (begins : Starts e.starts) (long : length ids ≡ DETECTIONS) (a b : ℕ) (ha : 0 < a) (hb : 0 < b) (t : ℕ → Targets) (g : ℕ → List ℕ → List ℕ) where
   -- the renaming of the gathered ids does to each scan, as it stands, what g does to its column
@@ -185,8 +177,7 @@ module _ (e : Scene) (next : ℕ) (ps : List (ℕ × Prefix)) (ss : List Scan) (
       (λ k r h d. track-column a x m (e.hall.first.0 + k) (spread r.ids (column_at e.starts ids k))) ss s.held.few s.held.scans
       ∙ after m
     where
-      after : (m : TrackMove) → recolumn (track_column a x m) e.hall.first.0 (scans_now e ss ids) ≡ after_track e.hall.config e.hall.first.0 ps a x (scans_now e ss ids) m
-      after Rest = recolumn_same e.hall.first.0 (scans_now e ss ids)
+      after : (m : TrackMove) → recolumn (track_column a x m) e.hall.first.0 (scans_now e ss ids) ≡ after_track e.hall.config e.hall.first.0 ps a x (scans_now e ss ids) (Some m)
       after (Split f g) = refl
       after (Drop f g) = refl
 
@@ -205,7 +196,6 @@ module _ (e : Scene) (next : ℕ) (ps : List (ℕ × Prefix)) (ss : List Scan) (
       has-now : (k : ℕ) (r : Scan) → k < SCANS → HeldScan e k r → (x : ℕ) → 0 < x → has_slot (row_on e ids x) k ≡ has x (spread r.ids (column_at e.starts ids k))
       has-now k r h w x hx = ap (ltb 0) (row_at e.starts ids x k h) ∙ slot_now s.held.starts w ids s.long h x hx
 
-      after : (m : PairMove) → recolumn (pair_column a b m) e.hall.first.0 (scans_now e ss ids) ≡ after_pair e.hall.config e.hall.first.0 ps a b (scans_now e ss ids) m
-      after Stay = recolumn_same e.hall.first.0 (scans_now e ss ids)
+      after : (m : PairMove) → recolumn (pair_column a b m) e.hall.first.0 (scans_now e ss ids) ≡ after_pair e.hall.config e.hall.first.0 ps a b (scans_now e ss ids) (Some m)
       after (Swap f g) = refl
       after (Merge k own g) = refl

@@ -9,9 +9,9 @@ use lib.Dec.{eqb, leb}
 use borrow.Author.Tests.{eqb-true, ne_eqb}
 use Rattle.bounds.specs.Bounds.{SCANS, DETECTIONS}
 use Rattle.fgo_spec.specs.declared.moves.PairMove.{PairMove}
-use Rattle.fgo_spec.specs.declared.moves.PairMove.TheVariants.{Stay, Swap, Merge}
+use Rattle.fgo_spec.specs.declared.moves.PairMove.TheVariants.{Swap, Merge}
 use Rattle.fgo_spec.specs.declared.moves.TrackMove.{TrackMove}
-use Rattle.fgo_spec.specs.declared.moves.TrackMove.TheVariants.{Split, Drop, Stay as Rest}
+use Rattle.fgo_spec.specs.declared.moves.TrackMove.TheVariants.{Split, Drop}
 use Rattle.fgo_spec.specs.Lists.{up_from}
 use Rattle.search_rows.specs.declared.moves.Targets.{Targets}
 use Rattle.fgo_spec.specs.Gathered.{column_at}
@@ -40,14 +40,12 @@ module _ (x : ℕ) (positive : 0 < x) where
 
   module _ (a b : ℕ) (na : x ≡ a → ⊥) (nb : x ≡ b → ⊥) where
     pair-spares : (m : PairMove) (n : ℕ) (ha hb : Bool) → Spares x (pair_targets m a b n ha hb)
-    pair-spares Stay n ha hb = (na, nb)
     pair-spares (Swap f g) n ha hb = spares_cond x (leb f.0 n) (become b a) (become a b) (nb, na) (na, nb)
     pair-spares (Merge k own g) n ha hb =
         spares_cond x (eqb a k.0) (become (keeper_target own hb a) (other_target own ha a)) (become (other_target own hb b) (keeper_target own ha b))
         ((spares-kept own hb a na).0, (spares-kept own ha a na).1) ((spares-kept own hb b nb).1, (spares-kept own ha b nb).0)
 
     track-spares : (m : TrackMove) (n : ℕ) → Spares x (track_targets m a b n)
-    track-spares Rest n = (na, nb)
     track-spares (Split f g) n = spares_cond x (leb f.0 n) (become b a) (become a b) (nb, na) (na, nb)
     track-spares (Drop f g) n = spares_cond x (eqb f.0 n) (become 0 b) (become a b) (no_zero, nb) (na, nb)
 

@@ -1,5 +1,6 @@
 -- The best move of a pair by rows is fgo_spec's, and where it is a merge it keeps one of the pair. Takes as given that rows have the windows' detections
 -- and share as many scans.
+use Rattle.std.specs.Prelude.{Option, Some, None}
 use Prim.Native.Nat.{ℕ, ◌+◌, ◌<◌}
 use mathlib.Core.Path.{◌≡◌, refl, sym, ap, ◌∙◌}
 use mathlib.Core.Logic.{◌⊎◌, inl, inr}
@@ -14,9 +15,9 @@ use Rattle.engine.specs.Config.{clutter}
 use Rattle.cost.specs.declared.Fold.{Fold}
 use Rattle.cost.specs.Cost.{View}
 use Rattle.fgo_spec.specs.declared.moves.PairMove.{PairMove}
-use Rattle.fgo_spec.specs.declared.moves.PairMove.TheVariants.{Stay, Swap, Merge}
+use Rattle.fgo_spec.specs.declared.moves.PairMove.TheVariants.{Swap, Merge}
 use Rattle.fgo_spec.specs.Windows.{Scan, Prefix, window}
-use Rattle.fgo_spec.specs.Searching.{track_cost, merged, other_of, shared, try_swap, try_merge, pair_candidates, best_of_pair, better_pair, wins, pair_gain}
+use Rattle.fgo_spec.specs.Searching.{track_cost, merged, other_of, shared, try_swap, try_merge, pair_candidates, best_of_pair, better_pair, wins, pair_gain, best_gain}
 use Rattle.fgo_spec.specs.Rule.{All}
 use Rattle.fgo_spec.specs.Faithful.{Regular, Merged}
 use Rattle.fgo_spec.proofs.Cutting.{swap_says}
@@ -32,23 +33,23 @@ use Rattle.search.proofs.WindowDets.{Rowed, row-crossed, row-joined}
 -- ---- a merge keeps one of the two
 
 module _ (a b : ℕ) where
-  fits-better : (m n : PairMove) → Fits a b m → Fits a b n → Fits a b (better_pair m n)
-  fits-better m n h g = go (wins (pair_gain n) (pair_gain m))
+  fits-better : (m : Option PairMove) (n : PairMove) → Fits a b m → Fits a b (Some n) → Fits a b (better_pair m n)
+  fits-better m n h g = go (wins (pair_gain n) (best_gain pair_gain m))
     where
-      go : (t : Bool) → Fits a b (cond t n m)
+      go : (t : Bool) → Fits a b (cond t (Some n) m)
       go true = g
       go false = h
 
   module _ (c : FgoConfig) (v : View) where
     fits-swaps : (p q : Fold) (close : List Bool) (r s : List ℕ) (base : Float) → Fits a b (best_swap_row c v p q close r s base)
     unfolding best_swap_row
-    fits-swaps p q close r s base = go (cuts_of close) Stay tt
+    fits-swaps p q close r s base = go (cuts_of close) None tt
       where
-        go : (l : List ℕ) (m : PairMove) → Fits a b m → Fits a b (foldl better_pair m (map (try_swap_row c v p q r s base) l))
+        go : (l : List ℕ) (m : Option PairMove) → Fits a b m → Fits a b (foldl better_pair m (map (try_swap_row c v p q r s base) l))
         go [] m h = h
         go (g ∷ l) m h = go l (better_pair m (try_swap_row c v p q r s base g)) (fits-better m (try_swap_row c v p q r s base g) h (unfold try_swap_row in tt))
 
-    fits-merge : (k : RefinedId) (p : Fold) (r s : List ℕ) (base : Float) → (k.0 ≡ a) ⊎ (k.0 ≡ b) → (m : PairMove) → Fits a b m → Fits a b (better_merge c v k p r s base m)
+    fits-merge : (k : RefinedId) (p : Fold) (r s : List ℕ) (base : Float) → (k.0 ≡ a) ⊎ (k.0 ≡ b) → (m : Option PairMove) → Fits a b m → Fits a b (better_merge c v k p r s base m)
     unfolding better_merge try_merge_row
     fits-merge k p r s base f m h =
         fits-better (better_pair m (try_merge_row c v k true p r s (shared_rows r s) base)) (try_merge_row c v k false p r s (shared_rows r s) base)
@@ -107,14 +108,14 @@ module _ (c : FgoConfig) (v : View) (ps : List (ℕ × Prefix)) (ss : List Scan)
           merge-row b a pb rb ra (sym alike) sb sa.row own (merged c v.first ps own b (other_of a b b) ss) (merge_second_says c v.first ps a b ha hb apart ss regular own base)
           (shared a b ss) (shared_rows rb ra) (shared-turned a b ss ∙ turned)
 
-      swaps-row : (close : List Bool) → foldl better_pair Stay (map (try_swap c v.first ps a b ss base) (map (λ (k : ℕ). v.first + k) (cuts_of close))) ≡ best_swap_row c v pa pb close ra rb base
+      swaps-row : (close : List Bool) → foldl better_pair None (map (try_swap c v.first ps a b ss base) (map (λ (k : ℕ). v.first + k) (cuts_of close))) ≡ best_swap_row c v pa pb close ra rb base
       unfolding best_swap_row
       swaps-row close =
-          ap (foldl better_pair Stay) (map-map (try_swap c v.first ps a b ss base) (λ (k : ℕ). v.first + k) (cuts_of close) ∙ (λ i. map (λ (g : ℕ). swap-row g i) (cuts_of close)))
+          ap (foldl better_pair None) (map-map (try_swap c v.first ps a b ss base) (λ (k : ℕ). v.first + k) (cuts_of close) ∙ (λ i. map (λ (g : ℕ). swap-row g i) (cuts_of close)))
 
       tries-row :
           (close : List Bool) →
-          foldl better_pair Stay
+          foldl better_pair None
           (map (try_swap c v.first ps a b ss base) (map (λ (k : ℕ). v.first + k) (cuts_of close))
           ++ (try_merge c v.first ps a b a true ss base
           ∷ try_merge c v.first ps a b a false ss base
@@ -124,7 +125,7 @@ module _ (c : FgoConfig) (v : View) (ps : List (ℕ × Prefix)) (ss : List Scan)
           ≡ best_pair_row c v (id_of a) (id_of b) pa pb close ra rb base
       unfolding best_pair_row better_merge
       tries-row close =
-          foldl-append better_pair Stay (map (try_swap c v.first ps a b ss base) (map (λ (k : ℕ). v.first + k) (cuts_of close))) _
+          foldl-append better_pair None (map (try_swap c v.first ps a b ss base) (map (λ (k : ℕ). v.first + k) (cuts_of close))) _
           ∙ (λ i. better_pair (better_pair (better_pair (better_pair (swaps-row close i) (merge-first true i)) (merge-first false i)) (merge-second true i)) (merge-second false i))
 
 pub pair_best_lem : (e : Scene) (next : ℕ) (ps : List (ℕ × Prefix)) (ss : List Scan) (ids : List ℕ) → Standing e next ss ids → PartsOk e ps → WindowRow e next ps ss ids → SharedRows e next ps ss ids → PairBest e next ps ss ids

@@ -1,4 +1,5 @@
 -- What is known of moves and passes while the gathered ids stand for the held scans. Assumes nothing.
+use Rattle.std.specs.Prelude.{Some}
 use Prim.Native.Nat.{ℕ, ◌<◌}
 use mathlib.Core.Path.{◌≡◌}
 use mathlib.Core.Bool.{Bool}
@@ -20,6 +21,6 @@ pub record PassLaws (e : Scene) (ps : List (ℕ × Prefix)) (ss : List Scan) : T
   pub track_best_lem : (next : ℕ) (ids : List ℕ) → Standing e next ss ids → TrackBest e next ps ss ids
   pub fits : (close : List Bool) (a b : ℕ) (ids : List ℕ) → Fits a b (pair_best e close a b ids)
   -- after a move of a pair the ids still stand for the scans
-  pub pair_stands : (next : ℕ) (ids : List ℕ) → Standing e next ss ids → (a b : ℕ) → 0 < a → 0 < b → (a ≡ b → ⊥) → a < next → b < next → (m : PairMove) → Fits a b m → Standing e next ss (pair_ids e.hall.first.0 e.starts m a b (row_on e ids a) (row_on e ids b) ids)
+  pub pair_stands : (next : ℕ) (ids : List ℕ) → Standing e next ss ids → (a b : ℕ) → 0 < a → 0 < b → (a ≡ b → ⊥) → a < next → b < next → (m : PairMove) → Fits a b (Some m) → Standing e next ss (pair_ids e.hall.first.0 e.starts m a b (row_on e ids a) (row_on e ids b) ids)
   -- and after a move of a track
-  pub track_stands : (next : ℕ) (ids : List ℕ) → Standing e next ss ids → (a : ℕ) → 0 < a → a < next → (m : TrackMove) → Standing e (next_after m next) ss (track_ids e.hall.first.0 e.starts m a next ids)
+  pub track_stands : (next : ℕ) (ids : List ℕ) → Standing e next ss ids → (a : ℕ) → 0 < a → a < next → (m : TrackMove) → Standing e (next_after (Some m) next) ss (track_ids e.hall.first.0 e.starts m a next ids)

@@ -1,4 +1,5 @@
 -- One pass, and the loop over the passes: what is left of them. Assumes nothing.
+use Rattle.search.specs.declared.marks.Mark.{Mark}
 use Prim.Native.Nat.{ℕ, suc, ◌-◌, ◌≤◌, ◌<◌}
 use native.Mathlib.Omega.{arith}
 use mathlib.Core.Path.{◌≡◌, refl, sym, ap, ◌∙◌}
@@ -10,7 +11,7 @@ use Rattle.bounds.specs.Bounds.{DETECTIONS}
 use Rattle.search_rows.specs.declared.moves.Tally.{Tally}
 use Rattle.search_rows.specs.Rows.{present_in}
 use Rattle.search_rows.specs.Moves.{begun}
-use Rattle.search.specs.Pass.{Scene, Progress, progress_of, sweep, visit, pass_over, passes_over, pair_rest, IdTable, Rests, Grows, Visits, Left, Tables}
+use Rattle.search.specs.Pass.{Scene, Progress, progress_of, sweep, visit, pass_over, passes_over, pair_rest, IdTable, Rests, Grows, Visits, Left}
 
 -- a pass, from its moves
 pub pass_is :
@@ -25,7 +26,7 @@ pass_is e ids t₀ n table is b v =
 
 -- ---- what it leaves to the next
 
-pub left_none : {e : Scene} {table ids : List ℕ} {costs : List Float} {moved : List ℕ} → length table ≡ DETECTIONS → length ids ≡ DETECTIONS → length costs ≡ DETECTIONS → length moved ≡ DETECTIONS → Left e 0 0 table ids costs moved
+pub left_none : {e : Scene} {table ids : List ℕ} {costs : List Float} {moved : List Mark} → length table ≡ DETECTIONS → length ids ≡ DETECTIONS → length costs ≡ DETECTIONS → length moved ≡ DETECTIONS → Left e 0 0 table ids costs moved
 left_none a b c d =
     record {
       listed = record { within = omega arith; long = a; above = λ i h. absurd (omega arith); rises = λ i j h g. absurd (omega arith) };
@@ -37,7 +38,7 @@ left_none a b c d =
       track = λ k h. absurd (omega arith);
     }
 
-module _ {e : Scene} {n next : ℕ} {table rows swept ids : List ℕ} {costs : List Float} {moved : List ℕ} {logs : List Float} (listed : IdTable n table) (rests : (i j : ℕ) → i < j → j < n → Rests e table rows swept i j) (v : Visits e n table rows next n ids costs moved logs) (grows : Grows n swept moved) where
+module _ {e : Scene} {n next : ℕ} {table rows : List ℕ} {swept : List Mark} {ids : List ℕ} {costs : List Float} {moved : List Mark} (listed : IdTable n table) (rests : (i j : ℕ) → i < j → j < n → Rests e table rows swept i j) (v : Visits e n table rows next n ids costs moved) (grows : Grows n swept moved) where
   pub pass_leaves : Left e n next table ids costs moved
   pass_leaves =
       record {
@@ -55,22 +56,22 @@ module _ {e : Scene} {n next : ℕ} {table rows swept ids : List ℕ} {costs : L
 -- ---- the loop
 
 -- n passes are left, of the most there can be
-pub record Ran (e : Scene) (most : ℕ) (ids₀ : List ℕ) (t₀ : Tally) (ids table rows : List ℕ) (costs : List Float) (due moved : List ℕ) (logs : List Float) (t : Tally) (count next n : ℕ) : Type 0 where
-  pub tables : Tables e count next ids table rows costs due moved logs
+pub record Ran (e : Scene) (most : ℕ) (ids₀ : List ℕ) (t₀ : Tally) (ids table : List ℕ) (costs : List Float) (moved : List Mark) (t : Tally) (count next n : ℕ) : Type 0 where
+  pub tables : Left e count next table ids costs moved
   pub left : passes_over e most (progress_of ids₀ t₀) t₀.moved ≡ passes_over e n (progress_of ids t) t.moved
 
 module _ {e : Scene} {most : ℕ} {ids₀ : List ℕ} {t₀ : Tally} where
-  pub ran_none : {table rows : List ℕ} {costs : List Float} {due moved : List ℕ} {logs : List Float} {count next : ℕ} → Tables e count next ids₀ table rows costs due moved logs → Ran e most ids₀ t₀ ids₀ table rows costs due moved logs t₀ count next most
+  pub ran_none : {table : List ℕ} {costs : List Float} {moved : List Mark} {count next : ℕ} → Left e count next table ids₀ costs moved → Ran e most ids₀ t₀ ids₀ table costs moved t₀ count next most
   ran_none t = record { tables = t; left = refl }
 
-  module _ {ids table rows : List ℕ} {costs : List Float} {due moved : List ℕ} {logs : List Float} {t : Tally} {count next n : ℕ} (o : Ran e most ids₀ t₀ ids table rows costs due moved logs t count next n) where
+  module _ {ids table : List ℕ} {costs : List Float} {moved : List Mark} {t : Tally} {count next n : ℕ} (o : Ran e most ids₀ t₀ ids table costs moved t count next n) where
     one_left : 0 < n → passes_over e n (progress_of ids t) t.moved ≡ passes_over e (suc (n - 1)) (progress_of ids t) t.moved
     one_left h = let q : n ≡ suc (n - 1) = omega arith in ap (λ (k : ℕ). passes_over e k (progress_of ids t) t.moved) q
 
     pub ran_more :
-        {ids' table' rows' : List ℕ} {costs' : List Float} {due' moved' : List ℕ} {logs' : List Float} {t' : Tally} {count' next' : ℕ} → 0 < n → t.moved ≡ true →
-        progress_of ids' t' ≡ pass_over e (progress_of ids t) → Tables e count' next' ids' table' rows' costs' due' moved' logs' →
-        Ran e most ids₀ t₀ ids' table' rows' costs' due' moved' logs' t' count' next' (n - 1)
+        {ids' table' : List ℕ} {costs' : List Float} {moved' : List Mark} {t' : Tally} {count' next' : ℕ} → 0 < n → t.moved ≡ true →
+        progress_of ids' t' ≡ pass_over e (progress_of ids t) → Left e count' next' table' ids' costs' moved' →
+        Ran e most ids₀ t₀ ids' table' costs' moved' t' count' next' (n - 1)
     unfolding passes_over
     ran_more h moved step tables =
         record {

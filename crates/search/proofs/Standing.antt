@@ -1,4 +1,5 @@
 -- How the gathered ids stand for the held scans during a search, and what is to be shown of them. Assumes nothing.
+use Rattle.std.specs.Prelude.{Option, Some, None}
 use Prim.Native.Nat.{ℕ, suc, ◌+◌, ◌≤◌, ◌<◌}
 use mathlib.Core.Path.{◌≡◌}
 use mathlib.Core.Bool.{Bool}
@@ -9,7 +10,7 @@ use Rattle.bounds.specs.Bounds.{SCANS, DETECTIONS}
 use Rattle.engine.specs.Frame.{no_association}
 use Rattle.cost.specs.Cost.{measurement_at, measurements}
 use Rattle.fgo_spec.specs.declared.moves.PairMove.{PairMove}
-use Rattle.fgo_spec.specs.declared.moves.PairMove.TheVariants.{Stay, Swap, Merge}
+use Rattle.fgo_spec.specs.declared.moves.PairMove.TheVariants.{Swap, Merge}
 use Rattle.fgo_spec.specs.declared.moves.TrackMove.{TrackMove}
 use Rattle.fgo_spec.specs.Lists.{times, find}
 use Rattle.fgo_spec.specs.Windows.{Scan, Prefix, detection_of, measure, fold_from, window, present}
@@ -58,10 +59,10 @@ abbrev pub PartsOk : Scene → List (ℕ × Prefix) → Type 0
 PartsOk e ps = (x : ℕ) → 0 < x → fold_on e x ≡ fold_from (find x ps)
 
 -- a merge keeps one of the two
-abbrev pub Fits : ℕ → ℕ → PairMove → Type 0
-Fits a b Stay = Unit {0}
-Fits a b (Swap f g) = Unit {0}
-Fits a b (Merge k own g) = (k.0 ≡ a) ⊎ (k.0 ≡ b)
+abbrev pub Fits : ℕ → ℕ → Option PairMove → Type 0
+Fits a b None = Unit {0}
+Fits a b (Some (Swap f g)) = Unit {0}
+Fits a b (Some (Merge k own g)) = (k.0 ≡ a) ⊎ (k.0 ≡ b)
 
 -- ---- what is to be shown
 
@@ -82,11 +83,11 @@ module _ (e : Scene) (next : ℕ) (ps : List (ℕ × Prefix)) (ss : List Scan) (
 
   -- a move of a pair leaves fgo_spec's scans
   abbrev pub PairIds : Type 0
-  PairIds = (a b : ℕ) → 0 < a → 0 < b → (a ≡ b → ⊥) → (m : PairMove) → Fits a b m → scans_now e ss (pair_ids e.hall.first.0 e.starts m a b (row_on e ids a) (row_on e ids b) ids) ≡ after_pair e.hall.config e.hall.first.0 ps a b (scans_now e ss ids) m
+  PairIds = (a b : ℕ) → 0 < a → 0 < b → (a ≡ b → ⊥) → (m : PairMove) → Fits a b (Some m) → scans_now e ss (pair_ids e.hall.first.0 e.starts m a b (row_on e ids a) (row_on e ids b) ids) ≡ after_pair e.hall.config e.hall.first.0 ps a b (scans_now e ss ids) (Some m)
 
   -- and so does a move of a track
   abbrev pub TrackIds : Type 0
-  TrackIds = (a x : ℕ) → 0 < a → 0 < x → (m : TrackMove) → scans_now e ss (track_ids e.hall.first.0 e.starts m a x ids) ≡ after_track e.hall.config e.hall.first.0 ps a x (scans_now e ss ids) m
+  TrackIds = (a x : ℕ) → 0 < a → 0 < x → (m : TrackMove) → scans_now e ss (track_ids e.hall.first.0 e.starts m a x ids) ≡ after_track e.hall.config e.hall.first.0 ps a x (scans_now e ss ids) (Some m)
 
   -- the best move of a pair is fgo_spec's, for cuts from any scans noted
   abbrev pub PairBest : Type 0

@@ -1,4 +1,6 @@
 -- The loops over the pairs of a table: what is left of the sweep, and what of it is at rest. Assumes nothing.
+use Rattle.search.specs.declared.marks.Mark.{Mark}
+use Rattle.search.specs.declared.marks.Mark.TheVariants.{Resting}
 use Prim.Native.Nat.{ℕ, ◌+◌, ◌≤◌, ◌<◌}
 use native.Mathlib.Decide.{ℕ_discrete}
 use native.Mathlib.Omega.{arith}
@@ -12,7 +14,7 @@ use Rattle.search_rows.specs.declared.moves.Tally.{Tally}
 use Rattle.search_rows.specs.Rows.{Tabled}
 use Rattle.fgo_spec.specs.Searching.{square}
 use Rattle.search_neighbours.specs.Near.{any_close, row_at, CloseRows}
-use Rattle.search_rows.specs.Moves.{pair_stays}
+use Rattle.std.specs.Prelude.{is_none}
 use Rattle.search.specs.Pass.{Scene, progress_of, row_on, close_on, pair_best, pair_step_on, pair_if, sweep_one, sweep, IdTable, Rests, Grows, Due, Swept}
 use Rattle.search.proofs.Listing.{listed_next, listed_end}
 use Rattle.search.proofs.Meeting.{table_row, table_close}
@@ -21,16 +23,16 @@ use Rattle.search.proofs.Resting.{rest-passes, stay_rests, apart_rests, grows_no
 -- ---- a pair
 
 -- what the pair at places i, j comes to, by the rows at the beginning of the pass
-abbrev pub Turned : Scene → ℕ → ℕ → ℕ → List ℕ → List ℕ → List ℕ → Tally → List ℕ → List ℕ → Tally → Type 0
+abbrev pub Turned : Scene → ℕ → ℕ → ℕ → List ℕ → List ℕ → List ℕ → Tally → List ℕ → List Mark → Tally → Type 0
 Turned e n i j table rows ids t ids' moved' t' =
     (is : List ℕ) → Tabled e.starts is table n rows →
     (progress_of ids' t' ≡ pair_if e (close_on e (row_on e is (get_or table i 0)) (row_on e is (get_or table j 0))) (get_or table i 0) (get_or table j 0) (progress_of ids t))
     × Rests e table rows moved' i j
 
-module _ {e : Scene} {n i j : ℕ} {table rows ids : List ℕ} {costs : List Float} {moved : List ℕ} {logs : List Float} (t : Tally) (h : i < j) (g : j < n) (s : Swept e n table rows ids costs moved logs) where
+module _ {e : Scene} {n i j : ℕ} {table rows ids : List ℕ} {costs : List Float} {moved : List Mark} (t : Tally) (h : i < j) (g : j < n) (s : Swept e n table rows ids costs moved) where
   -- neither row changed since the pair was last looked at
   pub turn_rests :
-      {due : List ℕ} → Due e n table rows due → (get_or due i 0 ≡ 0) × (get_or moved i 0 ≡ 0) × (get_or due j 0 ≡ 0) × (get_or moved j 0 ≡ 0) →
+      {due : List Mark} → Due e n table rows due → (get_or due i Resting ≡ Resting) × (get_or moved i Resting ≡ Resting) × (get_or due j Resting ≡ Resting) × (get_or moved j Resting ≡ Resting) →
       Turned e n i j table rows ids t ids moved t
   turn_rests d m is b =
       let r = (d.pair i j h g).pair m.0 m.2 in (
@@ -59,8 +61,8 @@ module _ {e : Scene} {n i j : ℕ} {table rows ids : List ℕ} {costs : List Flo
 
     -- its step is made
     pub turn_steps :
-        {ids' moved' : List ℕ} {t' : Tally} → r ≡ true → progress_of ids' t' ≡ pair_step_on e close (get_or table i 0) (get_or table j 0) (progress_of ids t) → Grows n moved moved' →
-        (get_or moved' i 0 ≡ 0 → pair_stays (pair_best e close (get_or table i 0) (get_or table j 0) ids) ≡ true) → Turned e n i j table rows ids t ids' moved' t'
+        {ids' : List ℕ} {moved' : List Mark} {t' : Tally} → r ≡ true → progress_of ids' t' ≡ pair_step_on e close (get_or table i 0) (get_or table j 0) (progress_of ids t) → Grows n moved moved' →
+        (get_or moved' i Resting ≡ Resting → is_none (pair_best e close (get_or table i 0) (get_or table j 0) ids) ≡ true) → Turned e n i j table rows ids t ids' moved' t'
     turn_steps z step grows stays is b =
         let a = get_or table i 0 in
         let d = get_or table j 0 in
@@ -77,24 +79,24 @@ module _ {e : Scene} {n i j : ℕ} {table rows ids : List ℕ} {costs : List Flo
 -- ---- the id at place i with each after it
 
 -- those before j are done
-pub record SweptOne (e : Scene) (n i : ℕ) (table rows ids₀ moved₀ : List ℕ) (t₀ : Tally) (ids : List ℕ) (costs : List Float) (moved : List ℕ) (logs : List Float) (t : Tally) (j : ℕ) : Type 0 where
+pub record SweptOne (e : Scene) (n i : ℕ) (table rows ids₀ : List ℕ) (moved₀ : List Mark) (t₀ : Tally) (ids : List ℕ) (costs : List Float) (moved : List Mark) (t : Tally) (j : ℕ) : Type 0 where
   pub after : i < j
   pub within : j ≤ n
-  pub stands : Swept e n table rows ids costs moved logs
+  pub stands : Swept e n table rows ids costs moved
   pub grows : Grows n moved₀ moved
   pub left :
       (is : List ℕ) → Tabled e.starts is table n rows →
       (sweep_one e is (get_or table i 0) (drop (i + 1) (take n table)) (progress_of ids₀ t₀) ≡ sweep_one e is (get_or table i 0) (drop j (take n table)) (progress_of ids t))
       × ((k : ℕ) → i < k → k < j → Rests e table rows moved i k)
 
-module _ {e : Scene} {n i : ℕ} {table rows ids₀ moved₀ : List ℕ} {t₀ : Tally} (listed : IdTable n table) where
-  pub one-start : {costs logs : List Float} → i < n → Swept e n table rows ids₀ costs moved₀ logs → SweptOne e n i table rows ids₀ moved₀ t₀ ids₀ costs moved₀ logs t₀ (i + 1)
+module _ {e : Scene} {n i : ℕ} {table rows ids₀ : List ℕ} {moved₀ : List Mark} {t₀ : Tally} (listed : IdTable n table) where
+  pub one-start : {costs : List Float} → i < n → Swept e n table rows ids₀ costs moved₀ → SweptOne e n i table rows ids₀ moved₀ t₀ ids₀ costs moved₀ t₀ (i + 1)
   one-start h s = record { after = omega arith; within = omega arith; stands = s; grows = grows_none n moved₀; left = λ is b. (refl, λ k h g. absurd (omega arith)) }
 
-  module _ {ids : List ℕ} {costs : List Float} {moved : List ℕ} {logs : List Float} {t : Tally} {j : ℕ} (o : SweptOne e n i table rows ids₀ moved₀ t₀ ids costs moved logs t j) where
+  module _ {ids : List ℕ} {costs : List Float} {moved : List Mark} {t : Tally} {j : ℕ} (o : SweptOne e n i table rows ids₀ moved₀ t₀ ids costs moved t j) where
     pub one_next :
-        {ids' : List ℕ} {costs' : List Float} {moved' : List ℕ} {logs' : List Float} {t' : Tally} → j < n → Turned e n i j table rows ids t ids' moved' t' →
-        Swept e n table rows ids' costs' moved' logs' → Grows n moved moved' → SweptOne e n i table rows ids₀ moved₀ t₀ ids' costs' moved' logs' t' (j + 1)
+        {ids' : List ℕ} {costs' : List Float} {moved' : List Mark} {t' : Tally} → j < n → Turned e n i j table rows ids t ids' moved' t' →
+        Swept e n table rows ids' costs' moved' → Grows n moved moved' → SweptOne e n i table rows ids₀ moved₀ t₀ ids' costs' moved' t' (j + 1)
     unfolding sweep_one
     one_next {moved'} h turn s g =
         record {
@@ -126,24 +128,24 @@ module _ {e : Scene} {n i : ℕ} {table rows ids₀ moved₀ : List ℕ} {t₀ :
 -- ---- every pair
 
 -- the ids before place i are done, each with all after it
-pub record SweptAll (e : Scene) (n : ℕ) (table rows ids₀ : List ℕ) (t₀ : Tally) (ids : List ℕ) (costs : List Float) (moved : List ℕ) (logs : List Float) (t : Tally) (i : ℕ) : Type 0 where
+pub record SweptAll (e : Scene) (n : ℕ) (table rows ids₀ : List ℕ) (t₀ : Tally) (ids : List ℕ) (costs : List Float) (moved : List Mark) (t : Tally) (i : ℕ) : Type 0 where
   pub within : i ≤ n
-  pub stands : Swept e n table rows ids costs moved logs
+  pub stands : Swept e n table rows ids costs moved
   pub left :
       (is : List ℕ) → Tabled e.starts is table n rows →
       (sweep e is (take n table) (progress_of ids₀ t₀) ≡ sweep e is (drop i (take n table)) (progress_of ids t))
       × ((h k : ℕ) → h < i → h < k → k < n → Rests e table rows moved h k)
 
 module _ {e : Scene} {n : ℕ} {table rows ids₀ : List ℕ} {t₀ : Tally} (listed : IdTable n table) where
-  pub all_start : {costs : List Float} {moved : List ℕ} {logs : List Float} → Swept e n table rows ids₀ costs moved logs → SweptAll e n table rows ids₀ t₀ ids₀ costs moved logs t₀ 0
+  pub all_start : {costs : List Float} {moved : List Mark} → Swept e n table rows ids₀ costs moved → SweptAll e n table rows ids₀ t₀ ids₀ costs moved t₀ 0
   all_start s = record { within = omega arith; stands = s; left = λ is b. (refl, λ h k a c d. absurd (omega arith)) }
 
-  module _ {ids : List ℕ} {costs : List Float} {moved : List ℕ} {logs : List Float} {t : Tally} {i : ℕ} (o : SweptAll e n table rows ids₀ t₀ ids costs moved logs t i) where
+  module _ {ids : List ℕ} {costs : List Float} {moved : List Mark} {t : Tally} {i : ℕ} (o : SweptAll e n table rows ids₀ t₀ ids costs moved t i) where
     pub all-step :
-        {ids' : List ℕ} {costs' : List Float} {moved' : List ℕ} {logs' : List Float} {t' : Tally} → i < n →
+        {ids' : List ℕ} {costs' : List Float} {moved' : List Mark} {t' : Tally} → i < n →
         ((is : List ℕ) → Tabled e.starts is table n rows →
         (progress_of ids' t' ≡ sweep_one e is (get_or table i 0) (drop (i + 1) (take n table)) (progress_of ids t)) × ((k : ℕ) → i < k → k < n → Rests e table rows moved' i k)) →
-        Swept e n table rows ids' costs' moved' logs' → Grows n moved moved' → SweptAll e n table rows ids₀ t₀ ids' costs' moved' logs' t' (i + 1)
+        Swept e n table rows ids' costs' moved' → Grows n moved moved' → SweptAll e n table rows ids₀ t₀ ids' costs' moved' t' (i + 1)
     unfolding sweep
     all-step {moved'} h step s g =
         record {

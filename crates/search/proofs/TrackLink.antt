@@ -1,4 +1,5 @@
 -- The best move of a track by its row is fgo_spec's. Takes as given that rows have the windows' detections.
+use Rattle.std.specs.Prelude.{Option as Std, None}
 use Prim.Native.Nat.{ℕ, zero, suc, ◌+◌, ◌<◌}
 use native.Mathlib.Nat.{zero-add}
 use native.Mathlib.Omega.{arith}
@@ -16,7 +17,7 @@ use Rattle.cost.specs.declared.Fold.{Fold}
 use Rattle.cost.specs.declared.Fold.TheVariants.{Fresh}
 use Rattle.cost.specs.Cost.{Measurement, View, measurement_at, measurements, cost}
 use Rattle.fgo_spec.specs.declared.moves.TrackMove.{TrackMove}
-use Rattle.fgo_spec.specs.declared.moves.TrackMove.TheVariants.{Split, Drop, Stay as Rest}
+use Rattle.fgo_spec.specs.declared.moves.TrackMove.TheVariants.{Split, Drop}
 use Rattle.fgo_spec.specs.Lists.{keep, up_from, find, is_some}
 use Rattle.fgo_spec.specs.Windows.{Scan, Detection, Prefix, measure, fold_from, price, window}
 use Rattle.fgo_spec.specs.Searching.{track_cost, swapped, dropped, rest, droppable, try_split, try_drop, track_candidates, best_of_track, better_track}
@@ -140,17 +141,17 @@ module _ (c : FgoConfig) (v : View) (ps : List (ℕ × Prefix)) (ss : List Scan)
 
     tries-row :
         0 < a → All Regular ss → (a ≡ x → ⊥) → window x v.first ss ≡ [] →
-        foldl better_track Rest
+        foldl better_track None
         (map (try_split c v.first ps a x ss base) (rest (window a v.first ss))
         ++ map (try_drop c v.first ps a ss base) (droppable (is_some (find a ps)) (window a v.first ss)))
         ≡ best_track_row c v p r base
     unfolding best_track_row best_split_row best_drop_row
     tries-row ha regular apart unused =
-        foldl-append better_track Rest (map (try_split c v.first ps a x ss base) (rest (window a v.first ss))) _
-        ∙ (λ i. foldl better_track (foldl better_track Rest (splits apart unused i)) (map (try_drop c v.first ps a ss base) (cond (ltb 1 (length-row i + frozen-one i)) (window a v.first ss) [])))
-        ∙ go (ltb 1 (length (marks r) + frozen_one p)) (foldl better_track Rest (map (try_split_row c v p r base) (drop 1 (marks r))))
+        foldl-append better_track None (map (try_split c v.first ps a x ss base) (rest (window a v.first ss))) _
+        ∙ (λ i. foldl better_track (foldl better_track None (splits apart unused i)) (map (try_drop c v.first ps a ss base) (cond (ltb 1 (length-row i + frozen-one i)) (window a v.first ss) [])))
+        ∙ go (ltb 1 (length (marks r) + frozen_one p)) (foldl better_track None (map (try_split_row c v p r base) (drop 1 (marks r))))
       where
-        go : (b : Bool) (best : TrackMove) → foldl better_track best (map (try_drop c v.first ps a ss base) (cond b (window a v.first ss) [])) ≡ cond b (foldl better_track best (map (try_drop_row c v p r base) (marks r))) best
+        go : (b : Bool) (best : Std TrackMove) → foldl better_track best (map (try_drop c v.first ps a ss base) (cond b (window a v.first ss) [])) ≡ cond b (foldl better_track best (map (try_drop_row c v p r base) (marks r))) best
         go true best = ap (foldl better_track best) (drops ha regular)
         go false best = refl
 

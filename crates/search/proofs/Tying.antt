@@ -1,31 +1,37 @@
 -- The search over the gathered ids beside fgo_spec's: what ties them, and that a step keeps it. Assumes nothing.
+use Rattle.std.specs.Prelude.{Option, Some, None}
 use Prim.Native.Nat.{ℕ, suc, ◌+◌, ◌^◌, ◌≤◌, ◌<◌}
 use native.Mathlib.Nat.{le_trans}
 use native.Mathlib.Numerals.{add-one}
 use native.Mathlib.Omega.{arith}
 use mathlib.Core.Path.{◌≡◌, refl, sym, ap, ◌∙◌, subst}
-use mathlib.Core.Bool.{Bool, true, false, cond, ◌||◌, or-true, or-false}
+use mathlib.Core.Bool.{Bool, ◌||◌, or-true, or-false}
 use mathlib.Core.List.{List, map}
 use borrow.Author.Tests.{lt-ltb}
 use Rattle.fgo_spec.specs.declared.moves.FgoCounters.{FgoCounters}
 use Rattle.fgo_spec.specs.declared.moves.PairMove.{PairMove}
-use Rattle.fgo_spec.specs.declared.moves.PairMove.TheVariants.{Stay, Swap, Merge}
+use Rattle.fgo_spec.specs.declared.moves.PairMove.TheVariants.{Swap, Merge}
 use Rattle.fgo_spec.specs.declared.moves.TrackMove.{TrackMove}
-use Rattle.fgo_spec.specs.declared.moves.TrackMove.TheVariants.{Split, Drop, Stay as Rest}
+use Rattle.fgo_spec.specs.declared.moves.TrackMove.TheVariants.{Split, Drop}
 use Rattle.fgo_spec.specs.Windows.{Scan, Prefix}
-use Rattle.fgo_spec.specs.Searching.{Search as Model, after_pair, after_track, count_pair, count_track, next_after, pair_moves, track_moves, best_of_pair, best_of_track, pair_step as on_pair, track_step as on_track}
+use Rattle.fgo_spec.specs.Searching.{Search as Model, after_pair, after_track, count_pair, count_track, next_after, moves, best_of_pair, best_of_track, pair_step as on_pair, track_step as on_track}
 use Rattle.search_rows.specs.declared.moves.Tally.{Tally}
 use Rattle.search_pair.specs.Pair.{cuts_of}
-use Rattle.search_rows.specs.Moves.{one_more, pair_stays, track_stays, pair_tally, track_tally}
+use Rattle.search_rows.specs.Moves.{one_more, pair_tally, track_tally}
 use Rattle.search.specs.Pass.{Scene, Progress, pair_best, pair_moved, pair_step_on, track_best, track_moved, track_step_on}
 use Rattle.search.proofs.Standing.{Standing, scans_now, Fits}
 use Rattle.search.proofs.PassLaws.{PassLaws}
 use Rattle.search.proofs.Stepping.{next_from}
 use Rattle.search.proofs.Absence.{Absent, absent_pair, absent_track, absent_rests}
 
-pick : (Q : Progress → Type 0) (b : Bool) {u v : Progress} → Q u → Q v → Q (cond b u v)
-pick Q true h g = h
-pick Q false h g = g
+-- what holds of what is left by no move and by each
+by_pair : (Q : Progress → Type 0) (e : Scene) (a b : ℕ) (s : Progress) (m : Option PairMove) → Q s → ((m : PairMove) → Q (pair_moved e (Some m) a b s)) → Q (pair_moved e m a b s)
+by_pair Q e a b s None h g = h
+by_pair Q e a b s (Some m) h g = g m
+
+by_track : (Q : Progress → Type 0) (e : Scene) (a : ℕ) (s : Progress) (m : Option TrackMove) → Q s → ((m : TrackMove) → Q (track_moved e (Some m) a s)) → Q (track_moved e m a s)
+by_track Q e a s None h g = h
+by_track Q e a s (Some m) h g = g m
 
 -- ---- room for n more moves
 
@@ -80,43 +86,40 @@ module _ (e : Scene) (ss : List Scan) (Out : ℕ → Type 0) (low p : ℕ) where
   tied_less k n {s} h t = record { same = t.same; stands = t.stands; from = t.from; passes = t.passes; room = room-less k n s.tally.next_id.0 s.tally.counters h t.room; out = t.out }
 
 -- what a move of a pair makes of fgo_spec's search
-abbrev with_pair : Scene → List (ℕ × Prefix) → ℕ → ℕ → PairMove → Model → Model
+abbrev with_pair : Scene → List (ℕ × Prefix) → ℕ → ℕ → Option PairMove → Model → Model
 with_pair e ps a b m r =
     record {
       scans = after_pair e.hall.config e.hall.first.0 ps a b r.scans m;
       next_id = r.next_id;
       counters = count_pair m r.counters;
-      moved = r.moved || pair_moves m;
+      moved = r.moved || moves m;
     }
 
 -- and a move of a track
-abbrev with_track : Scene → List (ℕ × Prefix) → ℕ → TrackMove → Model → Model
+abbrev with_track : Scene → List (ℕ × Prefix) → ℕ → Option TrackMove → Model → Model
 with_track e ps a m r =
     record {
       scans = after_track e.hall.config e.hall.first.0 ps a r.next_id r.scans m;
       next_id = next_after m r.next_id;
       counters = count_track m r.counters;
-      moved = r.moved || track_moves m;
+      moved = r.moved || moves m;
     }
 
 -- with room, the counts are fgo_spec's, and leave room
 module _ (n : ℕ) (t : Tally) (r : Room (suc n) t.next_id.0 t.counters) where
-  pair-counters : (m : PairMove) → count_pair m t.counters ≡ (pair_tally m t).counters
-  pair-counters Stay = refl
+  pair-counters : (m : PairMove) → count_pair (Some m) t.counters ≡ (pair_tally m t).counters
   pair-counters (Swap f g) =
       λ i. record { swaps = counted n t.counters.swaps r.swaps i; merges = t.counters.merges; splits = t.counters.splits; drops = t.counters.drops }
   pair-counters (Merge k own g) =
       λ i. record { swaps = t.counters.swaps; merges = counted n t.counters.merges r.merges i; splits = t.counters.splits; drops = t.counters.drops }
 
-  track-counters : (m : TrackMove) → count_track m t.counters ≡ (track_tally m t).counters
-  track-counters Rest = refl
+  track-counters : (m : TrackMove) → count_track (Some m) t.counters ≡ (track_tally m t).counters
   track-counters (Split f g) =
       λ i. record { swaps = t.counters.swaps; merges = t.counters.merges; splits = counted n t.counters.splits r.splits i; drops = t.counters.drops }
   track-counters (Drop f g) =
       λ i. record { swaps = t.counters.swaps; merges = t.counters.merges; splits = t.counters.splits; drops = counted n t.counters.drops r.drops i }
 
-  track-next : (m : TrackMove) → next_after m t.next_id.0 ≡ (track_tally m t).next_id.0
-  track-next Rest = refl
+  track-next : (m : TrackMove) → next_after (Some m) t.next_id.0 ≡ (track_tally m t).next_id.0
   track-next (Split f g) = counted n t.next_id.0 r.ids
   track-next (Drop f g) = refl
 
@@ -124,14 +127,12 @@ module _ (n : ℕ) (t : Tally) (r : Room (suc n) t.next_id.0 t.counters) where
   room_next = room-less (suc n) n t.next_id.0 t.counters (omega arith) r
 
   pair-room : (m : PairMove) → Room n (pair_tally m t).next_id.0 (pair_tally m t).counters
-  pair-room Stay = room_next
   pair-room (Swap f g) =
       record { ids = room_next.ids; swaps = used n t.counters.swaps r.swaps; merges = room_next.merges; splits = room_next.splits; drops = room_next.drops }
   pair-room (Merge k own g) =
       record { ids = room_next.ids; swaps = room_next.swaps; merges = used n t.counters.merges r.merges; splits = room_next.splits; drops = room_next.drops }
 
   track-room : (m : TrackMove) → Room n (track_tally m t).next_id.0 (track_tally m t).counters
-  track-room Rest = room_next
   track-room (Split f g) =
       record { ids = used n t.next_id.0 r.ids; swaps = room_next.swaps; merges = room_next.merges; splits = used n t.counters.splits r.splits; drops = room_next.drops }
   track-room (Drop f g) =
@@ -142,9 +143,9 @@ module _ (e : Scene) (ps : List (ℕ × Prefix)) (ss : List Scan) (laws : PassLa
     -- ---- a pair
 
     module _ (a b : ℕ) (ha : 0 < a) (hb : 0 < b) (apart : a ≡ b → ⊥) where
-      pair_same : (m : PairMove) → Fits a b m → with_pair e ps a b m (model_of e ss s) ≡ model_of e ss (pair_moved e m a b s)
-      pair_same Stay f = λ i. record { scans = scans_now e ss s.ids; next_id = s.tally.next_id.0; counters = s.tally.counters; moved = or-false s.tally.moved i }
-      pair_same (Swap k g) f =
+      pair_same : (m : Option PairMove) → Fits a b m → with_pair e ps a b m (model_of e ss s) ≡ model_of e ss (pair_moved e m a b s)
+      pair_same None f = λ i. record { scans = scans_now e ss s.ids; next_id = s.tally.next_id.0; counters = s.tally.counters; moved = or-false s.tally.moved i }
+      pair_same (Some (Swap k g)) f =
           λ i.
           record {
             scans = sym (laws.pair_ids_lem s.tally.next_id.0 s.ids st a b ha hb apart (Swap k g) f) i;
@@ -152,7 +153,7 @@ module _ (e : Scene) (ps : List (ℕ × Prefix)) (ss : List Scan) (laws : PassLa
             counters = pair-counters n s.tally r (Swap k g) i;
             moved = or-true s.tally.moved i;
           }
-      pair_same (Merge k own g) f =
+      pair_same (Some (Merge k own g)) f =
           λ i.
           record {
             scans = sym (laws.pair_ids_lem s.tally.next_id.0 s.ids st a b ha hb apart (Merge k own g) f) i;
@@ -162,17 +163,17 @@ module _ (e : Scene) (ps : List (ℕ × Prefix)) (ss : List Scan) (laws : PassLa
           }
 
       module _ (la : a < s.tally.next_id.0) (lb : b < s.tally.next_id.0) where
-        pair_keeps : (m : PairMove) → Fits a b m → Standing e (pair_moved e m a b s).tally.next_id.0 ss (pair_moved e m a b s).ids
-        pair_keeps Stay f = st
-        pair_keeps (Swap k g) f = laws.pair_stands s.tally.next_id.0 s.ids st a b ha hb apart la lb (Swap k g) f
-        pair_keeps (Merge k own g) f = laws.pair_stands s.tally.next_id.0 s.ids st a b ha hb apart la lb (Merge k own g) f
+        pair_keeps : (m : Option PairMove) → Fits a b m → Standing e (pair_moved e m a b s).tally.next_id.0 ss (pair_moved e m a b s).ids
+        pair_keeps None f = st
+        pair_keeps (Some (Swap k g)) f = laws.pair_stands s.tally.next_id.0 s.ids st a b ha hb apart la lb (Swap k g) f
+        pair_keeps (Some (Merge k own g)) f = laws.pair_stands s.tally.next_id.0 s.ids st a b ha hb apart la lb (Merge k own g) f
 
     -- ---- a track
 
     module _ (a : ℕ) (ha : 0 < a) where
-      track-same : (m : TrackMove) → with_track e ps a m (model_of e ss s) ≡ model_of e ss (track_moved e m a s)
-      track-same Rest = λ i. record { scans = scans_now e ss s.ids; next_id = s.tally.next_id.0; counters = s.tally.counters; moved = or-false s.tally.moved i }
-      track-same (Split k g) =
+      track-same : (m : Option TrackMove) → with_track e ps a m (model_of e ss s) ≡ model_of e ss (track_moved e m a s)
+      track-same None = λ i. record { scans = scans_now e ss s.ids; next_id = s.tally.next_id.0; counters = s.tally.counters; moved = or-false s.tally.moved i }
+      track-same (Some (Split k g)) =
           λ i.
           record {
             scans = sym (laws.track_ids_lem s.tally.next_id.0 s.ids st a s.tally.next_id.0 ha st.begun (Split k g)) i;
@@ -180,7 +181,7 @@ module _ (e : Scene) (ps : List (ℕ × Prefix)) (ss : List Scan) (laws : PassLa
             counters = track-counters n s.tally r (Split k g) i;
             moved = or-true s.tally.moved i;
           }
-      track-same (Drop k g) =
+      track-same (Some (Drop k g)) =
           λ i.
           record {
             scans = sym (laws.track_ids_lem s.tally.next_id.0 s.ids st a s.tally.next_id.0 ha st.begun (Drop k g)) i;
@@ -190,26 +191,26 @@ module _ (e : Scene) (ps : List (ℕ × Prefix)) (ss : List Scan) (laws : PassLa
           }
 
       module _ (la : a < s.tally.next_id.0) where
-        track-keeps : (m : TrackMove) → Standing e (track_moved e m a s).tally.next_id.0 ss (track_moved e m a s).ids
-        track-keeps Rest = st
-        track-keeps (Split k g) =
-            subst (λ x. Standing e x ss (track_moved e (Split k g) a s).ids) (track-next n s.tally r (Split k g))
+        track-keeps : (m : Option TrackMove) → Standing e (track_moved e m a s).tally.next_id.0 ss (track_moved e m a s).ids
+        track-keeps None = st
+        track-keeps (Some (Split k g)) =
+            subst (λ x. Standing e x ss (track_moved e (Some (Split k g)) a s).ids) (track-next n s.tally r (Split k g))
             (laws.track_stands s.tally.next_id.0 s.ids st a ha la (Split k g))
-        track-keeps (Drop k g) = laws.track_stands s.tally.next_id.0 s.ids st a ha la (Drop k g)
+        track-keeps (Some (Drop k g)) = laws.track_stands s.tally.next_id.0 s.ids st a ha la (Drop k g)
 
   -- ---- one step of each
 
   module _ (Out : ℕ → Type 0) (low p : ℕ) where
     pair-moved-tied :
-        (a b : ℕ) → 0 < a → 0 < b → (a ≡ b → ⊥) → a < low → b < low → (Out a → ⊥) → (Out b → ⊥) → (m : PairMove) → Fits a b m →
+        (a b : ℕ) → 0 < a → 0 < b → (a ≡ b → ⊥) → a < low → b < low → (Out a → ⊥) → (Out b → ⊥) → (m : Option PairMove) → Fits a b m →
         (n : ℕ) (s : Progress) (q : Model) → Tied e ss Out low p (suc n) s q → Tied e ss Out low p n (pair_moved e m a b s) (with_pair e ps a b m q)
     pair-moved-tied a b ha hb apart la lb oa ob m f n s q t =
         record {
           same = ap (with_pair e ps a b m) t.same ∙ is;
           stands = pair_keeps n s t.stands t.room a b ha hb apart (le_trans la t.from) (le_trans lb t.from) m f;
-          from = pick (λ s. low ≤ s.tally.next_id.0) (pair_stays m) t.from t.from;
-          passes = pick (λ s. s.tally.passes ≡ p) (pair_stays m) t.passes t.passes;
-          room = pick (λ s. Room n s.tally.next_id.0 s.tally.counters) (pair_stays m) (room_next n s.tally t.room) (pair-room n s.tally t.room m);
+          from = by_pair (λ s. low ≤ s.tally.next_id.0) e a b s m t.from (λ m. t.from);
+          passes = by_pair (λ s. s.tally.passes ≡ p) e a b s m t.passes (λ m. t.passes);
+          room = by_pair (λ s. Room n s.tally.next_id.0 s.tally.counters) e a b s m (room_next n s.tally t.room) (pair-room n s.tally t.room);
           out =
               λ x h o.
               subst (Absent x) (ap (λ (q : Model). q.scans) is)
@@ -234,15 +235,15 @@ module _ (e : Scene) (ps : List (ℕ × Prefix)) (ss : List Scan) (laws : PassLa
             ∙ laws.pair_best_lem s.tally.next_id.0 s.ids t.stands a b ha hb apart close
 
     track-moved-tied :
-        (a : ℕ) → 0 < a → a < low → (Out a → ⊥) → ((x : ℕ) → Out x → x < low) → (m : TrackMove) →
+        (a : ℕ) → 0 < a → a < low → (Out a → ⊥) → ((x : ℕ) → Out x → x < low) → (m : Option TrackMove) →
         (n : ℕ) (s : Progress) (q : Model) → Tied e ss Out low p (suc n) s q → Tied e ss Out low p n (track_moved e m a s) (with_track e ps a m q)
     track-moved-tied a ha la oa below m n s q t =
         record {
           same = ap (with_track e ps a m) t.same ∙ is;
           stands = track-keeps n s t.stands t.room a ha (le_trans la t.from) m;
-          from = pick (λ s. low ≤ s.tally.next_id.0) (track_stays m) t.from (le_trans t.from (next_from m s.tally.next_id.0));
-          passes = pick (λ s. s.tally.passes ≡ p) (track_stays m) t.passes t.passes;
-          room = pick (λ s. Room n s.tally.next_id.0 s.tally.counters) (track_stays m) (room_next n s.tally t.room) (track-room n s.tally t.room m);
+          from = by_track (λ s. low ≤ s.tally.next_id.0) e a s m t.from (λ m. le_trans t.from (next_from m s.tally.next_id.0));
+          passes = by_track (λ s. s.tally.passes ≡ p) e a s m t.passes (λ m. t.passes);
+          room = by_track (λ s. Room n s.tally.next_id.0 s.tally.counters) e a s m (room_next n s.tally t.room) (track-room n s.tally t.room);
           out =
               λ x h o.
               subst (Absent x) (ap (λ (q : Model). q.scans) is)

@@ -1,4 +1,7 @@
 -- The loop over the tracks of a table: what is left to visit, and what is at rest. Assumes nothing.
+use Rattle.search.specs.declared.marks.Mark.{Mark}
+use Rattle.search.specs.declared.marks.Mark.TheVariants.{Resting, ByTrack}
+use Rattle.std.specs.Prelude.{◌≢◌}
 use Prim.Native.Nat.{ℕ, ◌+◌, ◌≤◌, ◌<◌}
 use native.Mathlib.Nat.{le_refl, le_trans}
 use native.Mathlib.Decide.{ℕ_discrete}
@@ -10,7 +13,6 @@ use lib.ListN.{length, get_or, set, take, drop, length-set}
 use lib.Seq.{get_or-set_same, get_or-set_other}
 use lib.Ieee.{Float, nan}
 use Rattle.bounds.specs.Bounds.{DETECTIONS}
-use Rattle.cost.specs.Cost.{LogsKept}
 use Rattle.search_rows.specs.declared.moves.Tally.{Tally}
 use Rattle.search_rows.specs.Rows.{Starts}
 use Rattle.search_neighbours.specs.Near.{row_at}
@@ -20,9 +22,12 @@ use Rattle.search.proofs.Costing.{cost-stays}
 use Rattle.search.proofs.Stepping.{track_step_other}
 use Rattle.search.proofs.Resting.{track_passes, grows_none, grows_on}
 
+by_track : ByTrack ≢ Resting
+by_track e = cc
+
 -- ---- the step of a track
 
-module _ {e : Scene} {i a : ℕ} {base : Float} {ids : List ℕ} {costs : List Float} {moved : List ℕ} (all : length ids ≡ DETECTIONS) (long : length costs ≡ DETECTIONS) (marks : length moved ≡ DETECTIONS) where
+module _ {e : Scene} {i a : ℕ} {base : Float} {ids : List ℕ} {costs : List Float} {moved : List Mark} (all : length ids ≡ DETECTIONS) (long : length costs ≡ DETECTIONS) (marks : length moved ≡ DETECTIONS) where
   pub stepped_none : base ≡ cost_on e ids a → track_rest e a (row_on e ids a) ≡ true → TrackStepped e i a base ids costs moved ids costs moved
   stepped_none q r =
       record {
@@ -36,42 +41,41 @@ module _ {e : Scene} {i a : ℕ} {base : Float} {ids : List ℕ} {costs : List F
         rested = λ z. r;
       }
 
-  pub stepped_made : {ids' : List ℕ} → i < DETECTIONS → length ids' ≡ DETECTIONS → (v : Float) → v ≡ cost_on e ids' a → TrackStepped e i a base ids costs moved ids' (set costs i v) (set moved i 2)
+  pub stepped_made : {ids' : List ℕ} → i < DETECTIONS → length ids' ≡ DETECTIONS → (v : Float) → v ≡ cost_on e ids' a → TrackStepped e i a base ids costs moved ids' (set costs i v) (set moved i ByTrack)
   stepped_made h l v q =
       record {
         all = l;
         long = length-set costs i v ∙ long;
-        marks = length-set moved i 2 ∙ marks;
+        marks = length-set moved i ByTrack ∙ marks;
         costs_other = λ k n. get_or-set_other costs i k v nan n;
-        marks_other = λ k n. get_or-set_other moved i k 2 0 n;
+        marks_other = λ k n. get_or-set_other moved i k ByTrack Resting n;
         cost = λ p. get_or-set_same costs i v nan (omega (arith, long)) ∙ q;
-        unmarked = λ z. absurd (omega (arith, is, z));
-        rested = λ z. absurd (omega (arith, is, z));
+        unmarked = λ z. absurd (by_track (sym is ∙ z));
+        rested = λ z. absurd (z is);
       }
     where
-      is : get_or (set moved i 2) i 0 ≡ 2
-      is = get_or-set_same moved i 2 0 (omega (arith, h, marks))
+      is : get_or (set moved i ByTrack) i Resting ≡ ByTrack
+      is = get_or-set_same moved i ByTrack Resting (omega (arith, h, marks))
 
 -- ---- a turn of the loop
 
-pub visits_start : {e : Scene} {n : ℕ} {table rows ids : List ℕ} {costs : List Float} {moved : List ℕ} {logs : List Float} (next : ℕ) → Swept e n table rows ids costs moved logs → Visits e n table rows next 0 ids costs moved logs
+pub visits_start : {e : Scene} {n : ℕ} {table rows ids : List ℕ} {costs : List Float} {moved : List Mark} (next : ℕ) → Swept e n table rows ids costs moved → Visits e n table rows next 0 ids costs moved
 visits_start next s =
     record {
       all = s.costed.all;
       long = s.costed.long;
       rows_long = s.rows_long;
       marks = s.marks;
-      kept = s.kept;
       costed = λ k h l. s.costed.each k h;
       same = λ k h l z. s.same k h z;
       rested = λ k h l z. absurd (omega arith);
     }
 
-module _ {e : Scene} {n : ℕ} {table rows : List ℕ} {next i : ℕ} {ids : List ℕ} {costs : List Float} {moved : List ℕ} {logs : List Float} (listed : IdTable n table) (h : i < n) (v : Visits e n table rows next i ids costs moved logs) where
+module _ {e : Scene} {n : ℕ} {table rows : List ℕ} {next i : ℕ} {ids : List ℕ} {costs : List Float} {moved : List Mark} (listed : IdTable n table) (h : i < n) (v : Visits e n table rows next i ids costs moved) where
   -- its row did not change since it was last visited
   pub visits_past :
-      {due : List ℕ} (t : Tally) → Due e n table rows due → get_or table i 0 < next → (get_or due i 0 < 2) × (get_or moved i 0 ≡ 0) →
-      (progress_of ids t ≡ track_step_on e (get_or table i 0) (progress_of ids t)) × Visits e n table rows next (i + 1) ids costs moved logs
+      {due : List Mark} (t : Tally) → Due e n table rows due → get_or table i 0 < next → (get_or due i Resting ≢ ByTrack) × (get_or moved i Resting ≡ Resting) →
+      (progress_of ids t ≡ track_step_on e (get_or table i 0) (progress_of ids t)) × Visits e n table rows next (i + 1) ids costs moved
   visits_past t d b m = (
     track_passes e (get_or table i 0) ids t rest,
     record {
@@ -79,7 +83,6 @@ module _ {e : Scene} {n : ℕ} {table rows : List ℕ} {next i : ℕ} {ids : Lis
       long = v.long;
       rows_long = v.rows_long;
       marks = v.marks;
-      kept = v.kept;
       costed = v.costed;
       same = v.same;
       rested = λ k l below z. rested k l below z (ℕ_discrete k i);
@@ -89,12 +92,12 @@ module _ {e : Scene} {n : ℕ} {table rows : List ℕ} {next i : ℕ} {ids : Lis
       rest : track_rest e (get_or table i 0) (row_on e ids (get_or table i 0)) ≡ true
       rest = ap (track_rest e (get_or table i 0)) (v.same i h b m.1) ∙ d.track i h m.0
 
-      rested : (k : ℕ) → k < i + 1 → get_or table k 0 < next → get_or moved k 0 < 2 → Dec (k ≡ i) → track_rest e (get_or table k 0) (row_on e ids (get_or table k 0)) ≡ true
+      rested : (k : ℕ) → k < i + 1 → get_or table k 0 < next → get_or moved k Resting ≢ ByTrack → Dec (k ≡ i) → track_rest e (get_or table k 0) (row_on e ids (get_or table k 0)) ≡ true
       rested k l below z (yes q) = ap (λ (m : ℕ). track_rest e (get_or table m 0) (row_on e ids (get_or table m 0))) q ∙ rest
       rested k l below z (no q) = v.rested k (omega arith) below z
 
   -- its step was made
-  module _ (t : Tally) {t' : Tally} {base : Float} {ids' : List ℕ} {costs' : List Float} {moved' : List ℕ} (begins : Starts e.starts) (from : next ≤ t.next_id.0) (step : progress_of ids' t' ≡ track_step_on e (get_or table i 0) (progress_of ids t)) (s : TrackStepped e i (get_or table i 0) base ids costs moved ids' costs' moved') where
+  module _ (t : Tally) {t' : Tally} {base : Float} {ids' : List ℕ} {costs' : List Float} {moved' : List Mark} (begins : Starts e.starts) (from : next ≤ t.next_id.0) (step : progress_of ids' t' ≡ track_step_on e (get_or table i 0) (progress_of ids t)) (s : TrackStepped e i (get_or table i 0) base ids costs moved ids' costs' moved') where
     -- the rows of the others are as before
     others : (k : ℕ) → k < n → get_or table k 0 < next → (k ≡ i → ⊥) → row_on e ids' (get_or table k 0) ≡ row_on e ids (get_or table k 0)
     others k b below q =
@@ -104,8 +107,8 @@ module _ {e : Scene} {n : ℕ} {table rows : List ℕ} {next i : ℕ} {ids : Lis
     pub visits_grow : Grows n moved moved'
     visits_grow = record { back = λ k b z. go k z (ℕ_discrete k i) }
       where
-        go : (k : ℕ) → get_or moved' k 0 ≡ 0 → Dec (k ≡ i) → get_or moved k 0 ≡ 0
-        go k z (yes q) = ap (λ (m : ℕ). get_or moved m 0) q ∙ (s.unmarked (sym (ap (λ (m : ℕ). get_or moved' m 0) q) ∙ z)).0
+        go : (k : ℕ) → get_or moved' k Resting ≡ Resting → Dec (k ≡ i) → get_or moved k Resting ≡ Resting
+        go k z (yes q) = ap (λ (m : ℕ). get_or moved m Resting) q ∙ (s.unmarked (sym (ap (λ (m : ℕ). get_or moved' m Resting) q) ∙ z)).0
         go k z (no q) = sym (s.marks_other k q) ∙ z
 
     costed-on : (k : ℕ) → k < n → get_or table k 0 < next → (get_or table i 0 < next → get_or costs i nan ≡ base) → Dec (k ≡ i) → get_or costs' k nan ≡ cost_on e ids' (get_or table k 0)
@@ -115,30 +118,29 @@ module _ {e : Scene} {n : ℕ} {table rows : List ℕ} {next i : ℕ} {ids : Lis
         ∙ ap (λ (m : ℕ). cost_on e ids' (get_or table m 0)) (sym q)
     costed-on k b below paid (no q) = s.costs_other k q ∙ v.costed k b below ∙ sym (cost-stays e ids' ids (get_or table k 0) (others k b below q))
 
-    same-on : (k : ℕ) → k < n → get_or table k 0 < next → get_or moved' k 0 ≡ 0 → Dec (k ≡ i) → row_on e ids' (get_or table k 0) ≡ row_at rows k
+    same-on : (k : ℕ) → k < n → get_or table k 0 < next → get_or moved' k Resting ≡ Resting → Dec (k ≡ i) → row_on e ids' (get_or table k 0) ≡ row_at rows k
     same-on k b below z (yes q) =
         ap (λ (m : ℕ). row_on e ids' (get_or table m 0)) q
-        ∙ (s.unmarked (sym (ap (λ (m : ℕ). get_or moved' m 0) q) ∙ z)).1
+        ∙ (s.unmarked (sym (ap (λ (m : ℕ). get_or moved' m Resting) q) ∙ z)).1
         ∙ ap (λ (m : ℕ). row_on e ids (get_or table m 0)) (sym q)
         ∙ v.same k b below (visits_grow.back k b z)
     same-on k b below z (no q) = others k b below q ∙ v.same k b below (visits_grow.back k b z)
 
-    rested-on : (k : ℕ) → k < i + 1 → get_or table k 0 < next → get_or moved' k 0 < 2 → Dec (k ≡ i) → track_rest e (get_or table k 0) (row_on e ids' (get_or table k 0)) ≡ true
+    rested-on : (k : ℕ) → k < i + 1 → get_or table k 0 < next → get_or moved' k Resting ≢ ByTrack → Dec (k ≡ i) → track_rest e (get_or table k 0) (row_on e ids' (get_or table k 0)) ≡ true
     rested-on k l below z (yes q) =
         ap (λ (m : ℕ). track_rest e (get_or table m 0) (row_on e ids' (get_or table m 0))) q
-        ∙ s.rested (subst (λ (m : ℕ). get_or moved' m 0 < 2) q z)
+        ∙ s.rested (subst (λ (m : ℕ). get_or moved' m Resting ≢ ByTrack) q z)
     rested-on k l below z (no q) =
         ap (track_rest e (get_or table k 0)) (others k (omega arith) below q)
-        ∙ v.rested k (omega arith) below (subst (λ (m : ℕ). m < 2) (s.marks_other k q) z)
+        ∙ v.rested k (omega arith) below (subst (λ (m : Mark). m ≢ ByTrack) (s.marks_other k q) z)
 
-    pub visits_on : {logs' : List Float} → (get_or table i 0 < next → get_or costs i nan ≡ base) → LogsKept logs' → Visits e n table rows next (i + 1) ids' costs' moved' logs'
-    visits_on paid kept =
+    pub visits_on : (get_or table i 0 < next → get_or costs i nan ≡ base) → Visits e n table rows next (i + 1) ids' costs' moved'
+    visits_on paid =
         record {
           all = s.all;
           long = s.long;
           rows_long = v.rows_long;
           marks = s.marks;
-          kept = kept;
           costed = λ k b below. costed-on k b below paid (ℕ_discrete k i);
           same = λ k b below z. same-on k b below z (ℕ_discrete k i);
           rested = λ k l below z. rested-on k l below z (ℕ_discrete k i);
@@ -147,22 +149,22 @@ module _ {e : Scene} {n : ℕ} {table rows : List ℕ} {next i : ℕ} {ids : Lis
 -- ---- the loop
 
 -- those before place i are done
-pub record Visited (e : Scene) (n : ℕ) (table rows ids₀ moved₀ : List ℕ) (t₀ : Tally) (ids : List ℕ) (costs : List Float) (moved : List ℕ) (logs : List Float) (t : Tally) (i : ℕ) : Type 0 where
+pub record Visited (e : Scene) (n : ℕ) (table rows ids₀ : List ℕ) (moved₀ : List Mark) (t₀ : Tally) (ids : List ℕ) (costs : List Float) (moved : List Mark) (t : Tally) (i : ℕ) : Type 0 where
   pub within : i ≤ n
   pub from : t₀.next_id.0 ≤ t.next_id.0
-  pub visits : Visits e n table rows t₀.next_id.0 i ids costs moved logs
+  pub visits : Visits e n table rows t₀.next_id.0 i ids costs moved
   pub grows : Grows n moved₀ moved
   pub left : visit e (take n table) (progress_of ids₀ t₀) ≡ visit e (drop i (take n table)) (progress_of ids t)
 
-module _ {e : Scene} {n : ℕ} {table rows ids₀ moved₀ : List ℕ} {t₀ : Tally} (listed : IdTable n table) where
-  pub visit-start : {costs logs : List Float} → Swept e n table rows ids₀ costs moved₀ logs → Visited e n table rows ids₀ moved₀ t₀ ids₀ costs moved₀ logs t₀ 0
+module _ {e : Scene} {n : ℕ} {table rows ids₀ : List ℕ} {moved₀ : List Mark} {t₀ : Tally} (listed : IdTable n table) where
+  pub visit-start : {costs : List Float} → Swept e n table rows ids₀ costs moved₀ → Visited e n table rows ids₀ moved₀ t₀ ids₀ costs moved₀ t₀ 0
   visit-start s = record { within = omega arith; from = le_refl t₀.next_id.0; visits = visits_start t₀.next_id.0 s; grows = grows_none n moved₀; left = refl }
 
-  module _ {ids : List ℕ} {costs : List Float} {moved : List ℕ} {logs : List Float} {t : Tally} {i : ℕ} (o : Visited e n table rows ids₀ moved₀ t₀ ids costs moved logs t i) where
+  module _ {ids : List ℕ} {costs : List Float} {moved : List Mark} {t : Tally} {i : ℕ} (o : Visited e n table rows ids₀ moved₀ t₀ ids costs moved t i) where
     pub visit-step :
-        {ids' : List ℕ} {costs' : List Float} {moved' : List ℕ} {logs' : List Float} {t' : Tally} → Starts e.starts → i < n →
-        progress_of ids' t' ≡ track_step_on e (get_or table i 0) (progress_of ids t) → Visits e n table rows t₀.next_id.0 (i + 1) ids' costs' moved' logs' → Grows n moved moved' →
-        Visited e n table rows ids₀ moved₀ t₀ ids' costs' moved' logs' t' (i + 1)
+        {ids' : List ℕ} {costs' : List Float} {moved' : List Mark} {t' : Tally} → Starts e.starts → i < n →
+        progress_of ids' t' ≡ track_step_on e (get_or table i 0) (progress_of ids t) → Visits e n table rows t₀.next_id.0 (i + 1) ids' costs' moved' → Grows n moved moved' →
+        Visited e n table rows ids₀ moved₀ t₀ ids' costs' moved' t' (i + 1)
     unfolding visit
     visit-step begins h step v g =
         record {
@@ -176,11 +178,11 @@ module _ {e : Scene} {n : ℕ} {table rows ids₀ moved₀ : List ℕ} {t₀ : T
               ∙ ap (visit e (drop (i + 1) (take n table))) (sym step);
         }
 
-    pub visit_done : n ≤ i → (progress_of ids t ≡ visit e (take n table) (progress_of ids₀ t₀)) × Visits e n table rows t₀.next_id.0 n ids costs moved logs × Grows n moved₀ moved
+    pub visit_done : n ≤ i → (progress_of ids t ≡ visit e (take n table) (progress_of ids₀ t₀)) × Visits e n table rows t₀.next_id.0 n ids costs moved × Grows n moved₀ moved
     unfolding visit
     visit_done h =
         let q : i ≡ n = omega (arith, o.within) in (
           sym (o.left ∙ ap (λ (l : List ℕ). visit e l (progress_of ids t)) (ap (λ (k : ℕ). drop k (take n table)) q ∙ listed_end listed)),
-          subst (λ (k : ℕ). Visits e n table rows t₀.next_id.0 k ids costs moved logs) q o.visits,
+          subst (λ (k : ℕ). Visits e n table rows t₀.next_id.0 k ids costs moved) q o.visits,
           o.grows,
         )

@@ -1,2 +1,3 @@
 pub mod Pass
+pub mod Lent
 pub mod Represents

@@ -1,23 +1,26 @@
 -- The passes of the search over the gathered ids: the pairs, then the tracks. Definitions only.
-use Rattle.std.specs.Prelude.{ℕ, zero, suc, ◌^◌, ◌≤◌, ◌<◌, ◌≡◌, Bool, true, false, cond, List, [], ◌∷◌, length, get_or, Float}
+use Rattle.std.specs.Prelude.{ℕ, zero, suc, ◌^◌, ◌≤◌, ◌<◌, ◌≡◌, ◌≢◌, Bool, true, false, cond, List, [], ◌∷◌, length, get_or, Float, Option, Some, None, is_none}
 use Rattle.std.specs.Float.{nan, binary64}
 use Rattle.std.specs.Float.Ieee.{add}
 use Rattle.bounds.specs.Bounds.{DETECTIONS, FROZEN, ROWS}
 use Rattle.engine.specs.declared.types.RefinedId.{RefinedId}
 use Rattle.engine.specs.Config.{radius}
 use Rattle.cost.specs.declared.Fold.{Fold}
-use Rattle.cost.specs.Cost.{View, LogsKept}
+use Rattle.cost.specs.declared.prices.Prices.{Prices}
+use Rattle.cost.specs.Cost.{View, view_of}
 use Rattle.fgo_spec.specs.declared.moves.PairMove.{PairMove}
 use Rattle.fgo_spec.specs.declared.moves.TrackMove.{TrackMove}
 use Rattle.cost_row.specs.declared.Hall.{Hall}
+use Rattle.search.specs.declared.marks.Mark.{Mark}
+use Rattle.search.specs.declared.marks.Mark.TheVariants.{Resting, ByTrack}
 use Rattle.search_rows.specs.declared.moves.Tally.{Tally}
 use Rattle.search_rows.specs.Rows.{Starts, row_of, present_in}
 use Rattle.fgo_spec.specs.Searching.{square}
 use Rattle.search_neighbours.specs.Near.{close_scans, any_close, row_at, Entered}
-use Rattle.cost_row.specs.Price.{view_in, fold_among, row_cost}
+use Rattle.cost_row.specs.Price.{fold_among, row_cost}
 use Rattle.search_pair.specs.Pair.{best_pair_row}
 use Rattle.search_track.specs.Track.{best_track_row}
-use Rattle.search_rows.specs.Moves.{pair_ids, track_ids, pair_stays, track_stays, begun, pair_tally, track_tally}
+use Rattle.search_rows.specs.Moves.{pair_ids, track_ids, begun, pair_tally, track_tally}
 
 -- what a search changes
 pub record Progress : Type 0 where
@@ -44,9 +47,13 @@ pub record Scene : Type 0 where
 abbrev pub scene_of : Hall → List ℕ → List Float → List ℕ → List Float → Scene
 scene_of h starts dots ts fs = record { hall = h; starts = starts; dots = dots; tracks = ts; filters = fs }
 
+-- the scene by what prices its windows, the detections gathered and the frozen tracks
+abbrev pub scene_by : Prices → ℕ → ℕ → List ℕ → List ℕ → List Float → Scene
+scene_by p n m starts ts fs = scene_of (record { config = p.config; first = p.first; detections = n; frozen = m }) starts p.dots.now ts fs
+
 -- the view of its dots
 abbrev pub view_on : Scene → View
-view_on e = view_in e.hall e.dots
+view_on e = view_of e.hall.first e.dots
 
 -- what the window of x goes on from
 abbrev pub fold_on : Scene → ℕ → Fold
@@ -67,19 +74,19 @@ close_on e a b = close_scans (square (radius e.hall.config)) e.dots a b
 -- ---- a pair
 
 -- the best move of the pair a, b: "The base is the old cost of a plus the old cost of b"
-abbrev pub pair_best : Scene → List Bool → ℕ → ℕ → List ℕ → PairMove
+abbrev pub pair_best : Scene → List Bool → ℕ → ℕ → List ℕ → Option PairMove
 pair_best e close a b ids =
     best_pair_row e.hall.config (view_on e) (id_of a) (id_of b) (fold_on e a) (fold_on e b) close (row_on e ids a) (row_on e ids b)
     (add binary64 (cost_on e ids a) (cost_on e ids b))
 
--- what the move m of the pair a, b leaves
-abbrev pub pair_moved : Scene → PairMove → ℕ → ℕ → Progress → Progress
-pair_moved e m a b s =
-    cond (pair_stays m) s
-    (record {
+-- what the best move of the pair a, b leaves
+abbrev pub pair_moved : Scene → Option PairMove → ℕ → ℕ → Progress → Progress
+pair_moved e None a b s = s
+pair_moved e (Some m) a b s =
+    record {
       ids = pair_ids e.hall.first.0 e.starts m a b (row_on e s.ids a) (row_on e s.ids b) s.ids;
       tally = pair_tally m s.tally;
-    })
+    }
 
 -- the pair's best move, made
 unfoldable pub pair_step_on : Scene → List Bool → ℕ → ℕ → Progress → Progress
@@ -102,14 +109,14 @@ sweep e is (a ∷ l) s = sweep e is l (sweep_one e is a l s)
 -- ---- a track
 
 -- the best move of the track a: "for a move of a single track it is that track's old cost"
-abbrev pub track_best : Scene → ℕ → List ℕ → TrackMove
+abbrev pub track_best : Scene → ℕ → List ℕ → Option TrackMove
 track_best e a ids = best_track_row e.hall.config (view_on e) (fold_on e a) (row_on e ids a) (cost_on e ids a)
 
--- what the move m of the track a leaves
-abbrev pub track_moved : Scene → TrackMove → ℕ → Progress → Progress
-track_moved e m a s =
-    cond (track_stays m) s
-    (record { ids = track_ids e.hall.first.0 e.starts m a s.tally.next_id.0 s.ids; tally = track_tally m s.tally })
+-- what the best move of the track a leaves
+abbrev pub track_moved : Scene → Option TrackMove → ℕ → Progress → Progress
+track_moved e None a s = s
+track_moved e (Some m) a s =
+    record { ids = track_ids e.hall.first.0 e.starts m a s.tally.next_id.0 s.ids; tally = track_tally m s.tally }
 
 -- the track's best move, made
 unfoldable pub track_step_on : Scene → ℕ → Progress → Progress
@@ -162,88 +169,78 @@ pub record Costed (e : Scene) (n : ℕ) (table ids : List ℕ) (costs : List Flo
 unfoldable pub pair_rest : Scene → ℕ → ℕ → List ℕ → List ℕ → Bool
 pair_rest e a b ra rb =
     cond (any_close (close_on e ra rb))
-    (pair_stays
+    (is_none
     (best_pair_row e.hall.config (view_on e) (id_of a) (id_of b) (fold_on e a) (fold_on e b) (close_on e ra rb) ra rb
     (add binary64 (row_cost e.hall.config (view_on e) (fold_on e a) ra) (row_cost e.hall.config (view_on e) (fold_on e b) rb)))) true
 
 -- the track a with the row ra has no move
 unfoldable pub track_rest : Scene → ℕ → List ℕ → Bool
-track_rest e a ra = track_stays (best_track_row e.hall.config (view_on e) (fold_on e a) ra (row_cost e.hall.config (view_on e) (fold_on e a) ra))
+track_rest e a ra = is_none (best_track_row e.hall.config (view_on e) (fold_on e a) ra (row_cost e.hall.config (view_on e) (fold_on e a) ra))
 
 -- the places i and j of the table have no move by the table of rows, if neither is marked
-pub record Rests (e : Scene) (table rows marks : List ℕ) (i j : ℕ) : Type 0 where
-  pub pair : get_or marks i 0 ≡ 0 → get_or marks j 0 ≡ 0 → pair_rest e (get_or table i 0) (get_or table j 0) (row_at rows i) (row_at rows j) ≡ true
+pub record Rests (e : Scene) (table rows : List ℕ) (marks : List Mark) (i j : ℕ) : Type 0 where
+  pub pair : get_or marks i Resting ≡ Resting → get_or marks j Resting ≡ Resting → pair_rest e (get_or table i 0) (get_or table j 0) (row_at rows i) (row_at rows j) ≡ true
 
 -- a place that is marked stays so
-pub record Grows (n : ℕ) (marks marks' : List ℕ) : Type 0 where
-  pub back : (k : ℕ) → k < n → get_or marks' k 0 ≡ 0 → get_or marks k 0 ≡ 0
+pub record Grows (n : ℕ) (marks marks' : List Mark) : Type 0 where
+  pub back : (k : ℕ) → k < n → get_or marks' k Resting ≡ Resting → get_or marks k Resting ≡ Resting
 
--- by the rows at the beginning of the pass: 0 where neither the pairs nor the track need a look, 1 where only the track needs none
-pub record Due (e : Scene) (n : ℕ) (table rows due : List ℕ) : Type 0 where
+-- by the rows at the beginning of the pass: where nothing is due neither the pairs nor the track need a look, and the track needs none either where only its pairs are due
+pub record Due (e : Scene) (n : ℕ) (table rows : List ℕ) (due : List Mark) : Type 0 where
   pub long : length due ≡ DETECTIONS
   pub pair : (i j : ℕ) → i < j → j < n → Rests e table rows due i j
-  pub track : (i : ℕ) → i < n → get_or due i 0 < 2 → track_rest e (get_or table i 0) (row_at rows i) ≡ true
+  pub track : (i : ℕ) → i < n → get_or due i Resting ≢ ByTrack → track_rest e (get_or table i 0) (row_at rows i) ≡ true
 
 -- where the pairs are swept: costs kept, the table of rows, and at each place that did not move in this pass its row
-pub record Swept (e : Scene) (n : ℕ) (table rows ids : List ℕ) (costs : List Float) (moved : List ℕ) (logs : List Float) : Type 0 where
+pub record Swept (e : Scene) (n : ℕ) (table rows ids : List ℕ) (costs : List Float) (moved : List Mark) : Type 0 where
   pub costed : Costed e n table ids costs
   pub rows_long : length rows ≡ ROWS
   pub entered : (k : ℕ) → k < n → Entered rows k
   pub marks : length moved ≡ DETECTIONS
-  pub same : (k : ℕ) → k < n → get_or moved k 0 ≡ 0 → row_on e ids (get_or table k 0) ≡ row_at rows k
-  pub kept : LogsKept logs
+  pub same : (k : ℕ) → k < n → get_or moved k Resting ≡ Resting → row_on e ids (get_or table k 0) ≡ row_at rows k
 
 -- where the tracks before place i have been visited: the same of each id below next, which no other track is given meanwhile
-pub record Visits (e : Scene) (n : ℕ) (table rows : List ℕ) (next i : ℕ) (ids : List ℕ) (costs : List Float) (moved : List ℕ) (logs : List Float) : Type 0 where
+pub record Visits (e : Scene) (n : ℕ) (table rows : List ℕ) (next i : ℕ) (ids : List ℕ) (costs : List Float) (moved : List Mark) : Type 0 where
   pub all : length ids ≡ DETECTIONS
   pub long : length costs ≡ DETECTIONS
   pub rows_long : length rows ≡ ROWS
   pub marks : length moved ≡ DETECTIONS
-  pub kept : LogsKept logs
   pub costed : (k : ℕ) → k < n → get_or table k 0 < next → get_or costs k nan ≡ cost_on e ids (get_or table k 0)
-  pub same : (k : ℕ) → k < n → get_or table k 0 < next → get_or moved k 0 ≡ 0 → row_on e ids (get_or table k 0) ≡ row_at rows k
-  pub rested : (k : ℕ) → k < i → get_or table k 0 < next → get_or moved k 0 < 2 → track_rest e (get_or table k 0) (row_on e ids (get_or table k 0)) ≡ true
+  pub same : (k : ℕ) → k < n → get_or table k 0 < next → get_or moved k Resting ≡ Resting → row_on e ids (get_or table k 0) ≡ row_at rows k
+  pub rested : (k : ℕ) → k < i → get_or table k 0 < next → get_or moved k Resting ≢ ByTrack → track_rest e (get_or table k 0) (row_on e ids (get_or table k 0)) ≡ true
 
 -- the step of the track a at place i: its own cost and mark, and no other's
-pub record TrackStepped (e : Scene) (i a : ℕ) (base : Float) (ids : List ℕ) (costs : List Float) (moved ids' : List ℕ) (costs' : List Float) (moved' : List ℕ) : Type 0 where
+pub record TrackStepped (e : Scene) (i a : ℕ) (base : Float) (ids : List ℕ) (costs : List Float) (moved : List Mark) (ids' : List ℕ) (costs' : List Float) (moved' : List Mark) : Type 0 where
   pub all : length ids' ≡ DETECTIONS
   pub long : length costs' ≡ DETECTIONS
   pub marks : length moved' ≡ DETECTIONS
   pub costs_other : (k : ℕ) → (k ≡ i → ⊥) → get_or costs' k nan ≡ get_or costs k nan
-  pub marks_other : (k : ℕ) → (k ≡ i → ⊥) → get_or moved' k 0 ≡ get_or moved k 0
+  pub marks_other : (k : ℕ) → (k ≡ i → ⊥) → get_or moved' k Resting ≡ get_or moved k Resting
   pub cost : get_or costs i nan ≡ base → get_or costs' i nan ≡ cost_on e ids' a
-  pub unmarked : get_or moved' i 0 ≡ 0 → (get_or moved i 0 ≡ 0) × (row_on e ids' a ≡ row_on e ids a)
-  pub rested : get_or moved' i 0 < 2 → track_rest e a (row_on e ids' a) ≡ true
+  pub unmarked : get_or moved' i Resting ≡ Resting → (get_or moved i Resting ≡ Resting) × (row_on e ids' a ≡ row_on e ids a)
+  pub rested : get_or moved' i Resting ≢ ByTrack → track_rest e a (row_on e ids' a) ≡ true
 
 -- what a pass leaves of the ids that it listed, those below next: their costs; and where a place did not move, nothing to move
-pub record Left (e : Scene) (n next : ℕ) (table ids : List ℕ) (costs : List Float) (moved : List ℕ) : Type 0 where
+pub record Left (e : Scene) (n next : ℕ) (table ids : List ℕ) (costs : List Float) (moved : List Mark) : Type 0 where
   pub listed : IdTable n table
   pub all : length ids ≡ DETECTIONS
   pub long : length costs ≡ DETECTIONS
   pub marks : length moved ≡ DETECTIONS
   pub costed : (k : ℕ) → k < n → get_or table k 0 < next → get_or costs k nan ≡ cost_on e ids (get_or table k 0)
-  pub pair : (i j : ℕ) → i < j → j < n → get_or table i 0 < next → get_or table j 0 < next → get_or moved i 0 ≡ 0 → get_or moved j 0 ≡ 0 →
+  pub pair : (i j : ℕ) → i < j → j < n → get_or table i 0 < next → get_or table j 0 < next → get_or moved i Resting ≡ Resting → get_or moved j Resting ≡ Resting →
       pair_rest e (get_or table i 0) (get_or table j 0) (row_on e ids (get_or table i 0)) (row_on e ids (get_or table j 0)) ≡ true
-  pub track : (k : ℕ) → k < n → get_or table k 0 < next → get_or moved k 0 < 2 → track_rest e (get_or table k 0) (row_on e ids (get_or table k 0)) ≡ true
+  pub track : (k : ℕ) → k < n → get_or table k 0 < next → get_or moved k Resting ≢ ByTrack → track_rest e (get_or table k 0) (row_on e ids (get_or table k 0)) ≡ true
 
 -- the id x stood at a place of the last pass, with the mark m
-pub record From (n next : ℕ) (old moved : List ℕ) (x m : ℕ) : Type 0 where
+pub record From (n next : ℕ) (old : List ℕ) (moved : List Mark) (x : ℕ) (m : Mark) : Type 0 where
   pub place : ℕ
   pub within : place < n
   pub below : x < next
   pub is : get_or old place 0 ≡ x
-  pub mark : get_or moved place 0 ≡ m
+  pub mark : get_or moved place Resting ≡ m
 
 -- the first i places of a pass that begins: what they cost, and what is due of those that stood in the last
-pub record Carried (e : Scene) (n next : ℕ) (old moved table ids : List ℕ) (i : ℕ) (costs : List Float) (due : List ℕ) (logs : List Float) : Type 0 where
+pub record Carried (e : Scene) (n next : ℕ) (old : List ℕ) (moved : List Mark) (table ids : List ℕ) (i : ℕ) (costs : List Float) (due : List Mark) : Type 0 where
   pub costed : Costed e i table ids costs
   pub long : length due ≡ DETECTIONS
-  pub from : (k : ℕ) → k < i → get_or due k 0 < 2 → From n next old moved (get_or table k 0) (get_or due k 0)
-  pub kept : LogsKept logs
-
--- the tables between two passes
-pub record Tables (e : Scene) (n next : ℕ) (ids table rows : List ℕ) (costs : List Float) (due moved : List ℕ) (logs : List Float) : Type 0 where
-  pub left : Left e n next table ids costs moved
-  pub rows_long : length rows ≡ ROWS
-  pub due_long : length due ≡ DETECTIONS
-  pub kept : LogsKept logs
+  pub from : (k : ℕ) → k < i → get_or due k Resting ≢ ByTrack → From n next old moved (get_or table k 0) (get_or due k Resting)

@@ -1,18 +1,17 @@
 -- The merges of a pair of rows: document 01's candidates, in its order. Definitions only.
-use Rattle.std.specs.Prelude.{◌≡◌, ℕ, ◌+◌, Bool, true, false, cond, List, [], ◌∷◌, pos, ◌==◌, Float}
+use Rattle.std.specs.Prelude.{ℕ, ◌+◌, Bool, true, false, cond, List, [], ◌∷◌, pos, ◌==◌, Float, Option}
 use Rattle.std.specs.Float.{binary64}
 use Rattle.std.specs.Float.Ieee.{of_int}
 use Rattle.engine.specs.declared.config.FgoConfig.{FgoConfig}
 use Rattle.engine.specs.declared.types.RefinedId.{RefinedId}
 use Rattle.engine.specs.Config.{clutter}
 use Rattle.cost.specs.declared.Fold.{Fold}
-use Rattle.cost.specs.Cost.{View, misses_of}
+use Rattle.cost.specs.Cost.{View}
 use Rattle.fgo_spec.specs.declared.moves.PairMove.{PairMove}
 use Rattle.fgo_spec.specs.declared.moves.PairMove.TheVariants.{Merge}
 use Rattle.fgo_spec.specs.Searching.{◌⊕◌, ◌⊖◌, ◌⊗◌, better_pair}
 use Rattle.search_merge.specs.declared.Overlap.{Overlap}
-use Rattle.cost_row.specs.declared.Hall.{Hall}
-use Rattle.cost_row.specs.Price.{row_cost, Priced, EndsBy}
+use Rattle.cost_row.specs.Price.{row_cost}
 
 -- ---- rows
 
@@ -63,17 +62,7 @@ unfoldable pub try_merge_row : FgoConfig → View → RefinedId → Bool → Fol
 try_merge_row c v k own p a b lost base = merge_of c k own (row_cost c v p (merged_row own a b)) lost base
 
 -- "For each keeper there are two forms": "first the keeper's own detections are kept, then the other track's"
-unfoldable pub better_merge : FgoConfig → View → RefinedId → Fold → List ℕ → List ℕ → Float → PairMove → PairMove
+unfoldable pub better_merge : FgoConfig → View → RefinedId → Fold → List ℕ → List ℕ → Float → Option PairMove → Option PairMove
 better_merge c v k p a b base best =
     let lost = shared_rows a b in
     better_pair (better_pair best (try_merge_row c v k true p a b lost base)) (try_merge_row c v k false p a b lost base)
-
--- ---- what the inner functions ask
-
--- a keeper with the row a and what it goes on from, another row b, and how the two lie to each other
-pub record Merges (h : Hall) (p : Fold) (o : Overlap) (a b : List ℕ) (end : ℕ) (logs : List Float) : Type 0 where
-  pub priced : Priced h logs
-  pub idle : misses_of p ≡ 0
-  pub mine : EndsBy end a
-  pub theirs : EndsBy end b
-  pub lie : o ≡ overlap_of a b

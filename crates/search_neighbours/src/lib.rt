@@ -39,23 +39,14 @@ fn near_points(q: f64, d: Point, e: Point) -> bool
 fn slot(row: &[u8], k: usize) -> usize
     ensures { result ≡ get_or row.now k 0 }
 {
-    if k < row.len() {
-        return row[k] as usize;
-    }
-    0
+    row.get(k).map_or(0, |x| usize::from(*x))
 }
 
 // Two rows have a detection each that are near, in one scan or in it and the next: at x and y in the scan, at nx and ny in the next.
 fn close_points(q: f64, x: Point, y: Point, nx: Point, ny: Point) -> bool
     ensures { result ≡ close_points q x y nx ny }
 {
-    if near_points(q, x, y) {
-        return true;
-    }
-    if near_points(q, x, ny) {
-        return true;
-    }
-    near_points(q, nx, y)
+    near_points(q, x, y) || near_points(q, x, ny) || near_points(q, nx, y)
 }
 
 // For each scan whether the rows are close in it; and whether they are close in any. It asks for scans outside of which they are not, and that no scan is
@@ -70,13 +61,13 @@ pub fn close_scans<'a>(
     close: &mut [bool; SCANS],
 ) -> bool
     requires { CloseWithin q dots.now a.now b.now from to × (close.old ≡ replicate SCANS false) }
-    ensures { (close.new ≡ close_scans q dots.now a.now b.now) × (result ≡ any_close close.new) }
+    ensures scans { close.new ≡ close_scans q dots.now a.now b.now }
+    ensures any { result ≡ any_close close.new }
 {
     let mut found = false;
-    let mut k = from;
-    let mut x = point_at(slot(a, k), dots);
-    let mut y = point_at(slot(b, k), dots);
-    while k < to {
+    let mut x = point_at(slot(a, from), dots);
+    let mut y = point_at(slot(b, from), dots);
+    for k in from..to {
         let nx = point_at(slot(a, k + 1), dots);
         let ny = point_at(slot(b, k + 1), dots);
         if close_points(q, x, y, nx, ny) {
@@ -85,7 +76,6 @@ pub fn close_scans<'a>(
         }
         x = nx;
         y = ny;
-        k += 1;
     }
     found
 }
@@ -95,8 +85,6 @@ pub fn meet(rows: &[u8; ROWS], i: usize, j: usize) -> bool
     requires { (i < DETECTIONS) × (j < DETECTIONS) × (length rows.now ≡ ROWS) }
     ensures { result ≡ meets rows.now i j }
 {
-    if rows[ROW * i + SCANS] <= rows[ROW * j + SCANS + 1] {
-        return rows[ROW * j + SCANS] <= rows[ROW * i + SCANS + 1];
-    }
-    false
+    rows[ROW * i + SCANS] <= rows[ROW * j + SCANS + 1]
+        && rows[ROW * j + SCANS] <= rows[ROW * i + SCANS + 1]
 }

@@ -1,192 +1,139 @@
 // The best move of a pair of rows.
 #![tactic(auto)]
 
-ghost use Rattle.std.specs.Prelude.{◌≡◌, true, ◌^◌, ◌≤◌, ◌<◌, length, drop};
+ghost use Rattle.std.specs.Prelude.{◌≡◌, true, ◌^◌, ◌≤◌, ◌<◌, drop};
 ghost use Rattle.bounds.specs.Bounds.{SCANS};
-ghost use Rattle.cost.specs.Cost.{measurements, cost, fold_in, misses_of, LogsKept};
+ghost use Rattle.cost.specs.Cost.{measurements, cost, misses_of, view_in};
 ghost use Rattle.fgo_spec.specs.Searching.{◌⊕◌, ◌⊖◌};
-ghost use Rattle.cost_row.specs.Price.{row_cost, Priced, Fit, EndsBy, view_in};
-ghost use Rattle.search_pair.specs.Pair.{cut_at, first_swap, best_swap_row, best_pair_row, Swaps};
+ghost use Rattle.cost_row.specs.Price.{row_cost};
+ghost use Rattle.search_pair.specs.Pair.{cut_at, first_swap, best_swap_row, best_pair_row, Exchanged};
 
-use bounds::{DOTS, FOLD, LOGS, SCANS};
-use cost::{Fold, LentFold};
-use cost_row::Hall;
-use engine::types::{RefinedId, ScanIndex};
+use bounds::SCANS;
+use cost::Fold;
+use cost::logs::Logs;
+use cost::prices::Prices;
+use cost_row::window::Window;
+use engine::types::ScanIndex;
 use fgo_spec::moves::PairMove;
-use search_rows::rows;
+use search_rows::moves::better;
 
-// The gain of the swap at a cut, by the folds over both rows before it, whose numbers are lent. The rows end at ea and eb.
-fn swap_gain<'a>(
-    hall: Hall,
-    sa: LentFold,
-    sb: LentFold,
-    fa: &'a [f64; FOLD],
-    fb: &'a [f64; FOLD],
-    a: &'a [usize; SCANS],
-    b: &'a [usize; SCANS],
-    ea: usize,
-    eb: usize,
+// The gain of the swap at a cut, by the folds over both rows before it; base is what both windows cost now.
+fn swap_gain(
+    prices: &Prices<'_>,
+    a: &Window<'_>,
+    b: &Window<'_>,
+    fa: &Fold,
+    fb: &Fold,
     cut: usize,
     base: f64,
-    dots: &'a [f64; DOTS],
-    logs: &mut [f64; LOGS],
+    logs: &mut Logs,
 ) -> f64
-    requires { Priced hall logs.old × EndsBy ea a.now × EndsBy eb b.now
-        × (misses_of (fold_in sa fa.now) < 2 ^ 58) × (misses_of (fold_in sb fb.now) < 2 ^ 58) }
-    ensures value { result
-        ≡ cost hall.config (fold_in sa fa.now) (measurements (view_in hall dots.now) cut (drop cut b.now))
-        ⊕ cost hall.config (fold_in sb fb.now) (measurements (view_in hall dots.now) cut (drop cut a.now))
+    requires { (misses_of fa.now < 2 ^ 58) × (misses_of fb.now < 2 ^ 58) }
+    ensures { result
+        ≡ cost prices.now.config fa.now (measurements (view_in prices.now) cut (drop cut b.now.row.now))
+        ⊕ cost prices.now.config fb.now (measurements (view_in prices.now) cut (drop cut a.now.row.now))
         ⊖ base }
-    ensures logs_kept { LogsKept logs.new }
 {
-    let x = cost_row::rest_cost(hall, sa, fa, b, cut, eb, dots, logs);
-    let y = cost_row::rest_cost(hall, sb, fb, a, cut, ea, dots, logs);
+    let x = cost_row::rest_cost(prices, fa, b.row, cut, b.end, logs);
+    let y = cost_row::rest_cost(prices, fb, a.row, cut, a.end, logs);
     x + y - base
 }
 
 // A pair may be cut at scan k: it is close in k, or in the scan before.
 fn is_cut(close: &[bool; SCANS], k: usize) -> bool
-    requires { (k ≤ SCANS) × (length close.now ≡ SCANS) }
+    requires { k ≤ SCANS }
     ensures { result ≡ cut_at close.now k }
 {
-    if k < SCANS {
-        if close[k] {
-            return true;
-        }
-    }
-    if k == 0 {
-        return false;
-    }
-    close[k - 1]
+    (k < SCANS && close[k]) || (0 < k && close[k - 1])
 }
 
 // The swap at the cut before all scans, if there is one: the rows are exchanged, and cost xa and xb then.
-fn first_swap(cut: bool, first: ScanIndex, xa: f64, xb: f64, base: f64) -> PairMove
+fn first_swap(cut: bool, first: ScanIndex, xa: f64, xb: f64, base: f64) -> Option<PairMove>
     ensures { result ≡ first_swap cut first xa xb base }
 {
     if cut {
         let gain = xa + xb - base;
-        return search_merge::better_pair(PairMove::Stay, PairMove::Swap { cut: first, gain });
+        return better(None, PairMove::Swap { cut: first, gain });
     }
-    PairMove::Stay
+    None
 }
 
 // The best swap, at each cut: the folds over both rows go on from cut to cut. Before all scans the rows are exchanged, and cost xa and xb; a cut at or past the
-// end of both, `end`, would leave them as they are.
-fn best_swap<'a>(
-    hall: Hall,
-    pa: Fold,
-    pb: Fold,
+// end of both would leave them as they are.
+fn best_swap(
+    prices: &Prices<'_>,
+    close: &[bool; SCANS],
+    a: &Window<'_>,
+    b: &Window<'_>,
     xa: f64,
     xb: f64,
-    close: &'a [bool; SCANS],
-    a: &'a [usize; SCANS],
-    b: &'a [usize; SCANS],
-    ea: usize,
-    eb: usize,
-    end: usize,
-    base: f64,
-    dots: &'a [f64; DOTS],
-    logs: &mut [f64; LOGS],
-) -> PairMove
-    requires { Swaps hall pa pb xa xb close.now a.now b.now ea eb end base dots.now logs.old }
-    ensures value { result ≡ best_swap_row hall.config (view_in hall dots.now) pa pb close.now a.now b.now base }
-    ensures logs_kept { LogsKept logs.new }
+    logs: &mut Logs,
+) -> Option<PairMove>
+    requires { Exchanged prices.now close.now a.now b.now xa xb }
+    ensures { result
+        ≡ best_swap_row prices.now.config (view_in prices.now) a.now.from b.now.from close.now
+        a.now.row.now b.now.row.now (a.now.cost ⊕ b.now.cost) }
 {
-    let mut best = first_swap(is_cut(close, 0), hall.first, xa, xb, base);
-    let mut fa = [0.0; FOLD];
-    let mut fb = [0.0; FOLD];
-    let mut sa = pa.lend(&mut fa);
-    let mut sb = pb.lend(&mut fb);
+    let paid = a.cost + b.cost;
+    let end = a.end.max(b.end);
+    let mut best = first_swap(is_cut(close, 0), prices.first, xa, xb, paid);
+    let mut fa = a.from;
+    let mut fb = b.from;
     let mut done: usize = 0;
-    let mut k: usize = 1;
-    while k < end {
+    for k in 1..end {
         if is_cut(close, k) {
-            sa = cost_row::fold_to(hall, sa, &mut fa, a, done, k, dots, logs);
-            sb = cost_row::fold_to(hall, sb, &mut fb, b, done, k, dots, logs);
+            fa = cost_row::fold_to(prices, &fa, a.row, done, k, logs);
+            fb = cost_row::fold_to(prices, &fb, b.row, done, k, logs);
             done = k;
-            let gain = swap_gain(hall, sa, sb, &fa, &fb, a, b, ea, eb, k, base, dots, logs);
-            let cut = ScanIndex(hall.first.0 + k as u64);
-            best = search_merge::better_pair(best, PairMove::Swap { cut, gain });
+            let gain = swap_gain(prices, a, b, &fa, &fb, k, paid, logs);
+            let cut = ScanIndex(prices.first.0 + k as u64);
+            best = better(best, PairMove::Swap { cut, gain });
         }
-        k += 1;
     }
     best
 }
 
-// The cost with the rows exchanged is asked for: by the cut before all scans, or by a merge into a track that has no scan alone.
-fn is_asked(cut: bool, alone: u64) -> bool
-    ensures { (cut ≡ true → result ≡ true) × (alone ≡ 0 → result ≡ true) }
-{
-    if cut {
-        return true;
-    }
-    alone == 0
-}
-
-// What the window that goes on from p would cost with another row, if that is asked for.
-fn exchanged_cost<'a>(
-    asked: bool,
-    hall: Hall,
-    p: Fold,
-    row: &'a [usize; SCANS],
-    end: usize,
-    dots: &'a [f64; DOTS],
-    logs: &mut [f64; LOGS],
+// What the window of `mine` would cost with another row. It is asked for by the cut before all scans, or by a merge into a track that has no scan alone; else
+// the answer is 0.0.
+// As it is: no Option, since who reads the answer knows by the cut, or by the scans alone, that it was asked for, and would have a None that never comes.
+fn exchanged_cost(
+    prices: &Prices<'_>,
+    mine: &Window<'_>,
+    other: &Window<'_>,
+    cut: bool,
+    alone: u64,
+    logs: &mut Logs,
 ) -> f64
-    requires { Priced hall logs.old × EndsBy end row.now × (misses_of p ≡ 0) }
-    ensures value { asked ≡ true → result ≡ row_cost hall.config (view_in hall dots.now) p row.now }
-    ensures logs_kept { LogsKept logs.new }
+    ensures by_cut { cut ≡ true → result ≡ row_cost prices.now.config (view_in prices.now) mine.now.from other.now.row.now }
+    ensures by_merge { alone ≡ 0 → result ≡ row_cost prices.now.config (view_in prices.now) mine.now.from other.now.row.now }
 {
-    if asked {
-        return cost_row::row_cost(hall, p, row, end, dots, logs);
+    if cut || alone == 0 {
+        return cost_row::row_cost(prices, &mine.from, other.row, other.end, logs);
     }
     0.0
 }
 
-// The later of two ends.
-fn later(x: usize, y: usize) -> usize
-    ensures { (x ≤ result) × (y ≤ result) × (x ≤ SCANS → y ≤ SCANS → result ≤ SCANS) }
+// The best move of a pair, or none: the scans in which they are close, and their windows. It asks for costs that are right.
+pub fn best_of_pair(
+    prices: &Prices<'_>,
+    close: &[bool; SCANS],
+    a: &Window<'_>,
+    b: &Window<'_>,
+    logs: &mut Logs,
+) -> Option<PairMove>
+    requires { (a.now.cost ≡ row_cost prices.now.config (view_in prices.now) a.now.from a.now.row.now)
+        × (b.now.cost ≡ row_cost prices.now.config (view_in prices.now) b.now.from b.now.row.now) }
+    ensures { result
+        ≡ best_pair_row prices.now.config (view_in prices.now) a.now.id b.now.id a.now.from b.now.from close.now
+        a.now.row.now b.now.row.now (a.now.cost ⊕ b.now.cost) }
 {
-    if x < y { y } else { x }
-}
-
-// The best move of a pair: its ids, what their windows go on from, the scans in which they are close, their rows, and what each costs now. It asks for rows of
-// SCANS scans, scan numbers below 2^33, and costs and logarithms that are right.
-pub fn best_of_pair<'a>(
-    hall: Hall,
-    x: RefinedId,
-    y: RefinedId,
-    pa: Fold,
-    pb: Fold,
-    close: &'a [bool; SCANS],
-    a: &'a [usize; SCANS],
-    b: &'a [usize; SCANS],
-    ca: f64,
-    cb: f64,
-    dots: &'a [f64; DOTS],
-    logs: &mut [f64; LOGS],
-) -> PairMove
-    requires { Priced hall logs.old × Fit pa a.now × Fit pb b.now × (length close.now ≡ SCANS)
-        × (ca ≡ row_cost hall.config (view_in hall dots.now) pa a.now) × (cb ≡ row_cost hall.config (view_in hall dots.now) pb b.now) }
-    ensures value { result
-        ≡ best_pair_row hall.config (view_in hall dots.now) x y pa pb close.now a.now b.now (ca ⊕ cb) }
-    ensures logs_kept { LogsKept logs.new }
-{
-    let base = ca + cb;
-    let ea = rows::end_of(a);
-    let eb = rows::end_of(b);
-    let end = later(ea, eb);
-    let o = search_merge::overlap_of(a, b);
-    let cut = is_cut(close, 0);
-    let xa = exchanged_cost(is_asked(cut, o.mine), hall, pa, b, eb, dots, logs);
-    let xb = exchanged_cost(is_asked(cut, o.theirs), hall, pb, a, ea, dots, logs);
-    let swap = best_swap(
-        hall, pa, pb, xa, xb, close, a, b, ea, eb, end, base, dots, logs,
-    );
-    let best = search_merge::better_merge(
-        hall, swap, x, pa, ca, xa, o, a, b, end, base, dots, logs,
-    );
+    let base = a.cost + b.cost;
+    let o = search_merge::overlap_of(a.row, b.row);
     let back = o.turned();
-    search_merge::better_merge(hall, best, y, pb, cb, xb, back, b, a, end, base, dots, logs)
+    let cut = is_cut(close, 0);
+    let xa = exchanged_cost(prices, a, b, cut, o.mine, logs);
+    let xb = exchanged_cost(prices, b, a, cut, back.mine, logs);
+    let swap = best_swap(prices, close, a, b, xa, xb, logs);
+    let best = search_merge::better_merge(prices, swap, a, b, xa, o, base, logs);
+    search_merge::better_merge(prices, best, b, a, xb, back, base, logs)
 }

@@ -1,12 +1,11 @@
 -- What a move does to the gathered ids, and what it counts. Definitions only.
-use Rattle.std.specs.Prelude.{ℕ, zero, suc, ◌+◌, ◌^◌, Bool, true, false, cond, not, List, ◌++◌, map, get_or, take, drop, eqb, leb, ltb}
+use Rattle.std.specs.Prelude.{ℕ, zero, suc, ◌+◌, ◌^◌, Bool, true, false, cond, List, ◌++◌, map, get_or, take, drop, eqb, leb, ltb}
 use Rattle.bounds.specs.Bounds.{SCANS}
 use Rattle.fgo_spec.specs.declared.moves.FgoCounters.{FgoCounters}
 use Rattle.fgo_spec.specs.declared.moves.PairMove.{PairMove}
-use Rattle.fgo_spec.specs.declared.moves.PairMove.TheVariants.{Stay, Swap, Merge}
+use Rattle.fgo_spec.specs.declared.moves.PairMove.TheVariants.{Swap, Merge}
 use Rattle.fgo_spec.specs.declared.moves.TrackMove.{TrackMove}
-use Rattle.fgo_spec.specs.declared.moves.TrackMove.TheVariants.{Split, Drop, Stay as Rest}
-use Rattle.fgo_spec.specs.Searching.{pair_moves, track_moves}
+use Rattle.fgo_spec.specs.declared.moves.TrackMove.TheVariants.{Split, Drop}
 use Rattle.fgo_spec.specs.Lists.{segment}
 use Rattle.search_rows.specs.declared.moves.Targets.{Targets}
 use Rattle.search_rows.specs.declared.moves.Tally.{Tally}
@@ -31,7 +30,6 @@ other_target false hk k = k
 
 -- what becomes of a and b in the scan n, where ha and hb say which have a detection there
 abbrev pub pair_targets : PairMove → ℕ → ℕ → ℕ → Bool → Bool → Targets
-pair_targets Stay a b n ha hb = become a b
 pair_targets (Swap f g) a b n ha hb = cond (leb f.0 n) (become b a) (become a b)
 pair_targets (Merge k own g) a b n ha hb =
     cond (eqb a k.0)
@@ -40,7 +38,6 @@ pair_targets (Merge k own g) a b n ha hb =
 
 -- what becomes of a in the scan n, where a new track would be x
 abbrev pub track_targets : TrackMove → ℕ → ℕ → ℕ → Targets
-track_targets Rest a x n = become a x
 track_targets (Split f g) a x n = cond (leb f.0 n) (become x a) (become a x)
 track_targets (Drop f g) a x n = cond (eqb f.0 n) (become 0 x) (become a x)
 
@@ -72,21 +69,12 @@ track_ids first starts m a x ids = renamed_from starts a x (λ k. track_targets 
 abbrev pub one_more : ℕ → ℕ
 one_more n = cond (ltb n (2 ^ 63)) (n + 1) n
 
--- the pair stays as it is
-abbrev pub pair_stays : PairMove → Bool
-pair_stays m = not (pair_moves m)
-
--- the track stays as it is
-abbrev pub track_stays : TrackMove → Bool
-track_stays m = not (track_moves m)
-
 -- a pass begins: it has made no move yet
 abbrev pub begun : Tally → Tally
 begun t = record { next_id = t.next_id; counters = t.counters; passes = one_more t.passes; moved = false }
 
 -- the counters after a move of a pair
 abbrev pub pair_counters : PairMove → FgoCounters → FgoCounters
-pair_counters Stay k = k
 pair_counters (Swap f g) k = record { swaps = one_more k.swaps; merges = k.merges; splits = k.splits; drops = k.drops }
 pair_counters (Merge i own g) k = record { swaps = k.swaps; merges = one_more k.merges; splits = k.splits; drops = k.drops }
 
@@ -96,13 +84,11 @@ pair_tally m t = record { next_id = t.next_id; counters = pair_counters m t.coun
 
 -- the counters after a move of a single track
 abbrev pub track_counters : TrackMove → FgoCounters → FgoCounters
-track_counters Rest k = k
 track_counters (Split f g) k = record { swaps = k.swaps; merges = k.merges; splits = one_more k.splits; drops = k.drops }
 track_counters (Drop f g) k = record { swaps = k.swaps; merges = k.merges; splits = k.splits; drops = one_more k.drops }
 
 -- the next id after a move of a single track: the tail of a split "gets the next id"
 abbrev pub next_id_after : TrackMove → ℕ → ℕ
-next_id_after Rest n = n
 next_id_after (Split f g) n = one_more n
 next_id_after (Drop f g) n = n
 

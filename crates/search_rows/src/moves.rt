@@ -1,8 +1,9 @@
 // What a move does to the gathered ids, and what it counts.
-ghost use Rattle.std.specs.Prelude.{◌≡◌, ◌^◌, ◌≤◌, ◌<◌, length};
+ghost use Rattle.std.specs.Prelude.{◌≡◌, ◌^◌, ◌≤◌, ◌<◌, length, Float};
 ghost use Rattle.bounds.specs.Bounds.{DETECTIONS, SCANS};
+ghost use Rattle.fgo_spec.specs.Searching.{best_gain, better, pair_gain, track_gain};
 ghost use Rattle.search_rows.specs.Rows.{Starts};
-ghost use Rattle.search_rows.specs.Moves.{retarget, keeper_target, other_target, pair_targets, track_targets, map_over, pair_ids, track_ids, one_more, pair_stays, track_stays, begun, pair_counters, pair_tally, track_counters, next_id_after, track_tally};
+ghost use Rattle.search_rows.specs.Moves.{retarget, keeper_target, other_target, pair_targets, track_targets, map_over, pair_ids, track_ids, one_more, begun, pair_counters, pair_tally, track_counters, next_id_after, track_tally};
 
 use bounds::{DETECTIONS, SCANS, STARTS};
 use engine::types::{RefinedId, ScanIndex};
@@ -10,6 +11,61 @@ use fgo_spec::moves::{FgoCounters, PairMove, TrackMove};
 
 // From here on a number is counted no further: 2^63.
 const FULL: u64 = 0x8000_0000_0000_0000;
+
+// A candidate for the best move, with what it gains: below 0 where it lowers the costs.
+pub trait Candidate: Copy {
+    ghost gain_of: { Self → Float };
+
+    fn gain(self) -> f64
+        ensures { result ≡ gain_of self };
+}
+
+impl Candidate for PairMove {
+    ghost gain_of = { pair_gain };
+
+    fn gain(self) -> f64 {
+        match self {
+            PairMove::Swap { cut: _, gain } => gain,
+            PairMove::Merge {
+                keeper: _,
+                own: _,
+                gain,
+            } => gain,
+        }
+    }
+}
+
+impl Candidate for TrackMove {
+    ghost gain_of = { track_gain };
+
+    fn gain(self) -> f64 {
+        match self {
+            TrackMove::Split { cut: _, gain } => gain,
+            TrackMove::Drop { scan: _, gain } => gain,
+        }
+    }
+}
+
+// What the best so far gains; 0.0 where there is none.
+fn best_gain<M: Candidate>(best: Option<M>) -> f64
+    ensures { result ≡ best_gain M.gain_of best }
+{
+    match best {
+        Some(m) => m.gain(),
+        None => 0.0,
+    }
+}
+
+// The best so far or a candidate, which wins only if its gain is below the best by more than 1e-9.
+pub fn better<M: Candidate>(best: Option<M>, m: M) -> Option<M>
+    ensures { result ≡ better M.gain_of best m }
+{
+    if m.gain() < best_gain(best) - 0.000000001 {
+        Some(m)
+    } else {
+        best
+    }
+}
 
 // What becomes of two ids in one scan; 0 is clutter.
 #[derive(Clone, Copy)]
@@ -39,17 +95,13 @@ fn rename_scan(
     requires { (from ≤ to) × (to ≤ DETECTIONS) × (length ids.old ≡ DETECTIONS) }
     ensures { ids.new ≡ map_over (retarget a.0 b.0 t) from to ids.old }
 {
-    let mut i = from;
-    while i < to {
+    for i in from..to {
         let x = ids[i];
         if x == a.0 {
             ids[i] = t.a.0;
-        } else {
-            if x == b.0 {
-                ids[i] = t.b.0;
-            }
+        } else if x == b.0 {
+            ids[i] = t.b.0;
         }
-        i += 1;
     }
 }
 
@@ -85,7 +137,6 @@ fn pair_targets(
     ensures { result ≡ pair_targets m a.0 b.0 n.0 ha hb }
 {
     match m {
-        PairMove::Stay => Targets { a, b },
         PairMove::Swap { cut, gain: _ } => {
             if cut.0 <= n.0 {
                 return Targets { a: b, b: a };
@@ -125,11 +176,9 @@ pub fn apply_pair<'a>(
     requires { (first.0 < 2 ^ 33) × Starts starts.now × (length ra.now ≡ SCANS) × (length rb.now ≡ SCANS) × (length ids.old ≡ DETECTIONS) }
     ensures { ids.new ≡ pair_ids first.0 starts.now m a.0 b.0 ra.now rb.now ids.old }
 {
-    let mut k: usize = 0;
-    while k < SCANS {
+    for k in 0..SCANS {
         let t = pair_targets(m, a, b, ScanIndex(first.0 + k as u64), 0 < ra[k], 0 < rb[k]);
         rename_scan(starts[k], starts[k + 1], a, b, t, ids);
-        k += 1;
     }
 }
 
@@ -138,7 +187,6 @@ fn track_targets(m: TrackMove, a: RefinedId, x: RefinedId, n: ScanIndex) -> Targ
     ensures { result ≡ track_targets m a.0 x.0 n.0 }
 {
     match m {
-        TrackMove::Stay => Targets { a, b: x },
         TrackMove::Split { cut, gain: _ } => {
             if cut.0 <= n.0 {
                 return Targets { a: x, b: a };
@@ -169,11 +217,9 @@ pub fn apply_track<'a>(
     requires { (first.0 < 2 ^ 33) × Starts starts.now × (length ids.old ≡ DETECTIONS) }
     ensures { ids.new ≡ track_ids first.0 starts.now m a.0 x.0 ids.old }
 {
-    let mut k: usize = 0;
-    while k < SCANS {
+    for k in 0..SCANS {
         let t = track_targets(m, a, x, ScanIndex(first.0 + k as u64));
         rename_scan(starts[k], starts[k + 1], a, x, t, ids);
-        k += 1;
     }
 }
 
@@ -187,79 +233,47 @@ fn one_more(n: u64) -> u64
     n
 }
 
-pub fn pair_stays(m: PairMove) -> bool
-    ensures { result ≡ pair_stays m }
-{
-    match m {
-        PairMove::Stay => true,
-        PairMove::Swap { cut: _, gain: _ } => false,
-        PairMove::Merge {
-            keeper: _,
-            own: _,
-            gain: _,
-        } => false,
-    }
-}
-
-pub fn track_stays(m: TrackMove) -> bool
-    ensures { result ≡ track_stays m }
-{
-    match m {
-        TrackMove::Stay => true,
-        TrackMove::Split { cut: _, gain: _ } => false,
-        TrackMove::Drop { scan: _, gain: _ } => false,
-    }
-}
-
+// The counters after a move of a pair.
 fn pair_counters(m: PairMove, k: FgoCounters) -> FgoCounters
     ensures { result ≡ pair_counters m k }
 {
     match m {
-        PairMove::Stay => k,
         PairMove::Swap { cut: _, gain: _ } => FgoCounters {
             swaps: one_more(k.swaps),
-            merges: k.merges,
-            splits: k.splits,
-            drops: k.drops,
+            ..k
         },
         PairMove::Merge {
             keeper: _,
             own: _,
             gain: _,
         } => FgoCounters {
-            swaps: k.swaps,
             merges: one_more(k.merges),
-            splits: k.splits,
-            drops: k.drops,
+            ..k
         },
     }
 }
 
+// The counters after a move of a track.
 fn track_counters(m: TrackMove, k: FgoCounters) -> FgoCounters
     ensures { result ≡ track_counters m k }
 {
     match m {
-        TrackMove::Stay => k,
         TrackMove::Split { cut: _, gain: _ } => FgoCounters {
-            swaps: k.swaps,
-            merges: k.merges,
             splits: one_more(k.splits),
-            drops: k.drops,
+            ..k
         },
         TrackMove::Drop { scan: _, gain: _ } => FgoCounters {
-            swaps: k.swaps,
-            merges: k.merges,
-            splits: k.splits,
             drops: one_more(k.drops),
+            ..k
         },
     }
 }
 
+// The next id after a move of a track: the tail of a split takes one.
 fn next_id(m: TrackMove, n: RefinedId) -> RefinedId
     ensures { result.0 ≡ next_id_after m n.0 }
 {
     match m {
-        TrackMove::Stay => n,
         TrackMove::Split { cut: _, gain: _ } => RefinedId(one_more(n.0)),
         TrackMove::Drop { scan: _, gain: _ } => n,
     }
@@ -270,13 +284,10 @@ impl Tally {
     pub fn begin(self) -> Tally
         ensures { result ≡ begun self }
     {
-        let counters = self.counters;
-        let next_id = self.next_id;
         Tally {
-            next_id,
-            counters,
             passes: one_more(self.passes),
             moved: false,
+            ..self
         }
     }
 
@@ -284,13 +295,10 @@ impl Tally {
     pub fn count_pair(self, m: PairMove) -> Tally
         ensures { result ≡ pair_tally m self }
     {
-        let next_id = self.next_id;
-        let counters = pair_counters(m, self.counters);
         Tally {
-            next_id,
-            counters,
-            passes: self.passes,
+            counters: pair_counters(m, self.counters),
             moved: true,
+            ..self
         }
     }
 
@@ -298,12 +306,11 @@ impl Tally {
     pub fn count_track(self, m: TrackMove) -> Tally
         ensures { result ≡ track_tally m self }
     {
-        let counters = track_counters(m, self.counters);
         Tally {
             next_id: next_id(m, self.next_id),
-            counters,
-            passes: self.passes,
+            counters: track_counters(m, self.counters),
             moved: true,
+            ..self
         }
     }
 }

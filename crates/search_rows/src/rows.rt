@@ -12,29 +12,17 @@ fn place_of(x: RefinedId, n: usize, l: &[u64; DETECTIONS]) -> usize
     requires { (n ≤ DETECTIONS) × (length l.now ≡ DETECTIONS) }
     ensures { result ≡ place_in x.0 (take n l.now) }
 {
-    let mut p: usize = 0;
-    while p < n {
-        if x.0 <= l[p] {
-            return p;
-        }
-        p += 1;
-    }
-    n
+    l[..n].iter().position(|y| x.0 <= *y).unwrap_or(n)
 }
 
 // The ids from p on move up by one place.
 fn move_up(p: usize, n: usize, l: &mut [u64; DETECTIONS])
     requires { (p ≤ n) × (n < DETECTIONS) × (length l.old ≡ DETECTIONS) }
-    ensures l_len { length l.new ≡ DETECTIONS }
-    ensures l_unchanged { take p l.new ≡ take p l.old }
-    ensures l_after { segment (p + 1) (n + 1) l.new ≡ segment p n l.old }
+    ensures long { length l.new ≡ DETECTIONS }
+    ensures before_stays { take p l.new ≡ take p l.old }
+    ensures moved_up { segment (p + 1) (n + 1) l.new ≡ segment p n l.old }
 {
-    let mut j = n;
-    while p < j {
-        let y = l[j - 1];
-        l[j] = y;
-        j -= 1;
-    }
+    l.copy_within(p..n, p + 1);
 }
 
 // An id added to the first n of an ascending table, once.
@@ -59,9 +47,7 @@ pub fn present(n: usize, ids: &[u64; DETECTIONS], table: &mut [u64; DETECTIONS])
     ensures { Begins (present_in n ids.now) result table.new }
 {
     let mut m: usize = 0;
-    let mut i = n;
-    while 0 < i {
-        i -= 1;
+    for i in (0..n).rev() {
         let x = ids[i];
         if 0 < x {
             m = insert(RefinedId(x), m, table);
@@ -72,17 +58,13 @@ pub fn present(n: usize, ids: &[u64; DETECTIONS], table: &mut [u64; DETECTIONS])
 
 // One more than the first place of x from a up to b, 0 where there is none.
 fn slot_in(x: RefinedId, a: usize, b: usize, ids: &[u64; DETECTIONS]) -> usize
-    requires { (b ≤ DETECTIONS) × (length ids.now ≡ DETECTIONS) }
+    requires { (a ≤ b) × (b ≤ DETECTIONS) × (length ids.now ≡ DETECTIONS) }
     ensures { result ≡ slot_in x.0 a (segment a b ids.now) }
 {
-    let mut i = a;
-    while i < b {
-        if x.0 == ids[i] {
-            return i + 1;
-        }
-        i += 1;
+    match ids[a..b].iter().position(|y| x.0 == *y) {
+        Some(i) => a + i + 1,
+        None => 0,
     }
-    0
 }
 
 // The row of x. It asks for starts that rise to DETECTIONS at most.
@@ -95,10 +77,8 @@ pub fn fill_row<'a>(
     requires { Starts starts.now × (length ids.now ≡ DETECTIONS) × (length row.old ≡ SCANS) }
     ensures { row.new ≡ row_of starts.now ids.now x.0 }
 {
-    let mut k: usize = 0;
-    while k < SCANS {
+    for k in 0..SCANS {
         row[k] = slot_in(x, starts[k], starts[k + 1], ids);
-        k += 1;
     }
 }
 
@@ -107,14 +87,7 @@ fn first_in(row: &[usize; SCANS]) -> usize
     requires { length row.now ≡ SCANS }
     ensures { result ≡ first_in row.now }
 {
-    let mut k: usize = 0;
-    while k < SCANS {
-        if 0 < row[k] {
-            return k;
-        }
-        k += 1;
-    }
-    SCANS
+    row.iter().position(|x| 0 < *x).unwrap_or(SCANS)
 }
 
 // One more than the last scan in which the row has a detection, 0 where there is none. It asks for a whole row.
@@ -122,14 +95,12 @@ pub fn end_of(row: &[usize; SCANS]) -> usize
     requires { length row.now ≡ SCANS }
     ensures { result ≡ end_from 0 0 row.now }
 {
-    let mut e = SCANS;
-    while 0 < e {
-        if 0 < row[e - 1] {
-            return e;
+    for k in (0..SCANS).rev() {
+        if 0 < row[k] {
+            return k + 1;
         }
-        e -= 1;
     }
-    e
+    0
 }
 
 // A row, its first scan and its end, as entry i of the table. It asks for a row whose entries fit a byte.
@@ -138,10 +109,8 @@ fn put_entry(i: usize, row: &[usize; SCANS], rows: &mut [u8; ROWS])
     ensures { rows.new ≡ take (ROW * i) rows.old ++ (entry_of row.now ++ drop (ROW * i + ROW) rows.old) }
 {
     let at = ROW * i;
-    let mut k: usize = 0;
-    while k < SCANS {
+    for k in 0..SCANS {
         rows[at + k] = row[k] as u8;
-        k += 1;
     }
     rows[at + SCANS] = first_in(row) as u8;
     rows[at + SCANS + 1] = end_of(row) as u8;
@@ -159,10 +128,8 @@ pub fn fill_rows<'a>(
     ensures { Tabled starts.now ids.now table.now n rows.new }
 {
     let mut row = [0usize; SCANS];
-    let mut i: usize = 0;
-    while i < n {
+    for i in 0..n {
         fill_row(RefinedId(table[i]), starts, ids, &mut row);
         put_entry(i, &row, rows);
-        i += 1;
     }
 }

@@ -1,5 +1,5 @@
 -- The best move of one row: document 01's candidates, in its order. Definitions only.
-use Rattle.std.specs.Prelude.{ℕ, suc, ◌+◌, ◌<◌, ◌≡◌, Bool, true, cond, length, get_or, take, drop, ltb, Float}
+use Rattle.std.specs.Prelude.{ℕ, suc, ◌+◌, ◌<◌, ◌≡◌, Bool, true, cond, length, get_or, take, drop, ltb, Float, Option, None}
 use mathlib.Core.List.{List, ◌++◌, map, foldl}
 use Rattle.std.specs.Float.{nan}
 use Rattle.bounds.specs.Bounds.{SCANS}
@@ -9,7 +9,7 @@ use Rattle.cost.specs.declared.Fold.{Fold}
 use Rattle.cost.specs.declared.Fold.TheVariants.{Fresh, Frozen, Going}
 use Rattle.cost.specs.Cost.{View, measurements, closed, cost}
 use Rattle.fgo_spec.specs.declared.moves.TrackMove.{TrackMove}
-use Rattle.fgo_spec.specs.declared.moves.TrackMove.TheVariants.{Split, Drop, Stay as Rest}
+use Rattle.fgo_spec.specs.declared.moves.TrackMove.TheVariants.{Split, Drop}
 use Rattle.fgo_spec.specs.Lists.{keep, up_from}
 use Rattle.fgo_spec.specs.Searching.{◌⊕◌, ◌⊖◌, better_track}
 use Rattle.search_rows.specs.Moves.{has_slot}
@@ -38,15 +38,15 @@ frozen_one (Frozen k l) = 1
 frozen_one (Going s) = 1
 
 -- "Splits of the window are tried after its detection 1, 2 and so on"
-unfoldable pub best_split_row : FgoConfig → View → Fold → List ℕ → Float → TrackMove
-best_split_row c v p r base = foldl better_track Rest (map (try_split_row c v p r base) (drop 1 (marks r)))
+unfoldable pub best_split_row : FgoConfig → View → Fold → List ℕ → Float → Option TrackMove
+best_split_row c v p r base = foldl better_track None (map (try_split_row c v p r base) (drop 1 (marks r)))
 
 -- "the drop of each single detection is tried"
-unfoldable pub best_drop_row : FgoConfig → View → Fold → List ℕ → Float → TrackMove → TrackMove
+unfoldable pub best_drop_row : FgoConfig → View → Fold → List ℕ → Float → Option TrackMove → Option TrackMove
 best_drop_row c v p r base best = foldl better_track best (map (try_drop_row c v p r base) (marks r))
 
 -- "if the window's length, plus 1 where there is a frozen part, exceeds 1"
-unfoldable pub best_track_row : FgoConfig → View → Fold → List ℕ → Float → TrackMove
+unfoldable pub best_track_row : FgoConfig → View → Fold → List ℕ → Float → Option TrackMove
 best_track_row c v p r base =
     let best = best_split_row c v p r base in
     cond (ltb 1 (length (marks r) + frozen_one p)) (best_drop_row c v p r base best) best
@@ -54,7 +54,7 @@ best_track_row c v p r base =
 -- ---- by the fold over the scans before a detection
 
 -- the best so far or the split before scan k; there is none before the first detection
-abbrev pub better_split : FgoConfig → View → TrackMove → Bool → Fold → List ℕ → ℕ → Float → TrackMove
+abbrev pub better_split : FgoConfig → View → Option TrackMove → Bool → Fold → List ℕ → ℕ → Float → Option TrackMove
 better_split c v best seen f r k base = cond seen (better_track best (Split (scan_at v k) (closed c f ⊕ cost c Fresh (measurements v k (drop k r)) ⊖ base))) best
 
 -- what the drop of the detection in scan k gains
@@ -67,5 +67,5 @@ pub record DropGains (c : FgoConfig) (v : View) (p : Fold) (r : List ℕ) (base 
   pub each : (j : ℕ) → j < k → has_slot r j ≡ true → get_or gains j nan ≡ drop_gain c v (head_of c v p r j) r j base
 
 -- the best so far, or the drop of a detection, by what each gains; first is the number of the oldest scan
-unfoldable pub best_drop_by : ℕ → List Float → List ℕ → TrackMove → TrackMove
+unfoldable pub best_drop_by : ℕ → List Float → List ℕ → Option TrackMove → Option TrackMove
 best_drop_by first gains r best = foldl better_track best (map (λ k. Drop (record { 0 = first + k }) (get_or gains k nan)) (marks r))

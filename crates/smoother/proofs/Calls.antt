@@ -8,8 +8,7 @@ use native.Mathlib.Nat.{sub-zero}
 use lib.ListN.{length}
 use lib.Ieee.{Float}
 use borrow.Author.Tests.{lt-ltb, le-ltb}
-use Rattle.buffers.specs.declared.Answer.TheVariants.{Held}
-use Rattle.buffers.specs.Answer.{Op, pushed, refused, waits, gives, Written, Ends, checked}
+use Rattle.buffers.specs.Answer.{Op, pushed, refused, waits, gives, Written, Ends, checked, Held}
 use Rattle.buffers.proofs.Checking.{check_refused}
 use Rattle.smoother_frame.specs.Frame.{well_formed}
 use Rattle.smoother_window.specs.declared.FixedLagSmoother.{FixedLagSmoother}
@@ -19,9 +18,8 @@ use Rattle.smoother_window.proofs.Forms.{frames_long, formed_more, all_counted, 
 use Rattle.smoother_window.proofs.Storing.{released}
 use Rattle.smoother_pass.specs.Pass.{emitted}
 use Rattle.smoother_pass.specs.Oldest.{oldest}
-use Rattle.smoother.specs.declared.Pushed.{Pushed}
 use Rattle.smoother.specs.Smoother.{State, held, emit_oldest, settle, push, takes, reply}
-use Rattle.smoother.specs.Promise.{Window, state_in, later_refusal, due, Promised, refused_as, Emits}
+use Rattle.smoother.specs.Promise.{Window, state_in, later_refusal, due, Promised, refused_as, Emits, Pushed}
 use Rattle.smoother.proofs.Refusals.{passing}
 
 -- ---- what is due

@@ -17,9 +17,8 @@ use Rattle.smoother_window.specs.declared.FixedLagSmoother.{FixedLagSmoother}
 use Rattle.smoother_window.specs.Config.{lag, density, most, bounded}
 use Rattle.smoother_window.specs.Window.{all_formed}
 use Rattle.smoother_pass.specs.Pass.{emitted}
-use Rattle.smoother.specs.declared.Pushed.{Pushed}
 use Rattle.smoother.specs.Smoother.{State, holding, window_fits, rule_ok, emit_oldest, takes, finish}
-use Rattle.smoother.specs.Promise.{Window, state_in, later_refusal, Promised}
+use Rattle.smoother.specs.Promise.{Window, state_in, later_refusal, Promised, Pushed}
 use Rattle.smoother.proofs.Refusals.{none_of}
 use Rattle.smoother.proofs.Calls.{due_passed}
 

@@ -4,6 +4,8 @@ use mathlib.Core.Path.{◌≡◌, refl}
 use mathlib.Core.Bool.{Bool, true, false, cond, ◌&&◌}
 use mathlib.Core.List.{List}
 use native.Mathlib.Omega.{arith}
+use Rattle.std.specs.declared.option.Option.{Option as Answer}
+use Rattle.std.specs.declared.option.Option.TheVariants.{Some, None}
 use lib.ListN.{length}
 use lib.Dec.{leb}
 use lib.Ieee.{Float}
@@ -30,6 +32,16 @@ fitting s win nums h g =
     let a = bounds s.config h in
     let b = both _ _ g in
     record { lags = a.0; tracks = a.1; words = eqb-true _ _ b.0; numbers = eqb-true _ _ b.1 }
+
+-- something is answered where b holds
+pub some_when : {A : Type 0} (b : Bool) {f g : A} {r : Answer A} → r ≡ cond b (Some f) None → r ≡ Some g → (b ≡ true) × (g ≡ f)
+some_when true p q = (refl, cc)
+some_when false p q = (cc, cc)
+
+-- and nothing where it does not
+pub none_when : {A : Type 0} (b : Bool) (f : A) {r : Answer A} → r ≡ cond b (Some f) None → r ≡ None → b ≡ false
+none_when true f p q = cc
+none_when false f p q = refl
 
 -- none of three conditions in a row refuses
 pub none_of : (p q r : Bool) → ◌≡◌ {A = ℕ} (cond p (cond q (cond r 0 4) 3) 2) 0 → (p ≡ true) × (q ≡ true) × (r ≡ true)

@@ -1,15 +1,14 @@
 -- What opening, push and take promise, for any values that a caller hands over. Definitions only.
-use Rattle.std.specs.Prelude.{ℕ, ◌≡◌, cond, ◌&&◌, List, length, Float}
-use Rattle.buffers.specs.declared.Answer.TheVariants.{Refused}
-use Rattle.buffers.specs.Answer.{Opening, opened, unopened, Op, Reply, refused, gives, Written, roomy, checked, answer_of, Small, Ends}
+use Rattle.std.specs.Prelude.{ℕ, ◌≡◌, cond, ◌&&◌, List, length, Float, Result, Ok, Err, Option as Maybe}
+use Rattle.refusals.specs.declared.Refusal.{Refusal}
+use Rattle.refusals.specs.Refusals.{number_of}
+use Rattle.buffers.specs.declared.FrameSize.{FrameSize}
+use Rattle.buffers.specs.Answer.{Opening, opened, unopened, Op, Reply, gives, Written, roomy, checked, answer_of, Small, Ends, answer_in, Answer, Refused, Frame}
 use Rattle.buffers.specs.Buffers.{over}
 use Rattle.smoother_window.specs.declared.FixedLagSmoother.{FixedLagSmoother}
 use Rattle.smoother_window.specs.Config.{bounded}
 use Rattle.smoother_window.specs.Window.{frames_in, fewer}
 use Rattle.smoother_pass.specs.Oldest.{oldest}
-use Rattle.smoother.specs.declared.Opened.{Opened}
-use Rattle.smoother.specs.declared.Opened.TheVariants.{Refused as NotOpened, Ready}
-use Rattle.smoother.specs.declared.Pushed.{Pushed}
 use Rattle.smoother.specs.Smoother.{State, window_fits, rule_ok, reply}
 
 -- the two window buffers, which go with a smoother from call to call
@@ -28,11 +27,24 @@ state_in s w = record { config = s.config; frames = frames_in s w.words w.number
 -- ---- opening
 
 -- document 01's number for an opening that is refused, or what the new state stands for with this window
-abbrev pub opening_of : Opened → Window → Opening State
-opening_of (NotOpened n) w = unopened n
-opening_of (Ready s) w = opened (state_in s w)
+abbrev pub opening_of : Result FixedLagSmoother Refusal → Window → Opening State
+opening_of (Err r) w = unopened (number_of r)
+opening_of (Ok s) w = opened (state_in s w)
 
 -- ---- push and take
+
+-- what push or take gives, by value: an answer, and the state after it
+pub record Pushed : Type 0 where
+  pub answer : Answer
+  pub state : FixedLagSmoother
+
+-- what the code gives, so read
+abbrev pub pushed_as : Result (Maybe FrameSize) Refusal → FixedLagSmoother → Pushed
+pushed_as a s = record { answer = answer_in a; state = s }
+
+-- a frame that is given, after which the state holds one fewer
+abbrev pub given_off : FrameSize → FixedLagSmoother → Pushed
+given_off f s = record { answer = Frame f.words f.numbers; state = fewer s }
 
 -- push and take, with output buffers of so many words and numbers: 2, 3, 4 in the table's order; 0 for none
 unfoldable pub later_refusal : FixedLagSmoother → Window → ℕ → ℕ → ℕ

@@ -3,35 +3,26 @@
 
 ghost use Rattle.std.specs.Prelude.{◌≡◌, ◌+◌, ◌<◌, ◌≤◌, length};
 ghost use Rattle.bounds.specs.Bounds.{LAG, TRACKS, WORDS, NUMBERS};
+ghost use Rattle.refusals.specs.Refusals.{refused};
 ghost use Rattle.buffers.specs.Answer.{pushed, taken};
 ghost use Rattle.smoother_frame.specs.Frame.{frame as frame_of};
 ghost use Rattle.smoother_window.specs.Config as Config;
 ghost use Rattle.smoother_window.specs.Config.{lag, most};
-ghost use Rattle.smoother_window.specs.Window.{Fitting, AllCounted};
+ghost use Rattle.smoother_window.specs.Held as Held;
 ghost use Rattle.smoother.specs.Smoother as Smoother;
 ghost use Rattle.smoother.specs.Promise as Promise;
-ghost use Rattle.smoother.specs.Promise.{state_in, opening_of, later_refusal, Promised, Emits};
+ghost use Rattle.smoother.specs.Promise.{state_in, opening_of, later_refusal, pushed_as, given_off, Promised, Emits};
 
 use bounds::{LAG, TRACKS};
-use buffers::Answer;
+use buffers::{Answer, FrameSize};
+use refusals::Refusal;
 use scalar::bits;
-use smoother_frame::frame;
+use smoother_frame::frame::Frame;
 use smoother_pass::emit::{emit_numbers, emit_words};
-use smoother_window::{FixedLagSmoother, SmootherConfig, window};
-
-// What opening answers: refusal 1 or 2, or a smoother that holds nothing.
-#[derive(Clone, Copy)]
-pub enum Opened {
-    Refused(u8),
-    Ready(FixedLagSmoother),
-}
-
-// What push and take answer, and the state after it.
-#[derive(Clone, Copy)]
-pub struct Pushed {
-    pub answer: Answer,
-    pub state: FixedLagSmoother,
-}
+use smoother_window::held::HeldFrames;
+use smoother_window::size::{WindowSize, window_size};
+use smoother_window::window::Window;
+use smoother_window::{FixedLagSmoother, SmootherConfig};
 
 // ---- what is refused
 
@@ -39,13 +30,7 @@ pub struct Pushed {
 fn bounded(c: SmootherConfig) -> bool
     ensures { result ≡ Config.bounded c }
 {
-    if LAG < c.lag_frames {
-        return false;
-    }
-    if c.max_tracks < 1 {
-        return false;
-    }
-    c.max_tracks <= TRACKS
+    c.lag_frames <= LAG && 1 <= c.max_tracks && c.max_tracks <= TRACKS
 }
 
 // The window buffers have their lengths.
@@ -53,105 +38,92 @@ fn window_fits(c: SmootherConfig, words: usize, numbers: usize) -> bool
     requires { (lag c ≤ LAG) × (most c ≤ TRACKS) }
     ensures { result ≡ Smoother.window_fits c words numbers }
 {
-    if words != window::window_words(c.lag_frames, c.max_tracks) {
-        return false;
-    }
-    numbers == window::window_numbers(c.lag_frames, c.max_tracks)
+    window_size(c.lag_frames, c.max_tracks) == WindowSize { words, numbers }
 }
 
-// The refusal that an opening gets: 1, 2, or 0 for none.
-fn open_refusal(c: SmootherConfig, words: usize, numbers: usize) -> u8
-    ensures { result ≡ Smoother.open_refusal c words numbers }
+// Whether a smoother may be opened: or 1 or 2.
+fn check_open(c: SmootherConfig, words: usize, numbers: usize) -> Result<(), Refusal>
+    ensures { refused result ≡ Smoother.open_refusal c words numbers }
 {
     if !bounded(c) {
-        return 1;
+        return Err(Refusal::Setting);
     }
     if !bits::is_finite(c.accel_spectral_density) {
-        return 1;
+        return Err(Refusal::Setting);
     }
-    if window_fits(c, words, numbers) { 0 } else { 2 }
+    if !window_fits(c, words, numbers) {
+        return Err(Refusal::Window);
+    }
+    Ok(())
 }
 
 // The state keeps its rule: density finite, at most lag frames held, each well formed.
-fn rule_ok<'a>(s: FixedLagSmoother, win: &'a [u64], nums: &'a [f64]) -> bool
-    requires { Fitting s win.now nums.now }
-    ensures { result ≡ Smoother.rule_ok (state_in s (Promise.window win.now nums.now)) }
+fn rule_ok(window: &Window<'_>) -> bool
+    ensures { result ≡ Smoother.rule_ok (state_in window.now.state (Promise.window window.now.words.now window.now.values.now)) }
 {
-    if !bits::is_finite(s.config.accel_spectral_density) {
-        return false;
-    }
-    if s.config.lag_frames < s.held {
-        return false;
-    }
-    window::all_formed(s, win, nums)
+    bits::is_finite(window.state.config.accel_spectral_density)
+        && window.state.held <= window.state.config.lag_frames
+        && window.all_formed()
 }
 
-// The refusal that push and take get alike: 2, 3, 4, or 0 for none.
-fn later_refusal<'a>(
+// What push and take ask alike: or 2, 3 or 4.
+fn check_call<'a>(
     s: FixedLagSmoother,
     win: &'a [u64],
     nums: &'a [f64],
     words: usize,
     numbers: usize,
-) -> u8
-    ensures { result ≡ later_refusal s (Promise.window win.now nums.now) words numbers }
+) -> Result<(), Refusal>
+    ensures { refused result ≡ later_refusal s (Promise.window win.now nums.now) words numbers }
 {
     if !bounded(s.config) {
-        return 2;
+        return Err(Refusal::Window);
     }
     if !window_fits(s.config, win.len(), nums.len()) {
-        return 2;
+        return Err(Refusal::Window);
     }
-    if !rule_ok(s, win, nums) {
-        return 3;
+    let window = Window {
+        state: s,
+        words: win,
+        values: nums,
+    };
+    if !rule_ok(&window) {
+        return Err(Refusal::State);
     }
-    if buffers::is_roomy(words, numbers) {
-        0
-    } else {
-        4
+    if !buffers::is_roomy(words, numbers) {
+        return Err(Refusal::Output);
     }
-}
-
-// A refusal, which keeps the state.
-fn refused(s: FixedLagSmoother, n: u8) -> Pushed
-    ensures { result ≡ Promise.refused_as s n }
-{
-    let answer = Answer::Refused(n);
-    Pushed { answer, state: s }
+    Ok(())
 }
 
 // ---- the entry points
 
-// The oldest frame leaves, smoothed.
-fn emit_oldest<'a, 'b, 'c>(
-    s: FixedLagSmoother,
-    win: &'c [u64],
-    nums: &'c [f64],
-    words: &'a mut [u64],
-    numbers: &'b mut [f64],
-) -> Pushed
-    requires { Fitting s win.now nums.now × (s.held ≤ lag s.config + 1) × (0 < s.held) × AllCounted s win.now × (WORDS ≤ length words.old) × (NUMBERS ≤ length numbers.old) }
-    ensures { Emits s (Promise.window win.now nums.now) words.old numbers.old result words.new numbers.new }
+// The oldest frame held, smoothed, at the front of the output buffers: so many words and numbers.
+fn emit_oldest(held: &HeldFrames<'_>, words: &mut [u64], numbers: &mut [f64]) -> FrameSize
+    requires some { 0 < (Held.state_of held.now).held }
+    requires words { WORDS ≤ length words.old }
+    requires numbers { NUMBERS ≤ length numbers.old }
+    ensures { Emits (Held.state_of held.now) (Promise.window held.now.window.words.now held.now.window.values.now) words.old numbers.old
+        (given_off result (Held.state_of held.now)) words.new numbers.new }
 {
-    let n = emit_words(words, s, win);
-    let m = emit_numbers(numbers, s, win, nums);
-    let state = window::dropped(s);
-    let answer = Answer::Frame {
+    let n = emit_words(words, &held.frame(0), held.window.state.config);
+    let m = emit_numbers(numbers, held);
+    FrameSize {
         words: n,
         numbers: m,
-    };
-    Pushed { answer, state }
+    }
 }
 
 // A smoother that holds nothing, over these window buffers, into which it writes nothing yet. The density must be the tracker's.
-pub fn open<'a>(config: SmootherConfig, window: &'a [u64], values: &'a [f64]) -> Opened
+pub fn open<'a>(
+    config: SmootherConfig,
+    window: &'a [u64],
+    values: &'a [f64],
+) -> Result<FixedLagSmoother, Refusal>
     ensures { opening_of result (Promise.window window.now values.now) ≡ Smoother.opens config (length window.now) (length values.now) }
 {
-    let n = open_refusal(config, window.len(), values.len());
-    if n != 0 {
-        return Opened::Refused(n);
-    }
-    Opened::Ready(FixedLagSmoother {
+    check_open(config, window.len(), values.len())?;
+    Ok(FixedLagSmoother {
         config,
         first: 0,
         held: 0,
@@ -160,47 +132,60 @@ pub fn open<'a>(config: SmootherConfig, window: &'a [u64], values: &'a [f64]) ->
 
 // The next frame, as its words and its numbers. When more than lag frames are held, the oldest leaves.
 pub fn push<'a, 'b, 'c, 'd, 'e>(
-    given: FixedLagSmoother,
+    s: &mut FixedLagSmoother,
     window: &'a mut [u64],
     values: &'b mut [f64],
     fw: &'c [u64],
     fx: &'c [f64],
     words: &'d mut [u64],
     numbers: &'e mut [f64],
-) -> Pushed
-    ensures { Promised (pushed (frame_of fw.now fx.now)) given (Promise.window window.old values.old) words.old numbers.old result (Promise.window window.new values.new) words.new numbers.new }
+) -> Answer
+    ensures { Promised (pushed (frame_of fw.now fx.now)) s.old (Promise.window window.old values.old) words.old numbers.old
+        (pushed_as result s.new) (Promise.window window.new values.new) words.new numbers.new }
 {
-    let n = later_refusal(given, window, values, words.len(), numbers.len());
-    if n != 0 {
-        return refused(given, n);
-    }
-    if !frame::well_formed(given.config.max_tracks, fw, fx) {
-        return refused(given, 5);
-    }
-    let s = window::store(given, window, values, fw, fx);
+    check_call(*s, window, values, words.len(), numbers.len())?;
+    let Some(frame) = Frame::well_formed(s.config.max_tracks, fw, fx) else {
+        return Err(Refusal::Frame);
+    };
+    s.store(window, values, &frame);
     if s.held <= s.config.lag_frames {
-        let answer = Answer::Held;
-        return Pushed { answer, state: s };
+        return Ok(None);
     }
-    emit_oldest(s, window, values, words, numbers)
+    let held = HeldFrames {
+        window: Window {
+            state: *s,
+            words: window,
+            values,
+        },
+    };
+    let size = emit_oldest(&held, words, numbers);
+    s.drop_oldest();
+    Ok(Some(size))
 }
 
 // The oldest held frame.
 pub fn take<'a, 'b, 'c>(
-    given: FixedLagSmoother,
+    s: &mut FixedLagSmoother,
     window: &'c [u64],
     values: &'c [f64],
     words: &'a mut [u64],
     numbers: &'b mut [f64],
-) -> Pushed
-    ensures { Promised taken given (Promise.window window.now values.now) words.old numbers.old result (Promise.window window.now values.now) words.new numbers.new }
+) -> Answer
+    ensures { Promised taken s.old (Promise.window window.now values.now) words.old numbers.old
+        (pushed_as result s.new) (Promise.window window.now values.now) words.new numbers.new }
 {
-    let n = later_refusal(given, window, values, words.len(), numbers.len());
-    if n != 0 {
-        return refused(given, n);
+    check_call(*s, window, values, words.len(), numbers.len())?;
+    if s.held == 0 {
+        return Err(Refusal::Empty);
     }
-    if given.held == 0 {
-        return refused(given, 13);
-    }
-    emit_oldest(given, window, values, words, numbers)
+    let held = HeldFrames {
+        window: Window {
+            state: *s,
+            words: window,
+            values,
+        },
+    };
+    let size = emit_oldest(&held, words, numbers);
+    s.drop_oldest();
+    Ok(Some(size))
 }

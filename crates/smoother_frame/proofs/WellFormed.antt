@@ -1,22 +1,18 @@
 -- What a well-formed frame keeps to. Assumes nothing.
 use Prim.Native.Nat.{ℕ, ◌≤◌}
-use mathlib.Core.Path.{◌≡◌, refl, ap, ◌∙◌}
+use mathlib.Core.Path.{◌≡◌, refl, ◌∙◌}
 use mathlib.Core.Bool.{Bool, true, false}
 use mathlib.Core.List.{List}
 use native.Mathlib.Omega.{arith}
-use lib.ListN.{length, get_or, take}
+use lib.ListN.{length, take}
 use lib.Seq.{length-take-le, take_all, get_or-take}
 use lib.Dec.{leb}
-use lib.IntN.{ℤ}
 use lib.Ieee.{Float}
-use mir.Syntax.{w64}
-use mir.Val.{Fits, to_z, of_z}
-use mir.Facts.{to_z-of_z, sfits_to_z}
-use borrow.Author.Tests.{leb-true, leb-false, le-leb, eqb-true}
+use borrow.Author.Tests.{leb-true, leb-false, le-leb, eqb-true, eq-eqb}
 use Rattle.bounds.specs.Bounds.{HEAD, TRACKS, ASSOCIATIONS, SENSORS}
 use Rattle.engine.specs.Body.{code_ok, time_ok}
 use Rattle.engine.proofs.Every.{both}
-use Rattle.smoother_frame.specs.Frame.{time, mode_word, smoothed_word, track_count, association_count, sensor_count, words_long, numbers_long, head_ok, exact, Counts}
+use Rattle.smoother_frame.specs.Frame.{time, mode_word, track_count, association_count, sensor_count, words_long, numbers_long, frame, head_ok, exact, rows_ok, well_formed, Counts}
 
 -- what the head's test tells
 pub record Headed (most : ℕ) (w : List ℕ) : Type 0 where
@@ -46,17 +42,8 @@ module _ (most : ℕ) (w : List ℕ) where
         sensors = leb-true _ _ f.0;
       }
 
-  -- what is left of it, where that holds
-  pub head_left : Headed most w → head_ok most w ≡ leb (smoothed_word w) 1
-  unfolding head_ok code_ok
-  head_left h = rw (le-leb _ _ h.long, h.timed, le-leb _ _ h.mode, le-leb _ _ h.tracks, le-leb _ _ h.associations, le-leb _ _ h.sensors)
-
   pub counts : most ≤ TRACKS → Headed most w → Counts w
   counts l h = record { long = h.long; tracks = omega arith; associations = h.associations; sensors = h.sensors }
-
--- the time, read and passed on
-pub time_passed : (w : List ℕ) {t : ℤ} → ((i : ℕ) → Fits w64 (get_or w i 0)) → t ≡ time w → to_z w64 (of_z w64 t) ≡ time w
-time_passed w h e = ap (λ (z : ℤ). to_z w64 (of_z w64 z)) e ∙ to_z-of_z (sfits_to_z (h 0))
 
 pub exact_of : (w : List ℕ) (x : List Float) → exact w x ≡ true → (length w ≡ words_long w) × (length x ≡ numbers_long w)
 unfolding exact
@@ -76,3 +63,17 @@ unfolding head_ok
 head_taken most a l =
     let n = words_long a in
     rw (le-leb HEAD (length (take n a)) (long_enough n a (omega arith) l), le-leb HEAD (length a) l, get_or-take n a 0 0 (omega arith), get_or-take n a 1 0 (omega arith), get_or-take n a 2 0 (omega arith), get_or-take n a 3 0 (omega arith), get_or-take n a 4 0 (omega arith), get_or-take n a 5 0 (omega arith))
+
+-- and is as long as its counts say: it is well formed where its rows are in bounds
+pub front_formed : (most : ℕ) (a : List ℕ) (x : List Float) → head_ok most a ≡ true → words_long a ≤ length a → numbers_long a ≤ length x
+    → well_formed most (frame (take (words_long a) a) (take (numbers_long a) x)) ≡ rows_ok (take (words_long a) a) (take (numbers_long a) x)
+unfolding well_formed exact
+front_formed most a x h l m =
+    let n = words_long a in
+    let t = length-take-le n a l in
+    let u = length-take-le (numbers_long a) x m in
+    let w = take n a in
+    let i = get_or-take n a 2 0 (omega arith) in
+    let j = get_or-take n a 3 0 (omega arith) in
+    let k = get_or-take n a 4 0 (omega arith) in
+    rw (head_taken most a (headed most a h).long ∙ h, eq-eqb (length w) (words_long w) (omega arith), eq-eqb (length (take (numbers_long a) x)) (numbers_long w) (omega arith))

@@ -1,10 +1,11 @@
 -- Document 01, "Emitted words" and "Numbers": a frame as the smoother takes and gives it. Definitions only.
-use Rattle.std.specs.Prelude.{ℕ, ◌+◌, ◌*◌, ◌^◌, ◌≤◌, Bool, ◌&&◌, List, length, get_or, set, leb, ltb, eqb, ℤ, Float}
+use Rattle.std.specs.Prelude.{ℕ, ◌+◌, ◌*◌, ◌^◌, ◌≤◌, ◌≡◌, Bool, ◌&&◌, List, length, get_or, set, leb, ltb, eqb, ℤ, Float}
 use Rattle.std.specs.Float.{nan}
 use Rattle.bounds.specs.Bounds.{HEAD, TRACK, TRACKS, LINK, STATE, ASSOCIATIONS, SENSORS}
 use Rattle.buffers.specs.Answer.{Written}
 use Rattle.scalar.specs.Scalar.{bits_of, signed}
 use Rattle.engine.specs.Body.{all, code_ok, present_ok, time_ok}
+use Rattle.smoother_frame.specs.declared.counts.FrameCounts.{FrameCounts}
 
 -- "A smoother frame is these two lists at their exact length": the frame of two lists
 abbrev pub frame : List ℕ → List Float → Written
@@ -133,3 +134,16 @@ pub record Counts (w : List ℕ) : Type 0 where
   pub tracks : track_count w ≤ TRACKS
   pub associations : association_count w ≤ ASSOCIATIONS
   pub sensors : sensor_count w ≤ SENSORS
+
+-- these are the counts of some words
+pub record CountsOf (w : List ℕ) (c : FrameCounts) : Type 0 where
+  pub long : HEAD ≤ length w
+  pub tracks : c.tracks ≡ track_count w
+  pub associations : c.associations ≡ association_count w
+  pub sensors : c.sensors ≡ sensor_count w
+
+-- and the two lists have the lengths that they ask for
+pub record Framed (c : FrameCounts) (w : List ℕ) (x : List Float) : Type 0 where
+  pub counts : CountsOf w c
+  pub words : length w ≡ words_long w
+  pub numbers : length x ≡ numbers_long w

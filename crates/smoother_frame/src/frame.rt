@@ -1,242 +1,185 @@
-// The form of a smoother frame: a list of words and a list of numbers.
-ghost use Rattle.std.specs.Prelude.{◌≡◌, ◌+◌, ◌*◌, ◌<◌, ◌≤◌, length};
-ghost use Rattle.bounds.specs.Bounds.{HEAD, TRACK, TRACKS};
+// A frame as the smoother takes and gives it: a list of words and a list of numbers.
+ghost use Rattle.std.specs.Prelude.{◌≡◌, ◌^◌, ◌<◌, ◌≤◌, nat_lt, Some, None, cond, length, take, drop};
+ghost use Rattle.std.specs.List.{list_all};
+ghost use Rattle.bounds.specs.Bounds.{TRACKS};
 ghost use Rattle.engine.specs.Body.{all};
-ghost use Rattle.smoother_frame.specs.Frame.{frame, time, track_count, association_count, sensor_count, smoothed_as, id_word, associations_from, sensors_from, words_long, costs_from, numbers_long, head_ok, track_ok, association_ok, sensor_ok, exact, rows_ok, well_formed, Counts};
+ghost use Rattle.scalar.specs.Scalar.{seconds_of};
+ghost use Rattle.smoother_frame.specs.Frame.{frame, time, track_count, association_count, sensor_count, id_word, costs_from, words_long, numbers_long, track_ok, association_ok, sensor_ok, rows_ok, well_formed, Counts, CountsOf};
 
-use bounds::{ASSOCIATIONS, HEAD, LINK, SENSORS, STATE, TRACK};
+use crate::counts::FrameCounts;
+use crate::head;
+use bounds::{HEAD, LINK, TRACK};
 use engine::types::RefinedId;
 use scalar::bits;
+use std::marker::Model;
 
-// ---- what stands where: each reader asks that its word is there
-
-// The time, in nanoseconds.
-pub fn time_of(w: &[u64]) -> i64
-    requires { HEAD ≤ length w.now }
-    ensures { result ≡ time w.now }
-{
-    bits::from_word(w[0])
+// A frame whose counts are in bounds, in two lists as long as they ask for. A clause sees the two lists.
+// As it is: words and numbers by their places, and no struct for a track or an association, since these lists are the public format that a caller hands over.
+#[derive(Drop)]
+pub struct Frame<'a> {
+    counts: FrameCounts,
+    words: &'a [u64],
+    numbers: &'a [f64],
 }
 
-// How many tracks there are.
-pub fn track_count(w: &[u64]) -> usize
-    requires { HEAD ≤ length w.now }
-    ensures { result ≡ track_count w.now }
-{
-    w[2] as usize
+impl<'a> Model for Frame<'a> {
+    ghost use Rattle.buffers.specs.Answer.{Written};
+    ghost use Rattle.smoother_frame.specs.Frame.{frame, Framed};
+
+    ghost Value = { Written };
+
+    ghost view = { λ f. frame f.words.now f.numbers.now };
+
+    ghost invariant = { λ f. Framed f.counts f.words.now f.numbers.now };
 }
 
-// How many associations.
-pub fn association_count(w: &[u64]) -> usize
-    requires { HEAD ≤ length w.now }
-    ensures { result ≡ association_count w.now }
+// Each word is below 2^32.
+fn all_small(words: &[u64]) -> bool
+    ensures { result ≡ list_all (λ word. nat_lt word (2 ^ 32)) words.now }
 {
-    w[3] as usize
+    words.iter().all(|word| *word < 0x1_0000_0000)
 }
 
-// How many sensors.
-fn sensor_count(w: &[u64]) -> usize
-    requires { HEAD ≤ length w.now }
-    ensures { result ≡ sensor_count w.now }
-{
-    w[4] as usize
-}
-
-// Whether it is smoothed is written: 0 or 1.
-pub fn put_smoothed(w: &mut [u64], flag: u64)
-    requires { HEAD ≤ length w.old }
-    ensures { w.new ≡ smoothed_as w.old flag }
-{
-    w[5] = flag;
-}
-
-// The id of track i.
-pub fn track_id(w: &[u64], i: usize) -> RefinedId
-    requires { HEAD + TRACK * (i + 1) ≤ length w.now }
-    ensures { result.0 ≡ id_word w.now i }
-{
-    RefinedId(w[HEAD + TRACK * i])
-}
-
-// Where the associations begin. It asks, as what follows does, for counts that are in bounds.
-fn associations_from(w: &[u64]) -> usize
-    requires { Counts w.now }
-    ensures { result ≡ associations_from w.now }
-{
-    HEAD + TRACK * track_count(w)
-}
-
-// Where the sensors begin.
-fn sensors_from(w: &[u64]) -> usize
-    requires { Counts w.now }
-    ensures { result ≡ sensors_from w.now }
-{
-    associations_from(w) + LINK * association_count(w)
-}
-
-// Where the costs begin, after the numbers of the tracks.
-pub fn costs_from(w: &[u64]) -> usize
-    requires { Counts w.now }
-    ensures { result ≡ costs_from w.now }
-{
-    STATE * track_count(w)
-}
-
-// How many words the counts ask for.
-pub fn words_long(w: &[u64]) -> usize
-    requires { Counts w.now }
-    ensures { result ≡ words_long w.now }
-{
-    sensors_from(w) + sensor_count(w)
-}
-
-// How many numbers.
-pub fn numbers_long(w: &[u64]) -> usize
-    requires { Counts w.now }
-    ensures { result ≡ numbers_long w.now }
-{
-    costs_from(w) + association_count(w)
-}
-
-// ---- whether it is well formed
-
-// The counts, the codes and the time are in bounds, with at most `most` tracks.
-pub fn head_ok(w: &[u64], most: usize) -> bool
-    ensures { result ≡ head_ok most w.now }
-{
-    if w.len() < HEAD {
-        return false;
+impl<'a> Frame<'a> {
+    // The frame at the front of two lists, which are as long at least as its counts ask for.
+    pub fn front(counts: FrameCounts, words: &'a [u64], numbers: &'a [f64]) -> Frame<'a>
+        requires counted { CountsOf words.now counts }
+        requires words { words_long words.now ≤ length words.now }
+        requires numbers { numbers_long words.now ≤ length numbers.now }
+        ensures { result ≡ frame (take (words_long words.now) words.now) (take (numbers_long words.now) numbers.now) }
+    {
+        Frame {
+            counts,
+            words: &words[..counts.words_long()],
+            numbers: &numbers[..counts.numbers_long()],
+        }
     }
-    if !engine_check::time_ok(time_of(w)) {
-        return false;
-    }
-    if 2 < w[1] {
-        return false;
-    }
-    if most < track_count(w) {
-        return false;
-    }
-    if ASSOCIATIONS < association_count(w) {
-        return false;
-    }
-    if SENSORS < sensor_count(w) {
-        return false;
-    }
-    w[5] <= 1
-}
 
-// Lifecycle, class and count of track i.
-fn track_ok(w: &[u64], i: usize) -> bool
-    requires { HEAD + TRACK * (i + 1) ≤ length w.now }
-    ensures { result ≡ track_ok w.now i }
-{
-    let at = HEAD + TRACK * i;
-    if 1 < w[at + 1] {
-        return false;
+    // The frame that two lists are, if it is well formed, with at most `most` tracks, no more than there may be.
+    pub fn well_formed(most: usize, words: &'a [u64], numbers: &'a [f64]) -> Option<Frame<'a>>
+        requires { most ≤ TRACKS }
+        ensures { result ≡ cond (well_formed most (frame words.now numbers.now)) (Some (frame words.now numbers.now)) None }
+    {
+        let counts = FrameCounts::checked(words, most)?;
+        if words.len() != counts.words_long() || numbers.len() != counts.numbers_long() {
+            return None;
+        }
+        let frame = Frame {
+            counts,
+            words,
+            numbers,
+        };
+        if frame.rows_ok() { Some(frame) } else { None }
     }
-    if 0x1_0000_0000 < w[at + 4] {
-        return false;
-    }
-    w[at + 5] < 0x1_0000_0000
-}
 
-fn tracks_ok(w: &[u64], n: usize) -> bool
-    requires { HEAD + TRACK * n ≤ length w.now }
-    ensures { result ≡ all (track_ok w.now) n }
-{
-    let mut i = 0;
-    while i < n {
-        if !track_ok(w, i) {
+    // Its words.
+    pub fn words(&self) -> &'a [u64]
+        ensures value { result.now ≡ self.now.words }
+        ensures whole { length self.now.words ≡ words_long self.now.words }
+        ensures counted { Counts self.now.words }
+    {
+        self.words
+    }
+
+    // Its numbers.
+    pub fn numbers(&self) -> &'a [f64]
+        ensures value { result.now ≡ self.now.numbers }
+        ensures whole { length self.now.numbers ≡ numbers_long self.now.words }
+        ensures counted { Counts self.now.words }
+    {
+        self.numbers
+    }
+
+    // Those of its associations' costs.
+    pub fn costs(&self) -> &'a [f64]
+        ensures { result.now ≡ drop (costs_from self.now.words) self.now.numbers }
+    {
+        &self.numbers[self.counts.costs_from()..]
+    }
+
+    // Its counts.
+    pub fn counts(&self) -> FrameCounts
+        ensures { CountsOf self.now.words result }
+    {
+        self.counts
+    }
+
+    // Its time, in seconds.
+    pub fn seconds(&self) -> f64
+        ensures { result ≡ seconds_of (time self.now.words) }
+    {
+        bits::seconds(head::time_of(self.words))
+    }
+
+    // The id of track i.
+    pub fn track_id(&self, i: usize) -> RefinedId
+        requires { i < track_count self.now.words }
+        ensures { result.0 ≡ id_word self.now.words i }
+    {
+        head::track_id(self.words, i)
+    }
+
+    // Lifecycle, class and count of track i are in bounds.
+    fn track_ok(&self, i: usize) -> bool
+        requires { i < track_count self.now.words }
+        ensures { result ≡ track_ok self.now.words i }
+    {
+        let words = self.words;
+        let at = HEAD + TRACK * i;
+        words[at + 1] <= 1 && words[at + 4] <= 0x1_0000_0000 && words[at + 5] < 0x1_0000_0000
+    }
+
+    fn tracks_ok(&self) -> bool
+        ensures { result ≡ all (track_ok self.now.words) (track_count self.now.words) }
+    {
+        for i in 0..self.counts.tracks {
+            if !self.track_ok(i) {
+                return false;
+            }
+        }
+        true
+    }
+
+    // Outcome, cost present and cost of association j.
+    fn association_ok(&self, j: usize) -> bool
+        requires { j < association_count self.now.words }
+        ensures { result ≡ association_ok self.now.words self.now.numbers j }
+    {
+        let at = self.counts.associations_from() + LINK * j;
+        let cost = self.numbers[self.counts.costs_from() + j];
+        if 2 < self.words[at + 2] {
             return false;
         }
-        i += 1;
-    }
-    true
-}
-
-// Outcome, cost present and cost of association j.
-fn association_ok<'a>(w: &'a [u64], x: &'a [f64], j: usize) -> bool
-    requires { Counts w.now × (j < association_count w.now) × (sensors_from w.now ≤ length w.now) × (numbers_long w.now ≤ length x.now) }
-    ensures { result ≡ association_ok w.now x.now j }
-{
-    let at = associations_from(w) + LINK * j;
-    if 2 < w[at + 2] {
-        return false;
-    }
-    let present = w[at + 3];
-    if present == 0 {
-        let o = costs_from(w) + j;
-        return bits::to_bits(x[o]) == 0;
-    }
-    present == 1
-}
-
-fn associations_ok<'a>(w: &'a [u64], x: &'a [f64]) -> bool
-    requires { Counts w.now × (sensors_from w.now ≤ length w.now) × (numbers_long w.now ≤ length x.now) }
-    ensures { result ≡ all (association_ok w.now x.now) (association_count w.now) }
-{
-    let n = association_count(w);
-    let mut j = 0;
-    while j < n {
-        if !association_ok(w, x, j) {
-            return false;
+        let present = self.words[at + 3];
+        if present == 0 {
+            bits::to_bits(cost) == 0
+        } else {
+            present == 1
         }
-        j += 1;
     }
-    true
-}
 
-fn sensors_ok(w: &[u64]) -> bool
-    requires { Counts w.now × (words_long w.now ≤ length w.now) }
-    ensures { result ≡ all (sensor_ok w.now) (sensor_count w.now) }
-{
-    let from = sensors_from(w);
-    let n = sensor_count(w);
-    let mut k = 0;
-    while k < n {
-        if 0xffff_ffff < w[from + k] {
-            return false;
+    fn associations_ok(&self) -> bool
+        ensures { result ≡ all (association_ok self.now.words self.now.numbers) (association_count self.now.words) }
+    {
+        for j in 0..self.counts.associations {
+            if !self.association_ok(j) {
+                return false;
+            }
         }
-        k += 1;
+        true
     }
-    true
-}
 
-// Each track, association and sensor is in bounds.
-fn rows_ok<'a>(w: &'a [u64], x: &'a [f64]) -> bool
-    requires { Counts w.now × (length w.now ≡ words_long w.now) × (length x.now ≡ numbers_long w.now) }
-    ensures { result ≡ rows_ok w.now x.now }
-{
-    if !tracks_ok(w, track_count(w)) {
-        return false;
+    // Sensors below 2^32.
+    fn sensors_ok(&self) -> bool
+        ensures { result ≡ all (sensor_ok self.now.words) (sensor_count self.now.words) }
+    {
+        all_small(&self.words[self.counts.sensors_from()..])
     }
-    if !associations_ok(w, x) {
-        return false;
-    }
-    sensors_ok(w)
-}
 
-// The two lists have the lengths that the counts ask for.
-fn is_exact<'a>(w: &'a [u64], x: &'a [f64]) -> bool
-    requires { Counts w.now }
-    ensures { result ≡ exact w.now x.now }
-{
-    if w.len() != words_long(w) {
-        return false;
+    // Each track, association and sensor is in bounds.
+    pub fn rows_ok(&self) -> bool
+        ensures { result ≡ rows_ok self.now.words self.now.numbers }
+    {
+        self.tracks_ok() && self.associations_ok() && self.sensors_ok()
     }
-    x.len() == numbers_long(w)
-}
-
-// A frame is well formed, with at most `most` tracks, no more than there may be.
-pub fn well_formed<'a>(most: usize, w: &'a [u64], x: &'a [f64]) -> bool
-    requires { most ≤ TRACKS }
-    ensures { result ≡ well_formed most (frame w.now x.now) }
-{
-    if !head_ok(w, most) {
-        return false;
-    }
-    if !is_exact(w, x) {
-        return false;
-    }
-    rows_ok(w, x)
 }

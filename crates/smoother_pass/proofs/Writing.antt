@@ -1,12 +1,12 @@
 -- What is written over the front of a buffer: one state after the other, and words with a flag. Assumes nothing.
 use mathlib.Core.Path.{◌≡◌, refl, sym, ap, ◌∙◌}
 use mathlib.Core.List.{List, ◌++◌}
-use Prim.Native.Nat.{ℕ, ◌+◌, ◌-◌, ◌*◌, ◌≤◌}
+use Prim.Native.Nat.{ℕ, ◌+◌, ◌*◌, ◌≤◌}
 use native.Mathlib.Omega.{arith}
 use native.Mathlib.Numerals.{add-one}
 use native.Mathlib.Nat.{zero-add}
-use lib.ListN.{length, take, drop, length-append, length-drop, length-set}
-use lib.Seq.{take_all, set-append_left}
+use lib.ListN.{length, drop, length-append, length-drop, length-set}
+use lib.Seq.{set-append_left}
 use lib.Ieee.{Float}
 use Rattle.bounds.specs.Bounds.{HEAD, STATE}
 use Rattle.buffers.specs.Answer.{Written}
@@ -29,13 +29,9 @@ module _ {A : Type 0} (s o : List A) {n : ℕ} (l : length s ≡ n) where
       let m : n ≡ 0 + length s = omega (arith, l) in
       p ∙ (λ i. over (m i) g (e i)) ∙ over-more 0 s o (omega arith) g
 
-  -- as the rest of x, which is y, after its first n elements
-  pub rest_after : {at : ℕ} {x y e r : List A} → x ≡ y → at ≡ n → n ≤ length x → n ≤ length o → e ≡ s ++ drop n o → r ≡ over at (take (length x - at) (drop at x)) e
-      → (length x ≡ length (s ++ drop n y)) × (r ≡ over 0 (s ++ drop n y) o)
-  rest_after {x = x} q a h g e p =
-      let t : take (length x - n) (drop n x) ≡ drop n x = take_all (length x - n) (drop n x) (omega (arith, length-drop n x)) in
-      let z : length x ≡ length (s ++ drop n x) = omega (arith, length-append s (drop n x), length-drop n x, l) in
-      (z ∙ ap (λ y. length (s ++ drop n y)) q, and_then (drop n x) g (e ∙ sym front) (rw (a, t) at p) ∙ ap (λ y. over 0 (s ++ drop n y) o) q)
+  -- s in place of the first n elements of y
+  pub rest_long : (y : List A) → n ≤ length y → length y ≡ length (s ++ drop n y)
+  rest_long y h = omega (arith, length-append s (drop n y), length-drop n y, l)
 
 -- the first i tracks have been written over o
 module _ (c : SmootherConfig) (fs : List Written) (f : Written) (o : List Float) where

@@ -1,6 +1,8 @@
 -- Document 01, "smoother.rs": the backward pass over held frames. Definitions only.
 use Rattle.std.specs.Prelude.{ℕ, zero, suc, ◌+◌, ◌*◌, cond, List, [], ◌∷◌, ◌++◌, map, take, drop, ltb, eqb, ℤ, Float}
 use Rattle.std.proofs.Math.Option.{Option, none, some}
+use Rattle.std.specs.declared.option.Option.{Option as Answer}
+use Rattle.std.specs.declared.option.Option.TheVariants.{Some, None}
 use Rattle.std.specs.Float.{binary64}
 use Rattle.std.specs.Float.Ieee.{sub}
 use Rattle.bounds.specs.Bounds.{VECTOR, COVARIANCE, STATE}
@@ -12,9 +14,6 @@ use Rattle.smoother_frame.specs.Frame.{time, track_count, id_word, costs_from, s
 use Rattle.smoother_window.specs.declared.SmootherConfig.{SmootherConfig}
 use Rattle.smoother_window.specs.Config.{lag, density}
 use Rattle.smoother_pass.specs.declared.pass.TrackState.{TrackState}
-use Rattle.smoother_pass.specs.declared.pass.RanBack.{RanBack}
-use Rattle.smoother_pass.specs.declared.pass.Found.{Found}
-use Rattle.smoother_pass.specs.declared.pass.Found.TheVariants.{At, Nothing}
 
 -- ---- the state of a track
 
@@ -109,10 +108,11 @@ abbrev pub estimate_of : TrackState → Estimate Float
 estimate_of t = estimate t.x t.p
 
 -- the state that running back gave; nothing where a Cholesky failed
-abbrev pub ran_back : RanBack → Option (Estimate Float)
-ran_back r = cond r.ok (some (estimate_of r.state)) none
+abbrev pub ran_back : Answer TrackState → Option (Estimate Float)
+ran_back (Some t) = some (estimate_of t)
+ran_back None = none
 
 -- where an id stands among the tracks of a frame; nothing where it does not
-abbrev pub found_at : Found → Option ℕ
-found_at (At i) = some i
-found_at Nothing = none
+abbrev pub found_at : Answer ℕ → Option ℕ
+found_at (Some i) = some i
+found_at None = none

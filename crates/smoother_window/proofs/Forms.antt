@@ -9,22 +9,17 @@ use native.Mathlib.Numerals.{add-one}
 use lib.ListN.{length, drop, length-drop}
 use lib.Seq.{length-take-le}
 use lib.Ieee.{Float}
-use Rattle.bounds.specs.Bounds.{HEAD, TRACKS, words_for, numbers_for}
+use Rattle.bounds.specs.Bounds.{HEAD, words_for}
 use Rattle.buffers.specs.Answer.{Written}
 use Rattle.engine.specs.Body.{all}
 use Rattle.engine.proofs.Every.{both, all_front, all-at}
 use Rattle.smoother_window.specs.declared.FixedLagSmoother.{FixedLagSmoother}
 use Rattle.smoother_window.specs.declared.SmootherConfig.{SmootherConfig}
-use Rattle.smoother_frame.specs.Frame.{words_long, numbers_long, head_ok, well_formed, Counts}
+use Rattle.smoother_frame.specs.Frame.{head_ok, well_formed}
 use Rattle.smoother_window.specs.Config.{most}
 use Rattle.smoother_window.specs.Window.{slot_of, slot_words, words_in, held_frame, frames_from, frames_in, all_formed, Fitting, SlotCounts, AllCounted, Fits}
 use Rattle.smoother_frame.proofs.WellFormed.{headed, exact_of, head_taken}
 use Rattle.smoother_window.proofs.Slots.{slot_within, room}
-
--- a slot with counts in bounds, as it was read, has a frame that fits it
-pub slot_fits : {s : FixedLagSmoother} {win w : List ℕ} {k : ℕ} → most s.config ≤ TRACKS → SlotCounts s win k → w ≡ slot_words s win k → length w ≡ words_for (most s.config)
-    → Counts w × (words_long w ≤ length w) × (numbers_long w ≤ numbers_for (most s.config))
-slot_fits m d e l = let n = rw e at l in rw e (record { long = omega arith; tracks = omega arith; associations = d.associations; sensors = d.sensors }, omega arith, omega arith)
 
 module _ (s : FixedLagSmoother) (win : List ℕ) (nums : List Float) where
   pub malformed : (k : ℕ) → HEAD ≤ length (slot_words s win k) → head_ok (most s.config) (slot_words s win k) ≡ false → well_formed (most s.config) (held_frame s win nums k) ≡ false

@@ -1,12 +1,8 @@
 -- Slots in a window: each lies within its buffer. Assumes nothing.
-use mathlib.Core.Path.{◌≡◌, ap}
-use mathlib.Core.List.{List}
-use Prim.Native.Nat.{ℕ, suc, ◌+◌, ◌-◌, ◌*◌, ◌%◌, ◌≤◌}
+use mathlib.Core.Path.{◌≡◌}
+use Prim.Native.Nat.{ℕ, suc, ◌+◌, ◌*◌, ◌%◌, ◌≤◌}
 use native.Mathlib.Omega.{arith}
-use native.Mathlib.Nat.{mul-le-mul, mul-le-mul_right, suc-mul, mod-lt, mod-add-mod}
-use lib.ListN.{length, take, drop, length-drop}
-use lib.Seq.{length-take-le}
-use Rattle.bounds.specs.Bounds.{LAG, SCANS, NUMBERS}
+use native.Mathlib.Nat.{mul-le-mul_right, suc-mul, mod-lt, mod-add-mod}
 use Rattle.smoother_window.specs.declared.FixedLagSmoother.{FixedLagSmoother}
 use Rattle.smoother_window.specs.Config.{lag}
 use Rattle.smoother_window.specs.Window.{slot_of}
@@ -25,15 +21,3 @@ pub room : {at n w wide long : ℕ} → at ≤ n → w ≡ wide → long ≡ (n 
 room {at} {n} {w} {wide} h d e =
     let l : suc at ≤ n + 1 = omega arith in
     rw (d, e) (rw (suc-mul at wide) at (mul-le-mul_right wide l))
-
--- and is the part of the buffer that it is by definition
-pub part : {A : Type 0} {at at' n w wide : ℕ} (l : List A) → at ≡ at' → at ≤ n → w ≡ wide → length l ≡ (n + 1) * wide
-    → (take (at * w + w - at * w) (drop (at * w) l) ≡ take wide (drop (at' * wide) l)) × (length (take (at * w + w - at * w) (drop (at * w) l)) ≡ wide)
-part {at = at} {n = n} {w = w} {wide = wide} l e h d g =
-    let r = room h d g in
-    let z : at * w + w - at * w ≡ w = omega arith in
-    rw (z, d) (ap (λ n. take wide (drop (n * wide) l)) e, length-take-le wide (drop (at * wide) l) (omega (arith, length-drop (at * wide) l, rw d at r)))
-
--- a window is not too long for its length to be worked out
-pub long_fits : {n : ℕ} (wide : ℕ) → n ≤ LAG → wide ≤ NUMBERS → (n + 1) * wide ≤ SCANS * NUMBERS
-long_fits {n} wide h l = let k : n + 1 ≤ SCANS = omega arith in mul-le-mul k l

@@ -1,2 +1,3 @@
 pub mod Config
 pub mod Window
+pub mod Held

@@ -1,6 +1,8 @@
 // The frames that a fixed-lag smoother holds, in a ring of slots in lent window buffers.
 #![tactic(auto)]
 
+pub mod held;
+pub mod size;
 pub mod window;
 
 // A smoother's settings.

@@ -15,15 +15,17 @@ struct WholeRoot {
 }
 
 // The root of m * 2^52, digit by digit.
+#[tactic(auto, using(scalar::proofs::RootDigits::under))]
 fn root_digits(m: u64) -> WholeRoot
     requires { m < 2 ^ 54 }
-    ensures { (result.root * result.root + result.rest ≡ m * 2 ^ 52) × (result.rest ≤ 2 * result.root) × (result.root < 2 ^ 53) }
+    ensures square { result.root * result.root + result.rest ≡ m * 2 ^ 52 }
+    ensures floor { result.rest ≤ 2 * result.root }
+    ensures short { result.root < 2 ^ 53 }
 {
     let mut root = 0u64;
     let mut rest = 0u64;
     let mut left = m * 1024;
-    let mut i = 0u64;
-    while i < 53 {
+    for _ in 0..53u64 {
         let t = rest * 4 + left / 0x4000_0000_0000_0000;
         left = left % 0x4000_0000_0000_0000 * 4;
         let d = 4 * root + 1;
@@ -34,7 +36,6 @@ fn root_digits(m: u64) -> WholeRoot
             rest = t;
             root = 2 * root;
         }
-        i += 1;
     }
     WholeRoot { root, rest }
 }
@@ -60,46 +61,34 @@ fn root_guess(m: u64) -> u64
     let y = newton(x, newton(x, newton(x, a)));
     if 0.0 < y {
         // y is from 1 to 2, where the last 53 bits of a pattern are the number's digits: these, less one
-        return (f64::to_bits(y) % 0x1000_0000_0000_0000 + 0x1f_ffff_ffff_ffff)
-            % 0x20_0000_0000_0000;
+        return (y.to_bits() % 0x1000_0000_0000_0000 + 0x1f_ffff_ffff_ffff) % 0x20_0000_0000_0000;
     }
     0
 }
 
-// The root of m * 2^52: a guess where its rest shows it right, or one too small, and else digit by digit.
-// The guess is a * 2^27 + b, so the rest is ((m - 4 * a * a) * 2^24 - a * b) * 2^28 - b * b.
+// The root of m * 2^52: a guess where what its square leaves shows it right, or one too small, and else digit by digit.
 fn whole_root(m: u64) -> WholeRoot
     requires { m < 2 ^ 54 }
-    ensures { (result.root * result.root + result.rest ≡ m * 2 ^ 52) × (result.rest ≤ 2 * result.root) × (result.root < 2 ^ 53) }
+    ensures square { result.root * result.root + result.rest ≡ m * 2 ^ 52 }
+    ensures floor { result.rest ≤ 2 * result.root }
+    ensures short { result.root < 2 ^ 53 }
 {
-    let guess = root_guess(m);
-    let a = guess / 0x800_0000;
-    let b = guess % 0x800_0000;
-    let high = 4 * (a * a);
-    let middle = a * b;
-    let low = b * b;
-    if high <= m {
-        if m - high < 0x4000_0000 {
-            let d = (m - high) * 0x100_0000;
-            if middle <= d {
-                if d - middle < 0x4000_0000 {
-                    let e = (d - middle) * 0x1000_0000;
-                    if low <= e {
-                        let rest = e - low;
-                        if rest <= 2 * guess {
-                            return WholeRoot { root: guess, rest };
-                        }
-                        let next = guess + 1;
-                        let less = rest - (2 * guess + 1);
-                        if less <= 2 * next {
-                            return WholeRoot {
-                                root: next,
-                                rest: less,
-                            };
-                        }
-                    }
-                }
-            }
+    let root = root_guess(m);
+    let square = root as u128 * root as u128;
+    if let Some(rest) = (m as u128 * 0x10_0000_0000_0000).checked_sub(square) {
+        let twice = 2 * root as u128;
+        if rest <= twice {
+            return WholeRoot {
+                root,
+                rest: rest as u64,
+            };
+        }
+        let less = rest - twice - 1;
+        if less <= twice + 2 {
+            return WholeRoot {
+                root: root + 1,
+                rest: less as u64,
+            };
         }
     }
     root_digits(m)
@@ -110,12 +99,10 @@ fn root_scaled(q: u64, y: u64) -> f64
     requires { (0 < q) × (q < 2 ^ 53) × (y < 2046) }
     ensures { result ≡ root_of (odd 53 false q y 1074) }
 {
-    let shift = u64::leading_zeros(q) as u64 - 11;
+    let shift = q.leading_zeros() as u64 - 11;
     let digits = q << shift;
     let i = y + (52 - shift);
-    let p = whole_root(digits * (1 + i % 2));
-    let root = p.root;
-    let rest = p.rest;
+    let WholeRoot { root, rest } = whole_root(digits * (1 + i % 2));
     let base = (i / 2 + 485) * 0x10_0000_0000_0000;
     if rest <= root {
         return f64::from_bits(base + root);
@@ -131,6 +118,6 @@ pub fn sqrt(a: f64) -> f64
         Digits::Finite { q, y } => root_scaled(q, y),
         Digits::Infinite => a,
         Digits::Zero => a,
-        Digits::Other => 0.0 / 0.0,
+        Digits::Other => f64::NAN,
     }
 }

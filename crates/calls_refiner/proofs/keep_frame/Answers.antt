@@ -1,25 +1,32 @@
-use mathlib.Core.Path.{refl}
+use mathlib.Core.Path.{◌≡◌}
+use Rattle.std.proofs.Common.{rules}
+use Rattle.buffers.specs.Answer.{Frame, answer_in}
 use Rattle.calls_refiner.specs.Refining.{kept_frame}
-use Rattle.calls_refiner.proofs.Telling.{stands, words_long_lem, numbers_long_lem, words_fit, numbers_fit, kept_frame_lem, kept_as}
+use Rattle.calls_refiner.proofs.Telling.{stands, words_long_lem, numbers_long_lem, words_fit, numbers_fit, kept_frame_lem}
 use Rattle.calls_refiner.proofs.keep_frame.Goals as goal
 
-pub slice_bounds-put_words-end : goal.slice_bounds-put_words-end
-slice_bounds-put_words-end c = words_long_lem (stands c.in-Frame.is c.requires.1)
+pub slice_bounds-put-end : goal.slice_bounds-put-end
+slice_bounds-put-end c =
+    let e : answer_in c.args.answer ≡ Frame c.in-Ok-Some.frame.words c.in-Ok-Some.frame.numbers = search rules in
+    words_long_lem (stands e c.requires.1)
 
-pub put_words-requires : goal.put_words-requires
-put_words-requires c = words_fit (stands c.in-Frame.is c.requires.1) c.requires.0
+pub put-requires : goal.put-requires
+put-requires c =
+    let e : answer_in c.args.answer ≡ Frame c.in-Ok-Some.frame.words c.in-Ok-Some.frame.numbers = search rules in
+    words_fit (stands e c.requires.1) c.requires.0
 
-pub slice_bounds-put_numbers-end : goal.slice_bounds-put_numbers-end
-slice_bounds-put_numbers-end c = numbers_long_lem (stands c.in-Frame.is c.requires.1)
+pub slice_bounds-put-end-in-Ok-Some : goal.slice_bounds-put-end-in-Ok-Some
+slice_bounds-put-end-in-Ok-Some c =
+    let e : answer_in c.args.answer ≡ Frame c.in-Ok-Some.frame.words c.in-Ok-Some.frame.numbers = search rules in
+    numbers_long_lem (stands e c.requires.1)
 
-pub put_numbers-requires : goal.put_numbers-requires
-put_numbers-requires c = numbers_fit (stands c.in-Frame.is c.requires.1) c.requires.0
+pub put-requires-in-Ok-Some : goal.put-requires-in-Ok-Some
+put-requires-in-Ok-Some c =
+    let e : answer_in c.args.answer ≡ Frame c.in-Ok-Some.frame.words c.in-Ok-Some.frame.numbers = search rules in
+    numbers_fit (stands e c.requires.1) c.requires.0
 
-pub returns-in-Refused : goal.returns-in-Refused
-returns-in-Refused c = record { kept = c.requires.0; kept_numbers_after = kept_as c.args.words.now c.args.numbers.now (kept_frame c.args.last c.args.kept_words.now c.args.kept_numbers.now) c.in-Refused.is refl }
-
-pub returns-in-Held : goal.returns-in-Held
-returns-in-Held c = record { kept = c.requires.0; kept_numbers_after = kept_as c.args.words.now c.args.numbers.now (kept_frame c.args.last c.args.kept_words.now c.args.kept_numbers.now) c.in-Held.is refl }
-
-pub returns-in-Frame : goal.returns-in-Frame
-returns-in-Frame c = let both = kept_frame_lem (stands c.in-Frame.is c.requires.1) c.requires.0 (kept_frame c.args.last c.args.kept_words.now c.args.kept_numbers.now) c.in-Frame.is c.put_words.ensures c.put_numbers.ensures in record { kept = both.0; kept_numbers_after = both.1 }
+pub returns-in-Ok-Some : goal.returns-in-Ok-Some
+returns-in-Ok-Some c =
+    let e : answer_in c.args.answer ≡ Frame c.in-Ok-Some.frame.words c.in-Ok-Some.frame.numbers = search rules in
+    let both = kept_frame_lem (stands e c.requires.1) c.requires.0 (kept_frame c.args.last c.args.kept_words.now c.args.kept_numbers.now) e c.put.ensures c.put-in-Ok-Some.ensures in
+    record { kept = both.0; kept_numbers_after = both.1 }

@@ -10,7 +10,7 @@ pub slice_bounds-push-end-4 : goal.slice_bounds-push-end-4
 slice_bounds-push-end-4 c = lent_long c.args.room.numbers VALUES c.args.values.now c.requires.1.numbers c.requires.0.numbers
 
 pub tell-requires : goal.tell-requires
-tell-requires c = (shows c.push-t.ensures, c.requires.2)
+tell-requires c = (shows c.push-answer.ensures, c.requires.2)
 
 pub returns : goal.returns
-returns c = let both = answers_over c.push-t.new.window c.push-t.new.values c.requires.1 c.requires.0 c.push-t.ensures c.tell.ensures in record { fits = both.0; answers = both.1 }
+returns c = let both = answers_over c.push-answer.new.window c.push-answer.new.values c.requires.1 c.requires.0 c.push-answer.ensures c.tell.ensures in record { fits = both.0; answers = both.1 }

@@ -6,10 +6,10 @@ pub loop-i-init : goal.loop-i-init
 loop-i-init c = filled_none
 
 pub loop-i-preserved : goal.loop-i-preserved
-loop-i-preserved c = filled_next c.loop-i.invariant (omega (arith, c.loop-i-test.true, c.loop-i.invariant.long)) c.f64_at.ensures
+loop-i-preserved c = filled_next c.loop-i.invariant (omega (arith, c.loop-i.invariant.long)) c.f64_at.ensures
 
 pub shape_of-numbers : goal.shape_of-numbers
 shape_of-numbers c = c.loop-i.invariant.long
 
 pub returns : goal.returns
-returns c = filled_all c.loop-i.invariant (omega (arith, c.loop-i-test.false, c.loop-i.invariant.long))
+returns c = filled_all c.loop-i.invariant (omega (arith, c.loop-i.invariant.long))

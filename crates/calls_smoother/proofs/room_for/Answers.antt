@@ -16,4 +16,4 @@ returns-then-c-lt1 c =
     c.then-c-lt1.either
 
 pub returns : goal.returns
-returns c = by_both c.args.room c.args.c c.if-room.false c.if-c-gt-LAG.false c.if-c-lt1.false c.if-c-gt-TRACKS.false c.window_words.ensures c.window_numbers.ensures
+returns c = by_both c.args.room c.args.c c.if-room.false c.if-c-gt-LAG.false c.if-c-lt1.false c.if-c-gt-TRACKS.false c.window_size-size.ensures.words c.window_size-size.ensures.numbers

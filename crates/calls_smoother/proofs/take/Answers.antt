@@ -10,7 +10,7 @@ pub slice_bounds-take-end-2 : goal.slice_bounds-take-end-2
 slice_bounds-take-end-2 c = lent_long c.args.room.numbers VALUES c.args.values.now c.requires.1.numbers c.requires.0.numbers
 
 pub tell-requires : goal.tell-requires
-tell-requires c = (shows c.take-t.ensures, c.requires.2)
+tell-requires c = (shows c.take-answer.ensures, c.requires.2)
 
 pub returns : goal.returns
-returns c = let both = answers c.requires.1 c.take-t.ensures c.tell.ensures in record { fits = both.0; answers = both.1 }
+returns c = let both = answers c.requires.1 c.take-answer.ensures c.tell.ensures in record { fits = both.0; answers = both.1 }

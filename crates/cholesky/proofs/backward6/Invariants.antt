@@ -1,4 +1,3 @@
-use Prim.Native.Nat.{◌-◌}
 use Rattle.scalar.specs.F64.{f64}
 use Rattle.linalg.proofs.Fill.{ByRows}
 use Rattle.cholesky.proofs.Substitution.{half_way_lem, solved}
@@ -6,6 +5,3 @@ use Rattle.cholesky.proofs.backward6.Given as goal
 
 abbrev pub invariant-loop-i : goal.invariant-loop-i
 invariant-loop-i l = ByRows f64 (half_way_lem f64 l.l) (solved f64 l.l) l.w l.i
-
-abbrev pub decreases-loop-i : goal.decreases-loop-i
-decreases-loop-i l = l.i

@@ -1,4 +1,3 @@
-use Prim.Native.Nat.{◌-◌}
 use Rattle.scalar.specs.F64.{f64}
 use Rattle.linalg.proofs.Fill.{ByRows}
 use Rattle.cholesky.proofs.Substitution.{half_way_lem}
@@ -7,6 +6,3 @@ use Rattle.cholesky.proofs.forward6.Given as goal
 
 abbrev pub invariant-loop-i : goal.invariant-loop-i
 invariant-loop-i l = ByRows f64 (half_way_lem f64 l.l) (unit f64) l.w l.i
-
-abbrev pub decreases-loop-i : goal.decreases-loop-i
-decreases-loop-i l = 6 - l.i

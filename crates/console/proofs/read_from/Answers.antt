@@ -6,5 +6,5 @@ pub loop-n-preserved : goal.loop-n-preserved
 loop-n-preserved g c = record {
   within = search rules;
   long = search rules;
-  consumed = consumed_more _ _ _ _ _ _ _ _ c.loop-n.invariant.within c.in-Bytes.ensures.within.0 c.loop-n.invariant.consumed c.in-Bytes.ensures.gives.0;
+  consumed = consumed_more _ _ _ _ _ _ _ _ c.loop-n.invariant.within c.in_ok-more.ensures.within.0 c.loop-n.invariant.consumed c.in_ok-more.ensures.gives.0;
 }

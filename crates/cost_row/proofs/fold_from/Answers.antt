@@ -24,30 +24,18 @@ part_end ts fs x n m h = let q : m - n ≡ 0 = omega arith in rw q
 pub loop-n-init : goal.loop-n-init
 loop-n-init c = let s = c.args in let e : s.count - 0 ≡ s.count = omega arith in (omega arith, ap (fold_after s.tracks.now s.filters.now s.x.0 0) e)
 
-pub part_id-id-requires : goal.part_id-id-requires
-part_id-id-requires c = omega arith
-
-pub frozen_at-requires : goal.frozen_at-requires
-frozen_at-requires c = omega arith
-
-pub returns-then-x-id : goal.returns-then-x-id
-returns-then-x-id c =
+pub returns-then-x-part_id : goal.returns-then-x-part_id
+returns-then-x-part_id c =
     let s = c.args in
     let l = c.loop-n in
-    let e : s.x.0 ≡ part_id s.tracks.now l.n = c.if-x-id.true ∙ c.part_id-id.ensures in
+    let e : s.x.0 ≡ part_id s.tracks.now l.n = c.if-x-part_id.true ∙ c.part_id.ensures in
     c.frozen_at.ensures ∙ sym (part_step s.tracks.now s.filters.now s.x.0 l.n s.count (omega arith) ∙ rw (eq-eqb _ _ e)) ∙ l.invariant.1
-
-pub overflow_add-n : goal.overflow_add-n
-overflow_add-n c = omega arith
-
-pub loop-n-smaller : goal.loop-n-smaller
-loop-n-smaller c = omega arith
 
 pub loop-n-preserved : goal.loop-n-preserved
 loop-n-preserved c =
     let s = c.args in
     let l = c.loop-n in
-    let n : (s.x.0 ≡ part_id s.tracks.now l.n → ⊥) = λ e. c.if-x-id.false (e ∙ sym c.part_id-id.ensures) in
+    let n : (s.x.0 ≡ part_id s.tracks.now l.n → ⊥) = λ e. c.if-x-part_id.false (e ∙ sym c.part_id.ensures) in
     (omega arith, sym (part_step s.tracks.now s.filters.now s.x.0 l.n s.count (omega arith) ∙ rw (ne_eqb _ _ n)) ∙ l.invariant.1)
 
 pub returns : goal.returns

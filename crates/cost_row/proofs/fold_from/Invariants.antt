@@ -5,6 +5,3 @@ use Rattle.cost_row.proofs.fold_from.Given as goal
 
 abbrev pub invariant-loop-n : goal.invariant-loop-n
 invariant-loop-n l = (l.n ≤ l.count) × (fold_after l.tracks l.filters l.x.0 l.n (l.count - l.n) ≡ fold_after l.tracks l.filters l.x.0 0 l.count)
-
-abbrev pub decreases-loop-n : goal.decreases-loop-n
-decreases-loop-n l = l.count - l.n

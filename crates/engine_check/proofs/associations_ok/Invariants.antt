@@ -1,4 +1,4 @@
-use Prim.Native.Nat.{◌+◌, ◌*◌, ◌-◌, ◌≤◌}
+use Prim.Native.Nat.{◌+◌, ◌*◌}
 use mathlib.Core.Path.{◌≡◌}
 use mathlib.Core.Bool.{true}
 use Rattle.bounds.specs.Bounds.{ASSOCIATION}
@@ -6,7 +6,4 @@ use Rattle.engine.specs.Body.{layout_of, all, association_ok}
 use Rattle.engine_check.proofs.associations_ok.Given as goal
 
 abbrev pub invariant-loop-j : goal.invariant-loop-j
-invariant-loop-j l = (l.j ≤ l.n) × (all (λ k. association_ok (layout_of l.kind).width l.s (l.from + ASSOCIATION * k)) l.j ≡ true)
-
-abbrev pub decreases-loop-j : goal.decreases-loop-j
-decreases-loop-j l = l.n - l.j
+invariant-loop-j l = all (λ k. association_ok (layout_of l.kind).width l.s (l.from + ASSOCIATION * k)) l.j ≡ true

@@ -2,11 +2,11 @@ use mathlib.Core.Path.{sym, ◌∙◌}
 use mathlib.Core.Bool.{true≢false}
 use native.Mathlib.Omega.{arith}
 use lib.ListN.{length}
-use borrow.Author.Tests.{eq-eqb, ne_eqb, le-leb}
+use borrow.Author.Tests.{le-leb}
 use Rattle.bounds.specs.Bounds.{ENGINES}
 use Rattle.engine.specs.Body.{layout_of, track_count, observation_count, association_count, head_ok}
 use Rattle.engine.proofs.Bytes.{signed_passed}
-use Rattle.engine.proofs.Every.{never, code_tested}
+use Rattle.engine.proofs.Every.{never}
 use Rattle.engine.proofs.Layouts.{head_long}
 use Rattle.engine.proofs.Passing.{sized}
 use Rattle.engine_check.proofs.head_ok.Goals as goal
@@ -17,8 +17,8 @@ returns-then-s-header_size c = never _ (λ h. omega (arith, (sized (layout_of c.
 pub bounds-s-0 : goal.bounds-s-0
 bounds-s-0 c = omega (arith, head_long c.args.kind, c.header_size.ensures, c.if-s-header_size.false)
 
-pub returns-then-code_refusal-ne0 : goal.returns-then-code_refusal-ne0
-returns-then-code_refusal-ne0 c = never _ (λ h. true≢false (sym (sized (layout_of c.args.kind) c.args.s.now h).mode ∙ code_tested _ c.code_refusal.ensures ∙ ne_eqb _ 0 c.if-code_refusal-ne0.true))
+pub returns-then-not-code_ok : goal.returns-then-not-code_ok
+returns-then-not-code_ok c = never _ (λ h. true≢false (sym (sized (layout_of c.args.kind) c.args.s.now h).mode ∙ sym c.code_ok.ensures ∙ c.if-not-code_ok.true))
 
 pub returns-then-tracks-gt-ENGINES : goal.returns-then-tracks-gt-ENGINES
 returns-then-tracks-gt-ENGINES c = never _ (λ h. omega (arith, (sized (layout_of c.args.kind) c.args.s.now h).tracks, c.track_count-tracks.ensures))
@@ -46,4 +46,4 @@ returns-then-not-time_ok c = never _ (λ h. true≢false (sym (sized (layout_of 
 
 pub returns : goal.returns
 unfolding head_ok
-returns c = rw (le-leb (layout_of c.args.kind).head (length c.args.s.now) (omega (arith, c.header_size.ensures, c.if-s-header_size.false)), code_tested _ c.code_refusal.ensures ∙ eq-eqb _ 0 c.if-code_refusal-ne0.false, le-leb (track_count (layout_of c.args.kind) c.args.s.now) ENGINES (omega (arith, c.track_count-tracks.ensures, c.if-tracks-gt-ENGINES.false)), le-leb (observation_count (layout_of c.args.kind) c.args.s.now) (layout_of c.args.kind).observations (omega (arith, c.observations_most.ensures, c.observation_count.ensures, c.if-observations_most-observation_count.false)), le-leb (association_count (layout_of c.args.kind) c.args.s.now) (layout_of c.args.kind).associations (omega (arith, c.associations_most.ensures, c.association_count.ensures, c.if-associations_most-association_count.false)), le-leb _ _ (rw (c.sensors_most.ensures, c.track_count-tracks.ensures, c.sensor_count.ensures) at c.if-sensors_most-sensor_count.false), sym c.zeros_ok.ensures ∙ c.if-not-zeros_ok.false, sym (rw (c.i64_at.ensures, signed_passed c.args.s.now 8 c.type_inv.s) at c.time_ok.ensures) ∙ c.if-not-time_ok.false, c.size_of.ensures)
+returns c = rw (le-leb (layout_of c.args.kind).head (length c.args.s.now) (omega (arith, c.header_size.ensures, c.if-s-header_size.false)), sym c.code_ok.ensures ∙ c.if-not-code_ok.false, le-leb (track_count (layout_of c.args.kind) c.args.s.now) ENGINES (omega (arith, c.track_count-tracks.ensures, c.if-tracks-gt-ENGINES.false)), le-leb (observation_count (layout_of c.args.kind) c.args.s.now) (layout_of c.args.kind).observations (omega (arith, c.observations_most.ensures, c.observation_count.ensures, c.if-observations_most-observation_count.false)), le-leb (association_count (layout_of c.args.kind) c.args.s.now) (layout_of c.args.kind).associations (omega (arith, c.associations_most.ensures, c.association_count.ensures, c.if-associations_most-association_count.false)), le-leb _ _ (rw (c.sensors_most.ensures, c.track_count-tracks.ensures, c.sensor_count.ensures) at c.if-sensors_most-sensor_count.false), sym c.zeros_ok.ensures ∙ c.if-not-zeros_ok.false, sym (rw (c.i64_at.ensures, signed_passed c.args.s.now 8 c.type_inv.s) at c.time_ok.ensures) ∙ c.if-not-time_ok.false, c.size_of.ensures)

@@ -1,6 +1,4 @@
-use Prim.Native.Nat.{◌-◌}
 use mathlib.Core.Path.{◌≡◌, sym}
-use mathlib.Core.Bool.{true}
 use native.Mathlib.Omega.{arith}
 use Rattle.bounds.specs.Bounds.{OBSERVATIONS}
 use Rattle.engine.specs.Body.{layout_of}
@@ -9,7 +7,7 @@ use Rattle.engine_check.proofs.Seen.{marks_none, marks-more, index_past, index_n
 use Rattle.engine_check.proofs.indices_ok.Goals as goal
 
 pub loop-j-init : goal.loop-j-init
-loop-j-init c = (omega arith, all_none _, marks_none (layout_of c.args.kind).width c.args.s.now c.args.from OBSERVATIONS)
+loop-j-init c = (all_none _, marks_none (layout_of c.args.kind).width c.args.s.now c.args.from OBSERVATIONS)
 
 pub overflow_mul-j : goal.overflow_mul-j
 overflow_mul-j c = omega arith
@@ -21,25 +19,19 @@ pub index_at-x-requires : goal.index_at-x-requires
 index_at-x-requires c = omega arith
 
 pub returns-then-n-x : goal.returns-then-n-x
-returns-then-n-x c = sym (all-less _ c.loop-j.j c.args.m (omega arith) (index_past (layout_of c.args.kind).width _ _ OBSERVATIONS c.loop-j.j c.loop-j.invariant.2 (sym c.index_at-x.ensures) _ (omega arith)))
+returns-then-n-x c = sym (all-less _ c.loop-j.j c.args.m (omega arith) (index_past (layout_of c.args.kind).width _ _ OBSERVATIONS c.loop-j.j c.loop-j.invariant.1 (sym c.index_at-x.ensures) _ (omega arith)))
 
 pub bounds-seen-x : goal.bounds-seen-x
 bounds-seen-x c = omega arith
 
-pub returns-then-seen-x-ne0 : goal.returns-then-seen-x-ne0
-returns-then-seen-x-ne0 c = sym (all-less _ c.loop-j.j c.args.m (omega arith) (index_old (layout_of c.args.kind).width _ _ OBSERVATIONS c.loop-j.j c.loop-j.invariant.2 (sym c.index_at-x.ensures) _ c.if-n-x.false c.requires.1 c.if-seen-x-ne0.true))
+pub returns-then-seen-x : goal.returns-then-seen-x
+returns-then-seen-x c = sym (all-less _ c.loop-j.j c.args.m (omega arith) (index_old (layout_of c.args.kind).width _ _ OBSERVATIONS c.loop-j.j c.loop-j.invariant.1 (sym c.index_at-x.ensures) _ c.if-n-x.false c.requires.1 c.if-seen-x.true))
 
 pub bounds-seen-x-in-loop-j : goal.bounds-seen-x-in-loop-j
-bounds-seen-x-in-loop-j c = omega (arith, c.loop-j.invariant.2.long)
-
-pub overflow_add-j : goal.overflow_add-j
-overflow_add-j c = omega arith
-
-pub loop-j-smaller : goal.loop-j-smaller
-loop-j-smaller c = omega arith
+bounds-seen-x-in-loop-j c = omega (arith, c.loop-j.invariant.1.long)
 
 pub loop-j-preserved : goal.loop-j-preserved
-loop-j-preserved c = (omega arith, all_more _ c.loop-j.j c.loop-j.invariant.1 (index_new (layout_of c.args.kind).width _ _ OBSERVATIONS c.loop-j.j c.loop-j.invariant.2 (sym c.index_at-x.ensures) _ c.if-n-x.false c.requires.1 c.if-seen-x-ne0.false), marks-more (layout_of c.args.kind).width _ _ OBSERVATIONS c.loop-j.j c.loop-j.invariant.2 (sym c.index_at-x.ensures) (omega arith))
+loop-j-preserved c = (all_more _ c.loop-j.j c.loop-j.invariant.0 (index_new (layout_of c.args.kind).width _ _ OBSERVATIONS c.loop-j.j c.loop-j.invariant.1 (sym c.index_at-x.ensures) _ c.if-n-x.false c.requires.1 c.if-seen-x.false), marks-more (layout_of c.args.kind).width _ _ OBSERVATIONS c.loop-j.j c.loop-j.invariant.1 (sym c.index_at-x.ensures) (omega arith))
 
 pub returns : goal.returns
-returns c = let e : c.loop-j.j ≡ c.args.m = omega arith in sym (rw e at c.loop-j.invariant.1)
+returns c = let e : c.loop-j.j ≡ c.args.m = omega arith in sym (rw e at c.loop-j.invariant.0)

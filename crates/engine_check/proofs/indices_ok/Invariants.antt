@@ -1,4 +1,3 @@
-use Prim.Native.Nat.{◌-◌, ◌≤◌}
 use mathlib.Core.Path.{◌≡◌}
 use mathlib.Core.Bool.{true}
 use Rattle.bounds.specs.Bounds.{OBSERVATIONS}
@@ -7,7 +6,4 @@ use Rattle.engine_check.proofs.Seen.{Marks}
 use Rattle.engine_check.proofs.indices_ok.Given as goal
 
 abbrev pub invariant-loop-j : goal.invariant-loop-j
-invariant-loop-j l = (l.j ≤ l.m) × (all (index_ok (layout_of l.kind).width l.s l.from l.n) l.j ≡ true) × Marks (layout_of l.kind).width l.s l.from OBSERVATIONS l.j l.seen
-
-abbrev pub decreases-loop-j : goal.decreases-loop-j
-decreases-loop-j l = l.m - l.j
+invariant-loop-j l = (all (index_ok (layout_of l.kind).width l.s l.from l.n) l.j ≡ true) × Marks (layout_of l.kind).width l.s l.from OBSERVATIONS l.j l.seen

@@ -1,13 +1,10 @@
-use Prim.Native.Nat.{◌-◌}
 use mathlib.Core.Path.{◌≡◌, sym, ◌∙◌}
-use mathlib.Core.Bool.{true}
 use native.Mathlib.Omega.{arith}
-use Rattle.engine.specs.Body.{observation_ok}
 use Rattle.engine.proofs.Every.{all_none, all_more, all-less}
 use Rattle.engine_check.proofs.observations_ok.Goals as goal
 
 pub loop-i-init : goal.loop-i-init
-loop-i-init c = (omega arith, all_none _)
+loop-i-init c = all_none _
 
 pub overflow_mul-i : goal.overflow_mul-i
 overflow_mul-i c = omega arith
@@ -21,14 +18,8 @@ observation_ok-requires c = omega arith
 pub returns-then-not-observation_ok : goal.returns-then-not-observation_ok
 returns-then-not-observation_ok c = sym (all-less _ c.loop-i.i c.args.n (omega arith) (sym c.observation_ok.ensures ∙ c.if-not-observation_ok.true))
 
-pub overflow_add-i : goal.overflow_add-i
-overflow_add-i c = omega arith
-
-pub loop-i-smaller : goal.loop-i-smaller
-loop-i-smaller c = omega arith
-
 pub loop-i-preserved : goal.loop-i-preserved
-loop-i-preserved c = (omega arith, all_more _ c.loop-i.i c.loop-i.invariant.1 (sym c.observation_ok.ensures ∙ c.if-not-observation_ok.false))
+loop-i-preserved c = all_more _ c.loop-i.i c.loop-i.invariant (sym c.observation_ok.ensures ∙ c.if-not-observation_ok.false)
 
 pub returns : goal.returns
-returns c = let e : c.loop-i.i ≡ c.args.n = omega arith in sym (rw e at c.loop-i.invariant.1)
+returns c = let e : c.loop-i.i ≡ c.args.n = omega arith in sym (rw e at c.loop-i.invariant)

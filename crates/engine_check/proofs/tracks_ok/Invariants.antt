@@ -1,4 +1,4 @@
-use Prim.Native.Nat.{◌+◌, ◌*◌, ◌-◌, ◌≤◌}
+use Prim.Native.Nat.{◌+◌, ◌*◌}
 use mathlib.Core.Path.{◌≡◌}
 use mathlib.Core.Bool.{true}
 use Rattle.bounds.specs.Bounds.{ENGINE}
@@ -6,7 +6,4 @@ use Rattle.engine.specs.Body.{all, track_ok}
 use Rattle.engine_check.proofs.tracks_ok.Given as goal
 
 abbrev pub invariant-loop-i : goal.invariant-loop-i
-invariant-loop-i l = (l.i ≤ l.n) × (all (λ k. track_ok l.s (l.from + ENGINE * k)) l.i ≡ true)
-
-abbrev pub decreases-loop-i : goal.decreases-loop-i
-decreases-loop-i l = l.n - l.i
+invariant-loop-i l = all (λ k. track_ok l.s (l.from + ENGINE * k)) l.i ≡ true

@@ -1,13 +1,12 @@
-use Rattle.fgo_state.specs.Memory.{memory}
 use Rattle.fgo.proofs.Answering.{sound_is}
 use Rattle.fgo.proofs.counters.Goals as goal
 
-pub returns-then-not-is_sound : goal.returns-then-not-is_sound
-returns-then-not-is_sound c = λ fs.
+pub returns-else-is_sound : goal.returns-else-is_sound
+returns-else-is_sound c =
     let g = c.args in
-    rw (sound_is g.r (memory g.bodies.now g.columns.now g.owners.now g.tracks.now fs) c.is_sound.ensures (c.if-not-is_sound.true))
+    rw (sound_is g.r.now g.memory.now c.is_sound.ensures (c.if-is_sound.false))
 
-pub returns : goal.returns
-returns c = λ fs.
+pub returns-then-is_sound : goal.returns-then-is_sound
+returns-then-is_sound c =
     let g = c.args in
-    rw (sound_is g.r (memory g.bodies.now g.columns.now g.owners.now g.tracks.now fs) c.is_sound.ensures (c.if-not-is_sound.false))
+    rw (sound_is g.r.now g.memory.now c.is_sound.ensures (c.if-is_sound.true))

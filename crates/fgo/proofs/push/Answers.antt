@@ -1,57 +1,61 @@
+use borrow.Author.Tests.{eqb-false}
+use Rattle.std.proofs.lemmas.Result.{err_from_is_err_and}
+use Rattle.refusals.specs.Refusals.{number_of}
+use Rattle.refusals.proofs.Refused.{numbered}
 use Rattle.fgo.proofs.PushLaw.{refuses, push_numbered, push-held, push_leaves}
 use Rattle.fgo.proofs.Answering.{later_none, refusal_ends, due_refused}
-use Rattle.fgo_state.specs.Memory.{memory}
 use Rattle.engine.specs.Body.{body}
 use Rattle.buffers.specs.Answer.{pushed}
 use native.Mathlib.Omega.{arith}
-use mathlib.Core.Path.{sym, ◌∙◌}
+use mathlib.Core.Path.{sym}
 use Rattle.fgo.proofs.push.Goals as goal
 
-pub returns-then-n-ne0 : goal.returns-then-n-ne0
-returns-then-n-ne0 c = let a = c.args in
-    let m = memory a.bodies.now a.columns.now a.owners.now a.tracks.now a.filters.now in
-    let e = c.later_refusal-n.ensures a.filters.now in
+pub returns-in_err-check_call : goal.returns-in_err-check_call
+returns-in_err-check_call c = let a = c.args in
+    let m = a.memory.now in
+    let r = c.in_err-check_call.field-0.0 in
+    let p = err_from_is_err_and c.from_residual.result c.from_residual.ensures.1 in
+    rw (p.1, p.2) (refusal_ends a.r.now m a.words.now a.numbers.now (due_refused a.r.now m a.words.now a.numbers.now (pushed (body a.kind a.s.now)) c.in_err-check_call.ensures (eqb-false _ 0 (numbered r))))
+
+pub check_push-requires : goal.check_push-requires
+check_push-requires c = let a = c.args in
+    let m = a.memory.now in
+    let e = c.in_ok-check_call.ensures in
+    refuses a.r.now m (later_none a.r.now m a.words.now a.numbers.now (sym e)).0
+
+pub returns-in_err-check_push : goal.returns-in_err-check_push
+returns-in_err-check_push c = let a = c.args in
+    let m = a.memory.now in
     let b = body a.kind a.s.now in
-    refusal_ends a.r m a.words.now a.numbers.now (due_refused a.r m a.words.now a.numbers.now (pushed b) e c.if-n-ne0.true) c.refused.ensures
+    let r = c.in_err-check_push.field-0.0 in
+    let p = err_from_is_err_and c.from_residual-in_err-check_push.result c.from_residual-in_err-check_push.ensures.1 in
+    let due = push_numbered a.r.now m b a.words.now a.numbers.now (sym c.in_ok-check_call.ensures) (number_of r) c.in_err-check_push.ensures (eqb-false _ 0 (numbered r)) in
+    rw (p.1, p.2) (refusal_ends a.r.now m a.words.now a.numbers.now due)
 
-pub push_refusal-code-requires : goal.push_refusal-code-requires
-push_refusal-code-requires c = let a = c.args in
-    let m = memory a.bodies.now a.columns.now a.owners.now a.tracks.now a.filters.now in
-    let e = c.later_refusal-n.ensures a.filters.now in
-    refuses a.r m (later_none a.r m a.words.now a.numbers.now (sym e ∙ c.if-n-ne0.false)).0
-
-pub returns-then-code-ne0 : goal.returns-then-code-ne0
-returns-then-code-ne0 c = let a = c.args in
-    let m = memory a.bodies.now a.columns.now a.owners.now a.tracks.now a.filters.now in
-    let e = c.later_refusal-n.ensures a.filters.now in
-    let b = body a.kind a.s.now in
-    let none = sym e ∙ c.if-n-ne0.false in
-    refusal_ends a.r m a.words.now a.numbers.now (push_numbered a.r m b a.words.now a.numbers.now none _ c.push_refusal-code.ensures c.if-code-ne0.true) c.refused-then-code-ne0.ensures
-
-pub arrive-u-requires : goal.arrive-u-requires
-arrive-u-requires c = let a = c.args in
-    let m = memory a.bodies.now a.columns.now a.owners.now a.tracks.now a.filters.now in
-    let e = c.later_refusal-n.ensures a.filters.now in
-    record { sound = (later_none a.r m a.words.now a.numbers.now (sym e ∙ c.if-n-ne0.false)).0; accepted = sym c.push_refusal-code.ensures ∙ c.if-code-ne0.false }
+pub arrive-requires : goal.arrive-requires
+arrive-requires c = let a = c.args in
+    let m = a.memory.now in
+    let e = c.in_ok-check_call.ensures in
+    record { sound = (later_none a.r.now m a.words.now a.numbers.now (sym e)).0; accepted = sym c.in_ok-check_push.ensures }
 
 pub freeze_oldest-requires : goal.freeze_oldest-requires
 freeze_oldest-requires c = let a = c.args in
-    let m = memory a.bodies.now a.columns.now a.owners.now a.tracks.now a.filters.now in
-    let e = c.later_refusal-n.ensures a.filters.now in
-    (c.arrive-u.ensures.ready, (later_none a.r m a.words.now a.numbers.now (sym e ∙ c.if-n-ne0.false)).1, omega (arith, c.if-u.true))
+    let m = a.memory.now in
+    let e = c.in_ok-check_call.ensures in
+    (c.arrive.ensures.arrived.ready, (later_none a.r.now m a.words.now a.numbers.now (sym e)).1, omega (arith, c.if-r.true))
 
-pub returns-then-u : goal.returns-then-u
-returns-then-u c = let a = c.args in
-    let m = memory a.bodies.now a.columns.now a.owners.now a.tracks.now a.filters.now in
-    let e = c.later_refusal-n.ensures a.filters.now in
+pub returns-then-r : goal.returns-then-r
+returns-then-r c = let a = c.args in
+    let m = a.memory.now in
+    let e = c.in_ok-check_call.ensures in
     let b = body a.kind a.s.now in
-    let none = sym e ∙ c.if-n-ne0.false in
-    push_leaves a.r m b a.words.now a.numbers.now none (sym c.push_refusal-code.ensures ∙ c.if-code-ne0.false) _ _ c.arrive-u.ensures c.if-u.true c.freeze_oldest.ensures
+    let none = sym e in
+    push_leaves a.r.now m b a.words.now a.numbers.now none (sym c.in_ok-check_push.ensures) _ _ c.arrive.ensures.arrived c.if-r.true c.freeze_oldest.ensures.promised
 
 pub returns : goal.returns
 returns c = let a = c.args in
-    let m = memory a.bodies.now a.columns.now a.owners.now a.tracks.now a.filters.now in
-    let e = c.later_refusal-n.ensures a.filters.now in
+    let m = a.memory.now in
+    let e = c.in_ok-check_call.ensures in
     let b = body a.kind a.s.now in
-    let none = sym e ∙ c.if-n-ne0.false in
-    push-held a.r m b a.words.now a.numbers.now none (sym c.push_refusal-code.ensures ∙ c.if-code-ne0.false) _ _ c.arrive-u.ensures c.if-u.false
+    let none = sym e in
+    push-held a.r.now m b a.words.now a.numbers.now none (sym c.in_ok-check_push.ensures) _ _ c.arrive.ensures.arrived c.if-r.false

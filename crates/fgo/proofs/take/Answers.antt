@@ -1,33 +1,36 @@
+use borrow.Author.Tests.{eqb-false}
+use Rattle.std.proofs.lemmas.Result.{err_from_is_err_and}
+use Rattle.refusals.proofs.Refused.{numbered}
 use Rattle.fgo.proofs.Answering.{later_none, refusal_ends, due_refused, take_none, take_ends}
 use Rattle.fgo_arrive.proofs.ReadyLaw.{sound_ready}
-use Rattle.fgo_state.specs.Memory.{memory}
 use Rattle.buffers.specs.Answer.{taken}
 use native.Mathlib.Omega.{arith}
-use mathlib.Core.Path.{sym, ◌∙◌}
+use mathlib.Core.Path.{sym}
 use Rattle.fgo.proofs.take.Goals as goal
 
-pub returns-then-n-ne0 : goal.returns-then-n-ne0
-returns-then-n-ne0 c = let a = c.args in
-    let m = memory a.bodies.now a.columns.now a.owners.now a.tracks.now a.filters.now in
-    let e = c.later_refusal-n.ensures a.filters.now in
-    refusal_ends a.r m a.words.now a.numbers.now (due_refused a.r m a.words.now a.numbers.now taken e c.if-n-ne0.true) c.refused.ensures
+pub returns-in_err-check_call-clause-promised : goal.returns-in_err-check_call-clause-promised
+returns-in_err-check_call-clause-promised c = let a = c.args in
+    let m = a.memory.now in
+    let r = c.in_err-check_call.field-0.0 in
+    let p = err_from_is_err_and c.from_residual.result c.from_residual.ensures.1 in
+    rw (p.1, p.2) (refusal_ends a.r.now m a.words.now a.numbers.now (due_refused a.r.now m a.words.now a.numbers.now taken c.in_err-check_call.ensures (eqb-false _ 0 (numbered r))))
 
-pub returns-then-r-eq0 : goal.returns-then-r-eq0
-returns-then-r-eq0 c = let a = c.args in
-    let m = memory a.bodies.now a.columns.now a.owners.now a.tracks.now a.filters.now in
-    let e = c.later_refusal-n.ensures a.filters.now in
-    let none = sym e ∙ c.if-n-ne0.false in
-    refusal_ends a.r m a.words.now a.numbers.now (take_none a.r m a.words.now a.numbers.now none c.if-r-eq0.true) c.refused-then-r-eq0.ensures
+pub returns-then-r-eq0-clause-promised : goal.returns-then-r-eq0-clause-promised
+returns-then-r-eq0-clause-promised c = let a = c.args in
+    let m = a.memory.now in
+    let e = c.in_ok-check_call.ensures in
+    let none = sym e in
+    refusal_ends a.r.now m a.words.now a.numbers.now (take_none a.r.now m a.words.now a.numbers.now none c.if-r-eq0.true)
 
 pub freeze_oldest-requires : goal.freeze_oldest-requires
 freeze_oldest-requires c = let a = c.args in
-    let m = memory a.bodies.now a.columns.now a.owners.now a.tracks.now a.filters.now in
-    let e = c.later_refusal-n.ensures a.filters.now in
-    let p = later_none a.r m a.words.now a.numbers.now (sym e ∙ c.if-n-ne0.false) in
-    (sound_ready a.r m p.0, p.1, omega (arith, c.if-r-eq0.false))
+    let m = a.memory.now in
+    let e = c.in_ok-check_call.ensures in
+    let p = later_none a.r.now m a.words.now a.numbers.now (sym e) in
+    (sound_ready a.r.now m p.0, p.1, omega (arith, c.if-r-eq0.false))
 
-pub returns : goal.returns
-returns c = let a = c.args in
-    let m = memory a.bodies.now a.columns.now a.owners.now a.tracks.now a.filters.now in
-    let e = c.later_refusal-n.ensures a.filters.now in
-    take_ends a.r m a.words.now a.numbers.now (sym e ∙ c.if-n-ne0.false) c.freeze_oldest.ensures
+pub returns-clause-promised : goal.returns-clause-promised
+returns-clause-promised c = let a = c.args in
+    let m = a.memory.now in
+    let e = c.in_ok-check_call.ensures in
+    take_ends a.r.now m a.words.now a.numbers.now (sym e) c.freeze_oldest.ensures.promised

@@ -1,27 +1,36 @@
+use mathlib.Core.Path.{sym, subst}
 use Rattle.engine.specs.Body.{body}
-use Rattle.fgo_state.specs.Memory.{memory}
-use Rattle.fgo_arrive.proofs.Accepted.{bytes_of, holds}
+use Rattle.fgo_state.proofs.Bodies.{bytes_of}
+use Rattle.fgo_arrive.specs.Arriving.{Arrived}
+use Rattle.fgo_arrive.proofs.Accepted.{holds}
 use Rattle.fgo_arrive.proofs.HeldFrame.{searches}
-use Rattle.fgo_arrive.proofs.ArrivedState.{arrives}
+use Rattle.fgo_arrive.proofs.ArrivedState.{after, arrives}
 use Rattle.fgo_arrive.proofs.arrive.Goals as goal
 
-pub hold-h-requires : goal.hold-h-requires
-hold-h-requires c = let a = c.args in
-    let m = memory a.bodies.now a.columns.now a.owners.now a.tracks.now a.filters.now in
-    holds a.r m (body a.kind a.s.now) c.requires c.lent.ensures
+pub hold-requires : goal.hold-requires
+hold-requires c =
+    let a = c.args in
+    holds a.r.now a.m.now (body a.kind a.s.now) c.requires c.typed.ensures.bytes
 
 pub search_held-t-requires : goal.search_held-t-requires
-search_held-t-requires c = let a = c.args in
-    let m = memory a.bodies.now a.columns.now a.owners.now a.tracks.now a.filters.now in
-    searches a.r m (body a.kind a.s.now) c.requires c.lent.ensures (bytes_of a.s.now (λ i. c.type_inv.s i)) _ _ _ _ c.hold-h.ensures
+search_held-t-requires c =
+    let a = c.args in
+    searches a.r.now a.m.now (body a.kind a.s.now) c.requires c.typed.ensures.bytes (bytes_of a.s.now (λ i. c.type_inv.s i)) _ _ _ _ c.hold.ensures
 
-pub keep_owners-owned-requires : goal.keep_owners-owned-requires
-keep_owners-owned-requires c = let a = c.args in
-    let m = memory a.bodies.now a.columns.now a.owners.now a.tracks.now a.filters.now in
-    let h = searches a.r m (body a.kind a.s.now) c.requires c.lent.ensures (bytes_of a.s.now (λ i. c.type_inv.s i)) _ _ _ _ c.hold-h.ensures in
-    (h.held.early, h.frozen, h.owners, c.search_held-t.ensures.owners_long)
+pub keep_owners-r-requires : goal.keep_owners-r-requires
+keep_owners-r-requires c =
+    let a = c.args in
+    let h = searches a.r.now a.m.now (body a.kind a.s.now) c.requires c.typed.ensures.bytes (bytes_of a.s.now (λ i. c.type_inv.s i)) _ _ _ _ c.hold.ensures in
+    (h.held.early, h.frozen, h.owners)
 
-pub returns : goal.returns
-returns c = let a = c.args in
-    let m = memory a.bodies.now a.columns.now a.owners.now a.tracks.now a.filters.now in
-    arrives a.r m (body a.kind a.s.now) c.requires c.lent.ensures (bytes_of a.s.now (λ i. c.type_inv.s i)) _ _ _ _ c.hold-h.ensures _ _ _ _ _ c.search_held-t.ensures c.keep_owners-owned.ensures
+pub returns-clause-arrived : goal.returns-clause-arrived
+returns-clause-arrived c =
+    let a = c.args in
+    let u = c.hold.new.r in
+    let n = c.search_held-t.new.m in
+    let e = c.search_held-t.ensures.bodies in
+    let p = c.search_held-t.ensures.parts in
+    let keeps = rw (e, p) at c.keep_owners-r.ensures in
+    subst (Arrived a.r.now a.m.now (body a.kind a.s.now) (after u c.keep_owners-r.result c.search_held-t.result))
+    (λ i. record { scans = record { bodies = sym e i; columns = n.scans.columns }; owners = c.keep_owners-r.new.owners; parts = sym p i })
+    (arrives a.r.now a.m.now (body a.kind a.s.now) c.requires c.typed.ensures.bytes (bytes_of a.s.now (λ i. c.type_inv.s i)) _ _ _ _ c.hold.ensures _ _ _ _ _ c.search_held-t.ensures.found keeps)

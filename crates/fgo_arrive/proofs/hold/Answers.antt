@@ -1,9 +1,10 @@
 use Prim.Native.Nat.{ℕ, ◌+◌, ◌*◌, ◌≤◌}
 use native.Mathlib.Omega.{arith}
-use mathlib.Core.Path.{◌≡◌, refl}
+use mathlib.Core.Path.{◌≡◌, refl, sym}
+use lib.Seq.{length-take-le}
 use mathlib.Core.List.{List}
-use lib.ListN.{length}
-use Rattle.bounds.specs.Bounds.{ASSOCIATIONS, BODY, COLUMN}
+use lib.ListN.{length, take}
+use Rattle.bounds.specs.Bounds.{ASSOCIATIONS, BODY, BODIES, COLUMN, COLUMNS}
 use Rattle.engine.specs.Body.{Body, body, associations_in}
 use Rattle.fgo_place.specs.declared.place.Placing.{Placing}
 use Rattle.fgo_state.specs.declared.state.FixedLagRefiner.{FixedLagRefiner}
@@ -12,19 +13,19 @@ use Rattle.fgo_state.specs.Memory.{slot_at, column_words}
 use Rattle.fgo_place.specs.Placing.{Placed}
 use Rattle.fgo_arrive.specs.Arriving.{placed_by, Holds, HeldBy}
 use Rattle.fgo_state.proofs.Counts.{associations_few}
-use Rattle.fgo_arrive.proofs.HeldScans.{body_fits, bodies_kept, columns-kept, body_other, body_here, scans_more}
+use Rattle.fgo_arrive.proofs.HeldScans.{body_fits, body_other, body_here, scans_more}
 use Rattle.fgo_arrive.proofs.hold.Goals as goal
 
 -- where the frame was placed, and its slot written
 held_by :
-    (r : FixedLagRefiner) (s : Body) (bodies columns owners : List ℕ) → Holds r s bodies columns owners → (p : Placing) (owners' ids : List ℕ) →
+    (r : FixedLagRefiner) (s : Body) (bodies columns owners : List ℕ) → Holds r s → length bodies ≡ BODIES → length columns ≡ COLUMNS → (p : Placing) (owners' ids : List ℕ) →
     Placed (associations_in s) (placed_by r s owners) p owners' ids → {count : ℕ} {bodies' columns' : List ℕ} → count ≡ associations_in s →
     bodies' ≡ over (BODY * slot_at (r.first.0 + r.held)) s.bytes bodies →
-    columns' ≡ over (COLUMN * slot_at (r.first.0 + r.held)) (column_words s.kind (length s.bytes) count ids) columns →
+    columns' ≡ over (COLUMN * slot_at (r.first.0 + r.held)) (column_words s.kind (length s.bytes) (take count ids)) columns →
     HeldBy r s bodies columns owners
     (record { config = r.config; first = r.first; held = r.held + 1; frozen = r.frozen; owned = p.owned; next_id = p.next_id; counters = r.counters })
     bodies' columns' owners'
-held_by r s bodies columns owners h p owners' ids w ec eb ed =
+held_by r s bodies columns owners h bodies_long columns_long p owners' ids w ec eb ed =
     rw (eb, ed, ec)
     (record {
       settings = refl;
@@ -35,12 +36,9 @@ held_by r s bodies columns owners h p owners' ids w ec eb ed =
       next_id = w.next_is;
       owned = w.few;
       owners_are = w.owners_are;
-      scans = scans_more bodies columns s ids n m fits few enough h.bodies_long h.columns_long r.first.0 r.held refl h.few refl w.ids_are;
-      older = λ i l. body_other bodies columns s ids n m fits few enough h.bodies_long h.columns_long (r.first.0 + i) (λ z. let k = h.few in omega arith);
-      newest = body_here bodies columns s ids n m fits few enough h.bodies_long h.columns_long;
-      bodies_long = bodies_kept bodies columns s ids n m fits few enough h.bodies_long h.columns_long;
-      columns_long = columns-kept bodies columns s ids n m fits few enough h.bodies_long h.columns_long;
-      owners_long = w.owners_long;
+      scans = scans_more bodies columns s ids n m fits few enough bodies_long columns_long r.first.0 r.held refl h.few refl w.ids_are;
+      older = λ i l. body_other bodies columns s ids n m fits few enough bodies_long columns_long (r.first.0 + i) (λ z. let k = h.few in omega arith);
+      newest = body_here bodies columns s ids n m fits few enough bodies_long columns_long;
     })
   where
     n : ℕ
@@ -58,20 +56,22 @@ held_by r s bodies columns owners h p owners' ids w ec eb ed =
     enough : m ≤ length ids
     enough = omega (arith, few, w.ids_long)
 
-pub put_body-requires : goal.put_body-requires
-put_body-requires c = ((let f = c.args in body_fits (body f.kind f.s.now) c.requires.passes), c.requires.bodies_long)
+pub slice_bounds-ids-end : goal.slice_bounds-ids-end
+slice_bounds-ids-end c = let f = c.args in omega (arith, c.association_count.ensures, associations_few (body f.kind f.s.now) c.requires.passes, c.place_all-p.ensures.ids_long)
 
-pub put_column-requires : goal.put_column-requires
-put_column-requires c = (
-  rw c.association_count-count.ensures (let f = c.args in associations_few (body f.kind f.s.now) c.requires.passes),
-  c.place_all-p.ensures.ids_long,
-  c.requires.columns_long,
-)
+pub slice_bounds-put-end : goal.slice_bounds-put-end
+slice_bounds-put-end c =
+    let f = c.args in
+    sym (length-take-le c.association_count.result c.place_all-p.new.ids (omega (arith, c.association_count.ensures, associations_few (body f.kind f.s.now) c.requires.passes, c.place_all-p.ensures.ids_long)))
 
-pub overflow_add-result : goal.overflow_add-result
-overflow_add-result c = let h = c.requires.few in record { fits = omega arith }
+pub put-requires : goal.put-requires
+put-requires c =
+    let f = c.args in
+    let few = associations_few (body f.kind f.s.now) c.requires.passes in
+    let long = length-take-le c.association_count.result c.place_all-p.new.ids (omega (arith, c.association_count.ensures, few, c.place_all-p.ensures.ids_long)) in
+    (body_fits (body f.kind f.s.now) c.requires.passes, omega (arith, long, c.association_count.ensures, few))
 
 pub returns : goal.returns
 returns c = let f = c.args in
-    held_by f.r (body f.kind f.s.now) f.bodies.now f.columns.now f.owners.now c.requires c.place_all-p.result c.place_all-p.new.owners
-    c.place_all-p.new.ids c.place_all-p.ensures c.association_count-count.ensures c.put_body.ensures c.put_column.ensures
+    held_by f.r.now (body f.kind f.s.now) f.scans.now.bodies f.scans.now.columns f.owners.now c.requires c.typed.ensures.bodies_long c.typed.ensures.columns_long c.place_all-p.result c.place_all-p.new.owners
+    c.place_all-p.new.ids c.place_all-p.ensures c.association_count.ensures c.put.ensures.bodies c.put.ensures.columns

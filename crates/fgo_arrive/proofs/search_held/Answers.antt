@@ -3,7 +3,7 @@ use mathlib.Core.Path.{◌≡◌, sym, ap, ◌∙◌}
 use mathlib.Core.List.{List, map}
 use lib.ListN.{length, replicate, length-replicate}
 use lib.Ieee.{Float, binary64, of_bits}
-use Rattle.bounds.specs.Bounds.{DETECTIONS, DOTS, OWNERS}
+use Rattle.bounds.specs.Bounds.{DETECTIONS, DOTS}
 use Rattle.engine.specs.Body.{body_refusal}
 use Rattle.fgo_spec.specs.Windows.{Scan}
 use Rattle.fgo_spec.specs.Owning.{or_else, latest}
@@ -14,12 +14,13 @@ use Rattle.search.specs.Pass.{scene_of}
 use Rattle.search.specs.Represents.{Finds}
 use Rattle.fgo_state.specs.declared.state.FixedLagRefiner.{FixedLagRefiner}
 use Rattle.fgo_part.specs.Parts.{table_in}
-use Rattle.fgo_state.specs.Memory.{Memory, memory, scan_in, scans_in, owners_in}
+use Rattle.fgo_state.specs.declared.state.Memory.{Memory}
+use Rattle.fgo_state.specs.Memory.{scan_in, scans_in, owners_in}
 use Rattle.fgo_state.specs.Gathering.{latest_of, GatheredAll, Scattered, held_latest}
 use Rattle.fgo_arrive.specs.Arriving.{SearchesHeld, SearchedHeld, improved_in}
 use Rattle.fgo_spec.proofs.Rows.{row_of}
 use Rattle.fgo_state.proofs.HeldGathered.{starts_within, latest-held}
-use Rattle.fgo_arrive.proofs.SearchGathered.{able, ids_long, search_gathered, scans_put_back}
+use Rattle.fgo_arrive.proofs.SearchGathered.{able, search_gathered, scans_put_back}
 use Rattle.fgo_arrive.proofs.search_held.Goals as goal
 
 -- arrays as they are made
@@ -32,54 +33,49 @@ none_long = length-replicate DOTS (of_bits binary64 0)
 -- what the search found, put back, and the owners told anew
 searched_by :
     (r : FixedLagRefiner) (m : Memory) → SearchesHeld r m → (n : ℕ) (is es is' es' ts : List ℕ) (dots : List Float) →
-    GatheredAll m.bodies m.columns r.first.0 r.held n is es is' es' ts → length es ≡ DETECTIONS →
+    GatheredAll m.scans.bodies m.scans.columns r.first.0 r.held n is es is' es' ts → length es ≡ DETECTIONS →
     (ids columns' owners' : List ℕ) (t : Tally) → length ids ≡ DETECTIONS →
-    Finds (scene_of (record { config = r.config; first = r.first; detections = n; frozen = r.frozen }) ts dots m.tracks m.filters) r.next_id.0 r.counters
-    (table_in m.tracks m.filters r.frozen) (scans_in m.bodies m.columns r.first.0 r.held) ids t →
-    Scattered m.bodies r.first.0 r.held ids m.columns columns' →
-    owners_in owners' r.owned ≡ held_latest ids es' ts r.held (owners_in m.owners r.owned) → length owners' ≡ OWNERS → SearchedHeld r m columns' owners' t
-searched_by r m w n is es is' es' ts dots g es-long ids columns' owners' t long f s o owners_long =
+    Finds (scene_of (record { config = r.config; first = r.first; detections = n; frozen = r.frozen }) ts dots m.parts.tracks m.parts.filters) r.next_id.0 r.counters
+    (table_in m.parts.tracks m.parts.filters r.frozen) (scans_in m.scans.bodies m.scans.columns r.first.0 r.held) ids t →
+    Scattered m.scans.bodies r.first.0 r.held ids m.scans.columns columns' →
+    owners_in owners' r.owned ≡ held_latest ids es' ts r.held (owners_in m.owners r.owned) → SearchedHeld r m columns' owners' t
+searched_by r m w n is es is' es' ts dots g es-long ids columns' owners' t long f s o =
     record {
-      scans = scans_put_back m.bodies m.columns r.first.0 r.held n is es is' es' ts w.held g s ∙ sym f.scans;
+      scans = scans_put_back m.scans.bodies m.scans.columns r.first.0 r.held n is es is' es' ts w.held g s ∙ sym f.scans;
       bodies = λ i l. ap (body_refusal) (s.same i l) ∙ w.held.passes i l;
       owners = o ∙ ap (λ (h : ℕ × ℕ → ℕ × ℕ). map h (owners_in m.owners r.owned)) (λ z p. (p.0, same p.0 p.1 z));
       next_id = f.next_id;
       counters = f.counters;
-      columns_long = s.long ∙ w.columns_long;
-      owners_long = owners_long;
     }
   where
     scan : ℕ → Scan
-    scan = scan_in m.bodies m.columns
+    scan = scan_in m.scans.bodies m.scans.columns
 
     tied : (k : ℕ) → k < r.held → TiedScan (λ e. Unit {0}) (scan (r.first.0 + k))
     tied k l = loose_tied _ _ (row_of (ColumnRule r.next_id.0) scan r.first.0 r.held k w.columns l).loose
 
     same : (e y : ℕ) → or_else (latest_of e ids es' ts r.held) y ≡ latest e y (improved_in r m).search.scans
-    same e y = sym (ap (latest e y) f.scans ∙ latest-held m.bodies m.columns r.first.0 r.held n is es is' es' ts w.held g tied es-long e y ids long)
+    same e y = sym (ap (latest e y) f.scans ∙ latest-held m.scans.bodies m.scans.columns r.first.0 r.held n is es is' es' ts w.held g tied es-long e y ids long)
 
 pub improve-t-requires : goal.improve-t-requires
 improve-t-requires c = let f = c.args in
     let w = c.requires in
     let g = c.gather-detections.ensures in
-    (able _ _ _ _ _ _ _ _ _ _ w.held g f.r.config f.r.frozen w.frozen _ _ _, ids_long _ _ _ _ _ _ _ _ _ _ w.held g zeros_long)
-
-pub scatter-requires : goal.scatter-requires
-scatter-requires c = c.requires.held
+    able _ _ _ _ _ _ _ _ _ _ w.held g f.r.now.config f.r.now.frozen w.frozen _ _ _
 
 pub hold_latest-requires : goal.hold_latest-requires
 hold_latest-requires c = let w = c.requires in
     let g = c.gather-detections.ensures in
-    (w.owners, w.owners_long, starts_within _ _ _ _ _ _ _ _ _ _ w.held g)
+    (w.owners, starts_within _ _ _ _ _ _ _ _ _ _ w.held g)
 
-pub returns : goal.returns
-returns c = let f = c.args in
+pub returns-clause-found : goal.returns-clause-found
+returns-clause-found c = let f = c.args in
     let w = c.requires in
     let g = c.gather-detections.ensures in
     let d = c.gather_dots.ensures in
     let v = c.improve-t.ensures in
-    searched_by f.r (memory f.bodies.now f.columns.now f.owners.now f.tracks.now f.filters.now) w _ _ _ _ _ _ _ g zeros_long _ _ _ _ v.ids_len
-    (v.fact _ _
-    (search_gathered _ _ _ _ _ _ _ _ _ _ w.held g f.r.config _ _ none_long d f.r.next_id.0 f.r.counters f.tracks.now f.filters.now f.r.frozen w.settings
+    searched_by f.r.now f.m.now w _ _ _ _ _ _ _ g zeros_long _ _ _ _ v.long
+    (v.finds _ _
+    (search_gathered _ _ _ _ _ _ _ _ _ _ w.held g f.r.now.config _ _ none_long d f.r.now.next_id.0 f.r.now.counters f.m.now.parts.tracks f.m.now.parts.filters f.r.now.frozen w.settings
     zeros_long w.begun w.columns w.spare))
-    c.scatter.ensures c.hold_latest.ensures.0 c.hold_latest.ensures.1
+    c.scatter.ensures.ids c.hold_latest.ensures

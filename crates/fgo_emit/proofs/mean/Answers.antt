@@ -30,24 +30,9 @@ pub returns-then-n-eq0 : goal.returns-then-n-eq0
 unfolding freezing.mean rows
 returns-then-n-eq0 c = rw c.if-n-eq0.true
 
-pub bounds-hs-0 : goal.bounds-hs-0
-bounds-hs-0 c = omega arith
-
 pub loop-i-init : goal.loop-i-init
 unfolding rows
 loop-i-init c = (omega arith, omega arith, refl)
-
-pub offset_bounds-hs-i : goal.offset_bounds-hs-i
-offset_bounds-hs-i c = omega arith
-
-pub bounds-hs-i : goal.bounds-hs-i
-bounds-hs-i c = omega arith
-
-pub overflow_add-i : goal.overflow_add-i
-overflow_add-i c = omega arith
-
-pub loop-i-smaller : goal.loop-i-smaller
-loop-i-smaller c = omega arith
 
 pub loop-i-preserved : goal.loop-i-preserved
 loop-i-preserved c = let hs = c.args.hs in

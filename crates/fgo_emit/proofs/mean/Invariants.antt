@@ -13,6 +13,3 @@ summed hs i = foldl (add binary64) (height hs 0) (rows (height hs) 1 (i - 1))
 
 abbrev pub invariant-loop-i : goal.invariant-loop-i
 invariant-loop-i l = (1 ≤ l.i) × (l.i ≤ l.n) × (l.sum ≡ summed l.hs l.i)
-
-abbrev pub decreases-loop-i : goal.decreases-loop-i
-decreases-loop-i l = l.n - l.i

@@ -45,37 +45,18 @@ pub loop-j-init : goal.loop-j-init
 unfolding associations_words
 loop-j-init c = (omega arith, written_none _ _)
 
-pub overflow_mul-j : goal.overflow_mul-j
-overflow_mul-j c = record { fits = omega (arith, c.association_count.ensures, c.requires.1) }
-
-pub overflow_add-o : goal.overflow_add-o
-overflow_add-o c = record { fits = omega (arith, c.association_count.ensures, c.requires.1) }
-
-pub put_words-requires : goal.put_words-requires
-put_words-requires c = let long : length c.association_words-ws.result ≡ LINK = ap length c.association_words-ws.ensures in
-    omega (arith, c.association_count.ensures, c.requires.1, c.loop-j.invariant.1.long)
-
-pub overflow_add-j : goal.overflow_add-j
-overflow_add-j c = record { fits = omega (arith, c.association_count.ensures, c.requires.1) }
-
-pub loop-j-smaller : goal.loop-j-smaller
-loop-j-smaller c = omega (arith, c.association_count.ensures)
-
 pub loop-j-preserved : goal.loop-j-preserved
 loop-j-preserved c = let s = body_of c.args.kind c.args.s.now in
     let o = c.args.o in
     let j = c.loop-j.j in
     let words = c.loop-j.words in
     let said =
-    c.association_words-ws.ensures
+    c.association_words.ensures
     ∙ ap (λ (a : Association). association_words a c.id_at.result.0) (c.association-a.ensures.1 c.requires.0)
     ∙ ap (association_words (association_in s j)) c.id_at.ensures in
-    (omega (arith, c.association_count.ensures), next c.args.columns.now c.args.n.0 s o (omega (arith, c.association_count.ensures)) c.requires.1 c.loop-j.invariant.1 (c.put_words.ensures ∙ ap (λ (l : List ℕ). over (o + LINK * j) l words) said))
-
-pub shape_of-words : goal.shape_of-words
-shape_of-words c = c.loop-j.invariant.1.long
+    (omega (arith, c.association_count-j-end.ensures), next c.args.scans.now.columns c.args.n.0 s o (omega (arith, c.association_count-j-end.ensures)) c.requires.1 c.loop-j.invariant.1 (c.put.ensures ∙ ap (λ (l : List ℕ). over (o + LINK * j) l words) said))
 
 pub returns : goal.returns
 returns c = let o = c.args.o in
     c.loop-j.invariant.1.written
-    ∙ ap (λ (g : List ℕ). over o g c.args.words.now) (all c.args.columns.now c.args.n.0 (body_of c.args.kind c.args.s.now) c.loop-j.j (omega (arith, c.association_count.ensures)))
+    ∙ ap (λ (g : List ℕ). over o g c.args.words.now) (all c.args.scans.now.columns c.args.n.0 (body_of c.args.kind c.args.s.now) c.loop-j.j (omega (arith, c.association_count-j-end.ensures)))

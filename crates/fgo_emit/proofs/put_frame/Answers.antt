@@ -30,14 +30,9 @@ few c time tracks filters frozen p h = omega (arith, p.count, listed_few c time 
 
 pub put_tracks-t-requires : goal.put_tracks-t-requires
 put_tracks-t-requires c =
-    let e = body_read c.args.bodies.now c.args.columns.now c.args.n.0 c.kind_of-kind.ensures c.body_in-s.ensures in
-    let time = passed_on c.time_of-time.result c.time_of-time.type_inv ∙ c.time_of-time.ensures.1 (passes e c.requires.passes) in
-    (rw (time, ← scan_frame c.args.bodies.now c.args.columns.now c.args.n.0 e) c.requires.parts, c.requires.room)
-
-pub put_head-requires : goal.put_head-requires
-put_head-requires c =
-    let e = body_read c.args.bodies.now c.args.columns.now c.args.n.0 c.kind_of-kind.ensures c.body_in-s.ensures in
-    (passes e c.requires.passes, omega (arith, c.put_tracks-t.auto, c.requires.room.words))
+    let e = body_read c.args.scans.now.bodies c.args.scans.now.columns c.args.n.0 c.kind_of-kind.ensures c.body_in-s.ensures in
+    let time = passed_on c.time_of.result c.time_of.type_inv ∙ c.time_of.ensures.1 (passes e c.requires.passes) in
+    (rw (time, ← scan_frame c.args.scans.now.bodies c.args.scans.now.columns c.args.n.0 e) c.requires.parts, c.requires.room)
 
 pub overflow_mul-a : goal.overflow_mul-a
 overflow_mul-a c = record { fits = omega (arith, few _ _ _ _ _ c.put_tracks-t.ensures c.requires.parts.few) }
@@ -47,22 +42,22 @@ overflow_add-a c = record { fits = omega (arith, few _ _ _ _ _ c.put_tracks-t.en
 
 pub put_associations-requires : goal.put_associations-requires
 put_associations-requires c =
-    let e = body_read c.args.bodies.now c.args.columns.now c.args.n.0 c.kind_of-kind.ensures c.body_in-s.ensures in
+    let e = body_read c.args.scans.now.bodies c.args.scans.now.columns c.args.n.0 c.kind_of-kind.ensures c.body_in-s.ensures in
     (passes e c.requires.passes, omega (arith, few _ _ _ _ _ c.put_tracks-t.ensures c.requires.parts.few, few_associations e c.requires.passes, c.put_tracks-t.auto, c.put_head.auto, c.requires.room.words))
 
 pub overflow_mul-count : goal.overflow_mul-count
 overflow_mul-count c =
-    let e = body_read c.args.bodies.now c.args.columns.now c.args.n.0 c.kind_of-kind.ensures c.body_in-s.ensures in
+    let e = body_read c.args.scans.now.bodies c.args.scans.now.columns c.args.n.0 c.kind_of-kind.ensures c.body_in-s.ensures in
     record { fits = omega (arith, few_associations e c.requires.passes, c.association_count-count.ensures) }
 
 pub overflow_add-a-2 : goal.overflow_add-a-2
 overflow_add-a-2 c =
-    let e = body_read c.args.bodies.now c.args.columns.now c.args.n.0 c.kind_of-kind.ensures c.body_in-s.ensures in
+    let e = body_read c.args.scans.now.bodies c.args.scans.now.columns c.args.n.0 c.kind_of-kind.ensures c.body_in-s.ensures in
     record { fits = omega (arith, few _ _ _ _ _ c.put_tracks-t.ensures c.requires.parts.few, few_associations e c.requires.passes, c.association_count-count.ensures) }
 
 pub put_sensors-requires : goal.put_sensors-requires
 put_sensors-requires c =
-    let e = body_read c.args.bodies.now c.args.columns.now c.args.n.0 c.kind_of-kind.ensures c.body_in-s.ensures in
+    let e = body_read c.args.scans.now.bodies c.args.scans.now.columns c.args.n.0 c.kind_of-kind.ensures c.body_in-s.ensures in
     (passes e c.requires.passes, omega (arith, few _ _ _ _ _ c.put_tracks-t.ensures c.requires.parts.few, few_associations e c.requires.passes, few_sensors e c.requires.passes, c.association_count-count.ensures, c.put_tracks-t.auto, c.put_head.auto, c.put_associations.auto, c.requires.room.words))
 
 pub overflow_mul-t : goal.overflow_mul-t
@@ -70,22 +65,22 @@ overflow_mul-t c = record { fits = omega (arith, few _ _ _ _ _ c.put_tracks-t.en
 
 pub put_costs-requires : goal.put_costs-requires
 put_costs-requires c =
-    let e = body_read c.args.bodies.now c.args.columns.now c.args.n.0 c.kind_of-kind.ensures c.body_in-s.ensures in
+    let e = body_read c.args.scans.now.bodies c.args.scans.now.columns c.args.n.0 c.kind_of-kind.ensures c.body_in-s.ensures in
     (passes e c.requires.passes, omega (arith, few _ _ _ _ _ c.put_tracks-t.ensures c.requires.parts.few, few_associations e c.requires.passes, c.put_tracks-t.auto, c.requires.room.numbers))
 
 pub overflow_mul-result : goal.overflow_mul-result
 overflow_mul-result c =
-    let e = body_read c.args.bodies.now c.args.columns.now c.args.n.0 c.kind_of-kind.ensures c.body_in-s.ensures in
+    let e = body_read c.args.scans.now.bodies c.args.scans.now.columns c.args.n.0 c.kind_of-kind.ensures c.body_in-s.ensures in
     record { fits = omega (arith, few_associations e c.requires.passes, c.association_count-count.ensures) }
 
 pub overflow_add-result : goal.overflow_add-result
 overflow_add-result c =
-    let e = body_read c.args.bodies.now c.args.columns.now c.args.n.0 c.kind_of-kind.ensures c.body_in-s.ensures in
+    let e = body_read c.args.scans.now.bodies c.args.scans.now.columns c.args.n.0 c.kind_of-kind.ensures c.body_in-s.ensures in
     record { fits = omega (arith, few _ _ _ _ _ c.put_tracks-t.ensures c.requires.parts.few, few_associations e c.requires.passes, c.association_count-count.ensures) }
 
 pub overflow_add-result-2 : goal.overflow_add-result-2
 overflow_add-result-2 c =
-    let e = body_read c.args.bodies.now c.args.columns.now c.args.n.0 c.kind_of-kind.ensures c.body_in-s.ensures in
+    let e = body_read c.args.scans.now.bodies c.args.scans.now.columns c.args.n.0 c.kind_of-kind.ensures c.body_in-s.ensures in
     record { fits = omega (arith, few _ _ _ _ _ c.put_tracks-t.ensures c.requires.parts.few, few_associations e c.requires.passes, few_sensors e c.requires.passes, c.association_count-count.ensures, c.sensor_count.ensures) }
 
 pub overflow_mul-result-2 : goal.overflow_mul-result-2
@@ -93,15 +88,15 @@ overflow_mul-result-2 c = record { fits = omega (arith, few _ _ _ _ _ c.put_trac
 
 pub overflow_add-result-3 : goal.overflow_add-result-3
 overflow_add-result-3 c =
-    let e = body_read c.args.bodies.now c.args.columns.now c.args.n.0 c.kind_of-kind.ensures c.body_in-s.ensures in
+    let e = body_read c.args.scans.now.bodies c.args.scans.now.columns c.args.n.0 c.kind_of-kind.ensures c.body_in-s.ensures in
     record { fits = omega (arith, few _ _ _ _ _ c.put_tracks-t.ensures c.requires.parts.few, few_associations e c.requires.passes, c.association_count-count.ensures) }
 
 pub returns : goal.returns
 returns c =
-    let e = body_read c.args.bodies.now c.args.columns.now c.args.n.0 c.kind_of-kind.ensures c.body_in-s.ensures in
-    let time = passed_on c.time_of-time.result c.time_of-time.type_inv ∙ c.time_of-time.ensures.1 (passes e c.requires.passes) in
+    let e = body_read c.args.scans.now.bodies c.args.scans.now.columns c.args.n.0 c.kind_of-kind.ensures c.body_in-s.ensures in
+    let time = passed_on c.time_of.result c.time_of.type_inv ∙ c.time_of.ensures.1 (passes e c.requires.passes) in
     let a = c.args in
-    framed_all a.c a.bodies.now a.columns.now a.n.0 a.tracks.now a.filters.now a.frozen (body_of c.kind_of-kind.result c.body_in-s.result.now) (to_z w64 (of_z w64 c.time_of-time.result)) c.put_tracks-t.result c.association_count-count.result c.sensor_count.result a.words.now a.numbers.now
+    framed_all a.c a.scans.now.bodies a.scans.now.columns a.n.0 a.parts.now.tracks a.parts.now.filters a.frozen (body_of c.kind_of-kind.result c.body_in-s.result.now) (to_z w64 (of_z w64 c.time_of.result)) c.put_tracks-t.result c.association_count-count.result c.sensor_count.result a.words.now a.numbers.now
     e
     time
     c.association_count-count.ensures

@@ -1,4 +1,4 @@
-use Rattle.std.proofs.Common.{◌≡◌, ℕ, ◌+◌, ◌*◌, true, List, ℤ, ap, ◌∙◌, arith, to_z-of_z, w64, to_z, of_z}
+use Rattle.std.proofs.Common.{◌≡◌, ℕ, ◌+◌, ◌*◌, true, List, ℤ, ap, ◌∙◌, to_z-of_z, w64, to_z, of_z}
 use lib.Ieee.{Float}
 use Rattle.bounds.specs.Bounds.{HEAD, TRACK, STATE}
 use Rattle.engine.specs.Body.{time_ok}
@@ -21,29 +21,14 @@ lists {time} {p} {q} x e t ok =
       last = ap (λ (r : windows.Prefix). time_ok r.last_ns) e ∙ ok.timed;
     }
 
-pub track_words-ws-requires : goal.track_words-ws-requires
-track_words-ws-requires c = lists (part_id c.args.tracks.now c.args.k) c.prefix_at-p.ensures (rw (to_z-of_z c.ranges.time) c.requires.timed) c.requires.part
-
-pub overflow_mul-i : goal.overflow_mul-i
-overflow_mul-i c = record { fits = omega (arith, c.requires.words, c.well_formed) }
-
-pub overflow_add-i : goal.overflow_add-i
-overflow_add-i c = record { fits = omega (arith, c.requires.words, c.well_formed) }
-
-pub track_numbers-ns-requires : goal.track_numbers-ns-requires
-track_numbers-ns-requires c = lists (part_id c.args.tracks.now c.args.k) c.prefix_at-p.ensures (rw (to_z-of_z c.ranges.time) c.requires.timed) c.requires.part
-
-pub overflow_mul-i-2 : goal.overflow_mul-i-2
-overflow_mul-i-2 c = record { fits = omega (arith, c.requires.numbers, c.well_formed) }
-
 pub returns : goal.returns
 returns c = let a = c.args in
-    let x = part_id a.tracks.now a.k in
+    let x = part_id a.parts.now.tracks a.k in
     let said =
     ap (λ (y : ℕ). report a.c (to_z w64 (of_z w64 a.time)) y (prefix_of c.prefix_at-p.result)) c.part_id-id.ensures
     ∙ ap (report a.c (to_z w64 (of_z w64 a.time)) x) c.prefix_at-p.ensures
-    ∙ ap (λ (z : ℤ). report a.c z x (prefix_in a.tracks.now a.filters.now a.k)) (to_z-of_z c.ranges.time) in
+    ∙ ap (λ (z : ℤ). report a.c z x (prefix_in a.parts.now.tracks a.parts.now.filters a.k)) (to_z-of_z c.ranges.time) in
     record {
-      words = c.put_words.ensures ∙ ap (λ (l : List ℕ). over (HEAD + TRACK * a.i) l a.words.now) (c.track_words-ws.ensures ∙ ap track_words said);
-      numbers = c.put_numbers.ensures ∙ ap (λ (l : List Float). over (STATE * a.i) l a.numbers.now) (c.track_numbers-ns.ensures ∙ ap track_numbers said);
+      words = c.put.ensures ∙ ap (λ (l : List ℕ). over (HEAD + TRACK * a.i) l a.words.now) (c.track_words.ensures ∙ ap track_words said);
+      numbers = c.put-2.ensures ∙ ap (λ (l : List Float). over (STATE * a.i) l a.numbers.now) (c.track_numbers.ensures ∙ ap track_numbers said);
     }

@@ -12,7 +12,7 @@ use Rattle.fgo_freeze.proofs.forget.Goals as goal
 use Rattle.fgo_freeze.proofs.forget.Goals.{then-is_kept, else-is_kept}
 
 pub loop-k-init : goal.loop-k-init
-loop-k-init c = let a = c.args in (omega arith, keeping_none a.c (to_z w64 (of_z w64 a.time)) (scans_in a.bodies.now a.columns.now a.first.0 a.held) a.tracks.now a.filters.now)
+loop-k-init c = let a = c.args in (omega arith, keeping_none a.c (to_z w64 (of_z w64 a.time)) (scans_in a.scans.now.bodies a.scans.now.columns a.first.0 a.held) a.parts.now.tracks a.parts.now.filters)
 
 pub is_kept-requires : goal.is_kept-requires
 unfolding prefix_in
@@ -21,20 +21,8 @@ is_kept-requires c =
     let v = c.loop-k in
     let p = c.requires.1 in
     let h : v.k < a.frozen = c.loop-k-test.true in
-    let e : part_last_ns v.tracks v.k ≡ part_last_ns a.tracks.now v.k = ap (λ u. u.1.last_ns) (v.invariant.1.high v.k (omega arith)) in
+    let e : part_last_ns v.parts.tracks v.k ≡ part_last_ns a.parts.now.tracks v.k = ap (λ u. u.1.last_ns) (v.invariant.1.high v.k (omega arith)) in
     (omega (arith, p.few), c.requires.0, rw (to_z-of_z c.ranges.time) p.timed, rw e (p.parts v.k h).timed)
-
-pub copy_part-requires : goal.copy_part-requires
-copy_part-requires c = (omega (arith, c.requires.1.few, c.loop-k-test.true), omega (arith, c.requires.1.few, c.loop-k-test.true, c.loop-k.invariant.1.within))
-
-pub overflow_add-w : goal.overflow_add-w
-overflow_add-w c = omega (arith, c.requires.1.few, c.loop-k-test.true, c.loop-k.invariant.1.within)
-
-pub overflow_add-k : goal.overflow_add-k
-overflow_add-k c = omega arith
-
-pub loop-k-smaller : goal.loop-k-smaller
-loop-k-smaller c = omega arith
 
 pub loop-k-preserved : goal.loop-k-preserved
 loop-k-preserved c =
@@ -42,21 +30,13 @@ loop-k-preserved c =
     let v = c.loop-k in
     let p = c.requires.1 in
     let h : v.k < a.frozen = c.loop-k-test.true in
-    let ss = scans_in a.bodies.now a.columns.now a.first.0 a.held in
-    let e : entry_in v.tracks v.filters v.k ≡ entry_in a.tracks.now a.filters.now v.k = v.invariant.1.high v.k (omega arith) in
-    let n : 0 < part_id v.tracks v.k = rw (← ap (λ u. u.0) e) at (p.parts v.k h).named in
-    let b : c.is_kept.result ≡ kept a.c (to_z w64 (of_z w64 a.time)) ss (entry_in a.tracks.now a.filters.now v.k) = c.is_kept.ensures ∙ kept_is a.c (to_z w64 (of_z w64 a.time)) ss v.tracks v.filters v.k n ∙ ap (kept a.c (to_z w64 (of_z w64 a.time)) ss) e in (
+    let ss = scans_in a.scans.now.bodies a.scans.now.columns a.first.0 a.held in
+    let e : entry_in v.parts.tracks v.parts.filters v.k ≡ entry_in a.parts.now.tracks a.parts.now.filters v.k = v.invariant.1.high v.k (omega arith) in
+    let n : 0 < part_id v.parts.tracks v.k = rw (← ap (λ u. u.0) e) at (p.parts v.k h).named in
+    let b : c.is_kept.result ≡ kept a.c (to_z w64 (of_z w64 a.time)) ss (entry_in a.parts.now.tracks a.parts.now.filters v.k) = c.is_kept.ensures ∙ kept_is a.c (to_z w64 (of_z w64 a.time)) ss v.parts.tracks v.parts.filters v.k n ∙ ap (kept a.c (to_z w64 (of_z w64 a.time)) ss) e in (
       omega arith,
       elim c.if-is_kept.branch [
-        | then-is_kept w ↦ rw (w.tracks-is, w.filters-is, w.w-is) (keeping_more a.c (to_z w64 (of_z w64 a.time)) ss a.tracks.now a.filters.now v.invariant.1 w.copy_part.ensures (sym b ∙ w.if-is_kept.true))
-        | else-is_kept w ↦ rw (w.tracks-is, w.filters-is, w.w-is) (keeping_skip a.c (to_z w64 (of_z w64 a.time)) ss a.tracks.now a.filters.now v.invariant.1 (sym b ∙ w.if-is_kept.false))
+        | then-is_kept w ↦ rw (w.parts-is, w.w-is) (keeping_more a.c (to_z w64 (of_z w64 a.time)) ss a.parts.now.tracks a.parts.now.filters v.invariant.1 w.copy.ensures (sym b ∙ w.if-is_kept.true))
+        | else-is_kept w ↦ rw (w.parts-is, w.w-is) (keeping_skip a.c (to_z w64 (of_z w64 a.time)) ss a.parts.now.tracks a.parts.now.filters v.invariant.1 (sym b ∙ w.if-is_kept.false))
       ],
     )
-
-pub returns : goal.returns
-returns c =
-    let a = c.args in
-    let v = c.loop-k in
-    let z : v.k ≡ a.frozen = omega arith in
-    let t = to_z-of_z c.ranges.time in
-    v.invariant.1.low ∙ rw (z, t)

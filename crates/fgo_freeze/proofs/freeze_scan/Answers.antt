@@ -19,54 +19,48 @@ use Rattle.fgo_freeze.proofs.freeze_scan.Goals.{then-id-gt0, else-id-gt0}
 pub loop-j-init : goal.loop-j-init
 loop-j-init c =
     let a = c.args in
-    let l : length (table_in a.tracks.now a.filters.now a.frozen) ≡ a.frozen = length-rows _ 0 a.frozen in
-    (omega arith, going_none a.c a.n.0 (scan_in a.bodies.now a.columns.now a.n.0) (table_in a.tracks.now a.filters.now a.frozen) c.requires.ordered (omega (arith, c.requires.room)))
+    let l : length (table_in a.parts.now.tracks a.parts.now.filters a.frozen) ≡ a.frozen = length-rows _ 0 a.frozen in
+    (omega arith, going_none a.c a.n.0 (scan_in a.scans.now.bodies a.scans.now.columns a.n.0) (table_in a.parts.now.tracks a.parts.now.filters a.frozen) c.requires.ordered (omega (arith, c.requires.room)))
 
 pub freeze_one-f-requires : goal.freeze_one-f-requires
 freeze_one-f-requires c =
     let a = c.args in
     let v = c.loop-j in
-    let s = scan_in a.bodies.now a.columns.now a.n.0 in
-    let eb = body_read a.bodies.now a.columns.now a.n.0 c.kind_of-kind.ensures c.body_in-s.ensures in
-    let ec = c.association_count-count.ensures in
-    let h : v.j < c.association_count-count.result = c.loop-j-test.true in
-    let q : get_or s.ids v.j 0 ≡ id_at a.columns.now a.n.0 v.j = id_here a.bodies.now a.columns.now a.n.0 eb v.j (omega arith) in
+    let s = scan_in a.scans.now.bodies a.scans.now.columns a.n.0 in
+    let eb = body_read a.scans.now.bodies a.scans.now.columns a.n.0 c.kind_of-kind.ensures c.body_in-s.ensures in
+    let ec = c.association_count-j-end.ensures in
+    let h : v.j < c.association_count-j-end.result = c.loop-j-test.true in
+    let q : get_or s.ids v.j 0 ≡ id_at a.scans.now.columns a.n.0 v.j = id_here a.scans.now.bodies a.scans.now.columns a.n.0 eb v.j (omega arith) in
     let x : 0 < get_or s.ids v.j 0 = omega (arith, c.id_at-id.ensures, c.if-id-gt0.true) in
-    let l : length (table_in v.tracks v.filters v.f) ≡ v.f = length-rows _ 0 v.f in
-    let r = going_room a.c a.n.0 s (table_in a.tracks.now a.filters.now a.frozen) v.invariant.1 (omega (arith, associations_long a.bodies.now a.columns.now a.n.0 eb)) (omega (arith, ids_long a.bodies.now a.columns.now a.n.0 eb)) x in
+    let l : length (table_in v.parts.tracks v.parts.filters v.f) ≡ v.f = length-rows _ 0 v.f in
+    let r = going_room a.c a.n.0 s (table_in a.parts.now.tracks a.parts.now.filters a.frozen) v.invariant.1 (omega (arith, associations_long a.scans.now.bodies a.scans.now.columns a.n.0 eb)) (omega (arith, ids_long a.scans.now.bodies a.scans.now.columns a.n.0 eb)) x in
     record {
       most = ACCEPTED + v.j;
-      small = omega (arith, associations_few (body_at a.bodies.now a.columns.now a.n.0) c.requires.passes, ap (λ b. associations_in b) eb);
+      small = omega (arith, associations_few (body_at a.scans.now.bodies a.scans.now.columns a.n.0) c.requires.passes, ap (λ b. associations_in b) eb);
       ordered = v.invariant.1.ordered;
       named = c.if-id-gt0.true;
       room = omega arith;
     }
 
-pub overflow_add-j : goal.overflow_add-j
-overflow_add-j c = omega arith
-
-pub loop-j-smaller : goal.loop-j-smaller
-loop-j-smaller c = omega arith
-
 pub loop-j-preserved : goal.loop-j-preserved
 loop-j-preserved c =
     let a = c.args in
     let v = c.loop-j in
-    let s = scan_in a.bodies.now a.columns.now a.n.0 in
-    let t = table_in a.tracks.now a.filters.now a.frozen in
-    let eb = body_read a.bodies.now a.columns.now a.n.0 c.kind_of-kind.ensures c.body_in-s.ensures in
-    let ec = c.association_count-count.ensures in
-    let h : v.j < c.association_count-count.result = c.loop-j-test.true in
-    let q : c.id_at-id.result.0 ≡ get_or s.ids v.j 0 = c.id_at-id.ensures ∙ sym (id_here a.bodies.now a.columns.now a.n.0 eb v.j (omega arith)) in
-    let la : v.j < length s.frame.associations = omega (arith, associations_long a.bodies.now a.columns.now a.n.0 eb) in
-    let li : v.j < length s.ids = omega (arith, ids_long a.bodies.now a.columns.now a.n.0 eb) in (
+    let s = scan_in a.scans.now.bodies a.scans.now.columns a.n.0 in
+    let t = table_in a.parts.now.tracks a.parts.now.filters a.frozen in
+    let eb = body_read a.scans.now.bodies a.scans.now.columns a.n.0 c.kind_of-kind.ensures c.body_in-s.ensures in
+    let ec = c.association_count-j-end.ensures in
+    let h : v.j < c.association_count-j-end.result = c.loop-j-test.true in
+    let q : c.id_at-id.result.0 ≡ get_or s.ids v.j 0 = c.id_at-id.ensures ∙ sym (id_here a.scans.now.bodies a.scans.now.columns a.n.0 eb v.j (omega arith)) in
+    let la : v.j < length s.frame.associations = omega (arith, associations_long a.scans.now.bodies a.scans.now.columns a.n.0 eb) in
+    let li : v.j < length s.ids = omega (arith, ids_long a.scans.now.bodies a.scans.now.columns a.n.0 eb) in (
       omega arith,
       elim c.if-id-gt0.branch [
         | then-id-gt0 w ↦
-            let d : detection_by w.seen_at-d.result ≡ detection_of a.n.0 s.frame (get_or s.frame.associations v.j no_association) = w.seen_at-d.ensures (ap (λ b. body_refusal b) eb ∙ c.requires.passes) ∙ ap (λ f. detection_of a.n.0 f (get_or f.associations v.j no_association)) (sym (scan_frame a.bodies.now a.columns.now a.n.0 eb)) in
+            let d : detection_by w.seen_at.result ≡ detection_of a.n.0 s.frame (get_or s.frame.associations v.j no_association) = w.seen_at.ensures (ap (λ b. body_refusal b) eb ∙ c.requires.passes) ∙ ap (λ f. detection_of a.n.0 f (get_or f.associations v.j no_association)) (sym (scan_frame a.scans.now.bodies a.scans.now.columns a.n.0 eb)) in
             let g = going_one a.c a.n.0 s t v.invariant.1 la li (omega (arith, w.if-id-gt0.true)) in
-            rw (w.tracks-is, w.filters-is, w.f-is, w.freeze_one-f.ensures, d, q) g
-        | else-id-gt0 w ↦ rw (w.tracks-is, w.filters-is, w.f-is) (going_skip a.c a.n.0 s t v.invariant.1 la li (omega (arith, w.if-id-gt0.false)))
+            rw (w.parts-is, w.f-is, w.freeze_one-f.ensures, d, q) g
+        | else-id-gt0 w ↦ rw (w.parts-is, w.f-is) (going_skip a.c a.n.0 s t v.invariant.1 la li (omega (arith, w.if-id-gt0.false)))
       ],
     )
 
@@ -74,5 +68,5 @@ pub returns : goal.returns
 returns c =
     let a = c.args in
     let v = c.loop-j in
-    let eb = body_read a.bodies.now a.columns.now a.n.0 c.kind_of-kind.ensures c.body_in-s.ensures in
-    going_done a.c a.n.0 (scan_in a.bodies.now a.columns.now a.n.0) (table_in a.tracks.now a.filters.now a.frozen) v.invariant.1 (omega (arith, associations_long a.bodies.now a.columns.now a.n.0 eb, c.association_count-count.ensures))
+    let eb = body_read a.scans.now.bodies a.scans.now.columns a.n.0 c.kind_of-kind.ensures c.body_in-s.ensures in
+    going_done a.c a.n.0 (scan_in a.scans.now.bodies a.scans.now.columns a.n.0) (table_in a.parts.now.tracks a.parts.now.filters a.frozen) v.invariant.1 (omega (arith, associations_long a.scans.now.bodies a.scans.now.columns a.n.0 eb, c.association_count-j-end.ensures))

@@ -7,6 +7,3 @@ use Rattle.fgo_freeze.proofs.place_of.Given as goal
 
 abbrev pub invariant-loop-k : goal.invariant-loop-k
 invariant-loop-k l = (l.k ≤ l.frozen) × (place_in l.id.0 (part_ids l.tracks l.frozen) ≡ l.k + place_in l.id.0 (rows (part_id l.tracks) l.k (l.frozen - l.k)))
-
-abbrev pub decreases-loop-k : goal.decreases-loop-k
-decreases-loop-k l = l.frozen - l.k

@@ -7,7 +7,8 @@ use mathlib.Core.List.{List}
 use lib.ListN.{length, take}
 use lib.Seq.{take-suc, take_all}
 use Rattle.engine.specs.declared.types.Association.{Association}
-use Rattle.engine.specs.Frame.{no_association}
+use Rattle.std.specs.Prelude.{None, Some, is_some}
+use Rattle.engine.specs.Frame.{Associated, no_association}
 use Rattle.engine.specs.Body.{Body, body, frame_in, associations_in}
 use Rattle.fgo_spec.specs.Lists.{keep}
 use Rattle.fgo_spec.specs.Refiner.{has_id}
@@ -16,7 +17,11 @@ use Rattle.fgo_state.proofs.Counts.{associations_long, associations_few}
 use Rattle.fgo_state.specs.Memory.{association_in}
 use Rattle.fgo_refuse.proofs.id_count.Invariants.{counted}
 use Rattle.fgo_refuse.proofs.id_count.Goals as goal
-use Rattle.fgo_refuse.proofs.id_count.Goals.{then-has_id, else-has_id}
+use Rattle.fgo_refuse.proofs.id_count.Goals.{then-is_some, else-is_some}
+
+has_id_is : (a : Associated) → has_id a ≡ is_some a
+has_id_is None = refl
+has_id_is (Some e) = refl
 
 more : (s : Body) (j : ℕ) (b : Bool) → j < associations_in s → has_id (association_in s j).track ≡ b → counted s (j + 1) ≡ bump b (counted s j)
 more s j b h e =
@@ -32,33 +37,20 @@ pub loop-j-init : goal.loop-j-init
 unfolding keep
 loop-j-init c = (omega arith, omega arith, refl)
 
-pub overflow_add-n : goal.overflow_add-n
-overflow_add-n c =
-    let s = body c.args.kind c.args.s.now in
-    record { fits = omega (arith, c.loop-j-test.true, c.association_count.ensures, c.loop-j.invariant.1, associations_few s c.requires) }
-
-pub overflow_add-j : goal.overflow_add-j
-overflow_add-j c =
-    let s = body c.args.kind c.args.s.now in
-    record { fits = omega (arith, c.loop-j-test.true, c.association_count.ensures, associations_few s c.requires) }
-
-pub loop-j-smaller : goal.loop-j-smaller
-loop-j-smaller c = omega (arith, c.loop-j-test.true, c.association_count.ensures)
-
 pub loop-j-preserved : goal.loop-j-preserved
 loop-j-preserved c =
     let s = body c.args.kind c.args.s.now in
     let j = c.loop-j.j in
     let v = c.loop-j.invariant in
-    let h : j < associations_in s = omega (arith, c.loop-j-test.true, c.association_count.ensures) in
-    let said = ap (λ (a : Association). has_id a.track) (sym (c.association-a.ensures.1 c.requires)) ∙ sym c.has_id.ensures in
-    elim c.if-has_id.branch [
-      | then-has_id w ↦ (omega arith, omega (arith, w.n-is, v.1), w.n-is ∙ ap (λ (k : ℕ). k + 1) v.2 ∙ add-one (counted s j) ∙ sym (more s j _ h (said ∙ w.if-has_id.true)))
-      | else-has_id w ↦ (omega arith, omega (arith, w.n-is, v.1), w.n-is ∙ v.2 ∙ sym (more s j _ h (said ∙ w.if-has_id.false)))
+    let h : j < associations_in s = omega (arith, c.loop-j-test.true, c.association_count-j-end.ensures) in
+    let said = ap (λ (a : Association). has_id a.track) (sym (c.association.ensures.1 c.requires)) ∙ has_id_is _ ∙ sym c.is_some.ensures in
+    elim c.if-is_some.branch [
+      | then-is_some w ↦ (omega arith, omega (arith, w.n-is, v.1), w.n-is ∙ ap (λ (k : ℕ). k + 1) v.2 ∙ add-one (counted s j) ∙ sym (more s j _ h (said ∙ w.if-is_some.true)))
+      | else-is_some w ↦ (omega arith, omega (arith, w.n-is, v.1), w.n-is ∙ v.2 ∙ sym (more s j _ h (said ∙ w.if-is_some.false)))
     ]
 
 pub returns : goal.returns
 returns c =
     let s = body c.args.kind c.args.s.now in
-    let e : associations_in s ≤ c.loop-j.j = omega (arith, c.loop-j-test.false, c.association_count.ensures) in
+    let e : associations_in s ≤ c.loop-j.j = omega (arith, c.loop-j-test.false, c.association_count-j-end.ensures) in
     (c.loop-j.invariant.2 ∙ all s _ e, omega (arith, c.loop-j.invariant.0, c.loop-j.invariant.1, associations_few s c.requires))

@@ -1,8 +1,9 @@
 use native.Mathlib.Omega.{arith}
-use mathlib.Core.Path.{◌≡◌, refl, sym, ap, ◌∙◌}
+use mathlib.Core.Path.{◌≡◌, sym, ap, ◌∙◌}
 use mathlib.Core.List.{List}
 use Prim.Native.Nat.{ℕ}
 use lib.ListN.{length, replicate}
+use borrow.Author.Rules.{rules}
 use Rattle.bounds.specs.Bounds.{JOINED}
 use Rattle.engine.specs.declared.types.Association.{Association}
 use Rattle.engine.specs.Body.{body}
@@ -17,9 +18,6 @@ use Rattle.fgo_state.proofs.Counts.{associations_few}
 use Rattle.fgo_refuse.proofs.Joining.{joins_none, joins_more, joins_all}
 use Rattle.fgo_refuse.proofs.joined_count.Goals as goal
 
-pub owner_keys-requires : goal.owner_keys-requires
-owner_keys-requires c = (c.requires.0, refl)
-
 pub loop-j-init : goal.loop-j-init
 loop-j-init c =
     let a = c.args in
@@ -31,17 +29,11 @@ loop-j-init c =
     c.association_count-j.ensures
     (ap (λ (l : List ℕ). cells 0 l 0 a.owned) said ∙ ap (cells 0 (over 0 keys (replicate JOINED 0)) 0) (sym long) ∙ cells_over 0 keys (replicate JOINED 0) (omega (arith, c.requires.0)))
 
-pub overflow_sub-j : goal.overflow_sub-j
-overflow_sub-j c = omega arith
-
 pub join_one-n-requires : goal.join_one-n-requires
-join_one-n-requires c = (omega (arith, c.loop-j.invariant.few, c.loop-j-test.true, c.requires, associations_few (body c.args.kind c.args.s.now) c.requires.1), c.loop-j.invariant.room)
-
-pub loop-j-smaller : goal.loop-j-smaller
-loop-j-smaller c = omega (arith, c.loop-j-test.true)
+join_one-n-requires c = omega (arith, c.loop-j.invariant.few, c.loop-j-test.true, c.requires, associations_few (body c.args.kind c.args.s.now) c.requires.1)
 
 pub loop-j-preserved : goal.loop-j-preserved
-loop-j-preserved c = joins_more _ _ _ c.loop-j.invariant c.loop-j-test.true (ap (λ (a : Association). a.track) (c.association-a.ensures.1 c.requires.1)) c.join_one-n.ensures.0 c.join_one-n.ensures.1 c.join_one-n.ensures.2
+loop-j-preserved c = joins_more _ _ _ c.loop-j.invariant c.loop-j-test.true (ap (λ (a : Association). a.track) (c.association.ensures.1 c.requires.1)) c.join_one-n.ensures.0 c.join_one-n.ensures.1 (search rules)
 
 pub returns : goal.returns
 returns c = joins_all _ _ _ c.loop-j.invariant c.loop-j-test.false

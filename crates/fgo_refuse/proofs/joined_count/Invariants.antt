@@ -4,6 +4,3 @@ use Rattle.fgo_refuse.proofs.joined_count.Given as goal
 
 abbrev pub invariant-loop-j : goal.invariant-loop-j
 invariant-loop-j l = Joins l.owners l.owned (body l.kind l.s) l.all l.n l.j
-
-abbrev pub decreases-loop-j : goal.decreases-loop-j
-decreases-loop-j l = l.j

@@ -9,21 +9,6 @@ use Rattle.fgo_refuse.proofs.owner_keys.Goals as goal
 pub loop-k-init : goal.loop-k-init
 loop-k-init c = writes_none _ _ _ (omega (arith, length-rows (engine_at c.args.owners.now) 0 c.args.owned))
 
-pub engine_at-requires : goal.engine_at-requires
-engine_at-requires c = omega arith
-
-pub offset_bounds-all-k : goal.offset_bounds-all-k
-offset_bounds-all-k c = omega arith
-
-pub bounds-all-k : goal.bounds-all-k
-bounds-all-k c = omega arith
-
-pub overflow_add-k : goal.overflow_add-k
-overflow_add-k c = omega arith
-
-pub loop-k-smaller : goal.loop-k-smaller
-loop-k-smaller c = omega arith
-
 pub loop-k-preserved : goal.loop-k-preserved
 loop-k-preserved c =
     let a = c.args in

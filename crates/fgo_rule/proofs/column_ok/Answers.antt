@@ -8,22 +8,13 @@ use Rattle.fgo_rule.proofs.column_ok.Goals as goal
 pub loop-j-init : goal.loop-j-init
 loop-j-init c = (omega arith, all_none _)
 
-pub id_ok-requires : goal.id_ok-requires
-id_ok-requires c = (c.requires, omega (arith, c.loop-j-test.true, c.association_count.ensures))
-
 pub returns-then-not-id_ok : goal.returns-then-not-id_ok
 unfolding column_in
-returns-then-not-id_ok c = sym (all-less _ c.loop-j.j _ (omega (arith, c.loop-j-test.true, c.association_count.ensures)) (sym c.id_ok.ensures ∙ c.if-not-id_ok.true))
-
-pub overflow_add-j : goal.overflow_add-j
-overflow_add-j c = omega (arith, c.loop-j-test.true, c.association_count.ensures)
-
-pub loop-j-smaller : goal.loop-j-smaller
-loop-j-smaller c = omega (arith, c.loop-j-test.true, c.association_count.ensures)
+returns-then-not-id_ok c = sym (all-less _ c.loop-j.j _ (omega (arith, c.loop-j-test.true, c.association_count-j-end.ensures)) (sym c.id_ok.ensures ∙ c.if-not-id_ok.true))
 
 pub loop-j-preserved : goal.loop-j-preserved
-loop-j-preserved c = (omega (arith, c.loop-j-test.true, c.association_count.ensures), all_more _ c.loop-j.j c.loop-j.invariant.1 (sym c.id_ok.ensures ∙ c.if-not-id_ok.false))
+loop-j-preserved c = (omega (arith, c.loop-j-test.true, c.association_count-j-end.ensures), all_more _ c.loop-j.j c.loop-j.invariant.1 (sym c.id_ok.ensures ∙ c.if-not-id_ok.false))
 
 pub returns : goal.returns
 unfolding column_in
-returns c = let e : c.loop-j.j ≡ associations_in (body c.args.kind c.args.s.now) = omega (arith, c.loop-j-test.false, c.association_count.ensures) in sym (rw e at c.loop-j.invariant.1)
+returns c = let e : c.loop-j.j ≡ associations_in (body c.args.kind c.args.s.now) = omega (arith, c.loop-j-test.false, c.association_count-j-end.ensures) in sym (rw e at c.loop-j.invariant.1)

@@ -1,4 +1,4 @@
-use Prim.Native.Nat.{◌-◌, ◌≤◌}
+use Prim.Native.Nat.{◌≤◌}
 use mathlib.Core.Path.{◌≡◌}
 use mathlib.Core.Bool.{true}
 use Rattle.engine.specs.Body.{body, all, associations_in}
@@ -6,7 +6,4 @@ use Rattle.fgo_rule.specs.Tests.{id_ok}
 use Rattle.fgo_rule.proofs.column_ok.Given as goal
 
 abbrev pub invariant-loop-j : goal.invariant-loop-j
-invariant-loop-j l = (l.j ≤ associations_in (body l.kind l.s)) × (all (id_ok l.next.0 l.columns (body l.kind l.s) l.n.0) l.j ≡ true)
-
-abbrev pub decreases-loop-j : goal.decreases-loop-j
-decreases-loop-j l = associations_in (body l.kind l.s) - l.j
+invariant-loop-j l = (l.j ≤ associations_in (body l.kind l.s)) × (all (id_ok l.next.0 l.scans.columns (body l.kind l.s) l.n.0) l.j ≡ true)

@@ -1,7 +1,7 @@
 use Prim.Native.Nat.{◌+◌}
 use native.Mathlib.Omega.{arith}
-use mathlib.Core.Path.{◌≡◌, sym, ap, ◌∙◌}
-use Rattle.engine.specs.Body.{Body, body_refusal}
+use mathlib.Core.Path.{sym, ap, ◌∙◌}
+use Rattle.engine.specs.Body.{Body}
 use Rattle.engine.proofs.Every.{all_none, all_more, all-less}
 use Rattle.fgo_state.proofs.Columns.{body_read}
 use Rattle.fgo_rule.specs.Tests.{column_in, columns_ok}
@@ -11,25 +11,10 @@ pub loop-i-init : goal.loop-i-init
 unfolding columns_ok
 loop-i-init c = (omega arith, all_none _)
 
-pub overflow_add-n : goal.overflow_add-n
-overflow_add-n c = omega arith
-
-pub column_ok-requires : goal.column_ok-requires
-column_ok-requires c = ap (λ (b : Body). body_refusal b) (body_read _ _ _ c.kind_of-kind.ensures c.body_in.ensures) ∙ c.requires.passes c.loop-i.i (omega arith)
-
 pub returns-then-not-column_ok : goal.returns-then-not-column_ok
 unfolding columns_ok
-returns-then-not-column_ok c = sym (all-less _ c.loop-i.i c.args.held (omega arith) (sym (c.column_ok.ensures ∙ ap (λ (b : Body). column_in c.args.next.0 c.args.columns.now b (c.args.first.0 + c.loop-i.i)) (body_read _ _ _ c.kind_of-kind.ensures c.body_in.ensures)) ∙ c.if-not-column_ok.true))
-
-pub overflow_add-i : goal.overflow_add-i
-overflow_add-i c = omega arith
-
-pub loop-i-smaller : goal.loop-i-smaller
-loop-i-smaller c = omega arith
+returns-then-not-column_ok c = sym (all-less _ c.loop-i.i c.args.held (omega arith) (sym (c.column_ok.ensures ∙ ap (λ (b : Body). column_in c.args.next.0 c.args.scans.now.columns b (c.args.first.0 + c.loop-i.i)) (body_read _ _ _ c.kind_of.ensures c.body_in.ensures)) ∙ c.if-not-column_ok.true))
 
 pub loop-i-preserved : goal.loop-i-preserved
 unfolding columns_ok
-loop-i-preserved c = (omega arith, all_more _ c.loop-i.i c.loop-i.invariant.1 (sym (c.column_ok.ensures ∙ ap (λ (b : Body). column_in c.args.next.0 c.args.columns.now b (c.args.first.0 + c.loop-i.i)) (body_read _ _ _ c.kind_of-kind.ensures c.body_in.ensures)) ∙ c.if-not-column_ok.false))
-
-pub returns : goal.returns
-returns c = let e : c.loop-i.i ≡ c.args.held = omega arith in sym (rw e at c.loop-i.invariant.1)
+loop-i-preserved c = (omega arith, all_more _ c.loop-i.i c.loop-i.invariant.1 (sym (c.column_ok.ensures ∙ ap (λ (b : Body). column_in c.args.next.0 c.args.scans.now.columns b (c.args.first.0 + c.loop-i.i)) (body_read _ _ _ c.kind_of.ensures c.body_in.ensures)) ∙ c.if-not-column_ok.false))

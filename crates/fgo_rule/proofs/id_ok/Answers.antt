@@ -63,4 +63,4 @@ returns c =
       | else-x-ne0 w ↦ inl (sym c.id_at-x.ensures ∙ w.if-x-ne0.false)
     ])
     (omega (arith, c.if-next-x.false, c.id_at-x.ensures))
-    (c.loose_ok.ensures ∙ ap (λ (a : Association). loose_ok a.track c.id_at-x.result.0) (c.association-a.ensures.1 c.requires.0) ∙ ap (loose_ok (association_in b c.args.j).track) c.id_at-x.ensures)
+    (c.loose_ok.ensures ∙ ap (λ (a : Association). loose_ok a.track c.id_at-x.result.0) (c.association.ensures.1 c.requires.0) ∙ ap (loose_ok (association_in b c.args.j).track) c.id_at-x.ensures)

@@ -7,27 +7,12 @@ use Rattle.fgo_rule.specs.Tests.{distinct_at}
 use Rattle.fgo_spec.proofs.Rows.{any_here, any_next, any-end}
 use Rattle.fgo_rule.proofs.is_distinct.Goals as goal
 
-pub engine_at-e-requires : goal.engine_at-e-requires
-engine_at-e-requires c = omega arith
-
-pub overflow_add-i : goal.overflow_add-i
-overflow_add-i c = omega arith
-
 pub loop-i-init : goal.loop-i-init
 unfolding distinct_at
 loop-i-init c = (omega arith, c.engine_at-e.ensures, rw (add-one c.args.k))
 
-pub engine_at-requires : goal.engine_at-requires
-engine_at-requires c = omega arith
-
 pub returns-then-engine_at-e : goal.returns-then-engine_at-e
 returns-then-engine_at-e c = let i = c.loop-i.i in sym (c.loop-i.invariant.2 ∙ ap not (any_here _ _ i c.args.owned i (omega arith) (eq-eqb _ _ (sym c.loop-i.invariant.1 ∙ sym c.if-engine_at-e.true ∙ c.engine_at.ensures))))
-
-pub overflow_add-i-in-loop-i : goal.overflow_add-i-in-loop-i
-overflow_add-i-in-loop-i c = omega arith
-
-pub loop-i-smaller : goal.loop-i-smaller
-loop-i-smaller c = omega arith
 
 pub loop-i-preserved : goal.loop-i-preserved
 loop-i-preserved c = let i = c.loop-i.i in (omega arith, c.loop-i.invariant.1, c.loop-i.invariant.2 ∙ ap not (any_next _ _ i c.args.owned i (omega arith) refl (ne_eqb _ _ (λ z. c.if-engine_at-e.false (c.engine_at.ensures ∙ sym z ∙ sym c.loop-i.invariant.1)))))

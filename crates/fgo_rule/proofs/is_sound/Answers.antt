@@ -24,7 +24,7 @@ unfolding sound_in
 returns-then-not-counts_ok c = failed _ _ (sym c.counts_ok.ensures ∙ c.if-not-counts_ok.true)
 
 pub bodies_ok-requires : goal.bodies_ok-requires
-bodies_ok-requires c = let k = counted_of c.args.r (sym c.counts_ok.ensures ∙ c.if-not-counts_ok.false) in omega (arith, k.early)
+bodies_ok-requires c = let k = counted_of c.args.r.now (sym c.counts_ok.ensures ∙ c.if-not-counts_ok.false) in omega (arith, k.early)
 
 pub returns-then-not-bodies_ok : goal.returns-then-not-bodies_ok
 unfolding sound_in
@@ -32,7 +32,7 @@ returns-then-not-bodies_ok c = passed _ (sym c.counts_ok.ensures ∙ c.if-not-co
 
 pub columns_ok-requires : goal.columns_ok-requires
 columns_ok-requires c =
-    let k = counted_of c.args.r (sym c.counts_ok.ensures ∙ c.if-not-counts_ok.false) in
+    let k = counted_of c.args.r.now (sym c.counts_ok.ensures ∙ c.if-not-counts_ok.false) in
     record { early = omega (arith, k.early); passes = body-passes _ _ _ _ (sym c.bodies_ok.ensures ∙ c.if-not-bodies_ok.false) }
 
 pub returns-then-not-columns_ok : goal.returns-then-not-columns_ok
@@ -42,7 +42,7 @@ returns-then-not-columns_ok c =
     (passed _ (sym c.bodies_ok.ensures ∙ c.if-not-bodies_ok.false) (failed _ _ (sym c.columns_ok.ensures ∙ c.if-not-columns_ok.true)))
 
 pub parts_ok-requires : goal.parts_ok-requires
-parts_ok-requires c = (counted_of c.args.r (sym c.counts_ok.ensures ∙ c.if-not-counts_ok.false)).parts
+parts_ok-requires c = (counted_of c.args.r.now (sym c.counts_ok.ensures ∙ c.if-not-counts_ok.false)).parts
 
 pub returns-then-not-parts_ok : goal.returns-then-not-parts_ok
 unfolding sound_in
@@ -52,10 +52,10 @@ returns-then-not-parts_ok c =
     (passed _ (sym c.columns_ok.ensures ∙ c.if-not-columns_ok.false) (failed _ _ (sym c.parts_ok.ensures ∙ c.if-not-parts_ok.true))))
 
 pub window_count-requires : goal.window_count-requires
-window_count-requires c = let k = counted_of c.args.r (sym c.counts_ok.ensures ∙ c.if-not-counts_ok.false) in (omega (arith, k.lagged, k.short), omega (arith, k.early))
+window_count-requires c = let k = counted_of c.args.r.now (sym c.counts_ok.ensures ∙ c.if-not-counts_ok.false) in (omega (arith, k.lagged, k.short), omega (arith, k.early))
 
 pub overflow_add-r : goal.overflow_add-r
-overflow_add-r c = let k = counted_of c.args.r (sym c.counts_ok.ensures ∙ c.if-not-counts_ok.false) in omega (arith, k.lagged, k.short, k.parts, c.window_count.ensures, found_few c.args.bodies.now c.args.columns.now c.args.r.first.0 c.args.r.held)
+overflow_add-r c = let k = counted_of c.args.r.now (sym c.counts_ok.ensures ∙ c.if-not-counts_ok.false) in omega (arith, k.lagged, k.short, k.parts, c.window_count.ensures, found_few c.args.m.now.scans.bodies c.args.m.now.scans.columns c.args.r.now.first.0 c.args.r.now.held)
 
 pub returns-then-r-window_count-gt-DETECTIONS : goal.returns-then-r-window_count-gt-DETECTIONS
 unfolding sound_in
@@ -68,7 +68,7 @@ returns-then-r-window_count-gt-DETECTIONS c =
 
 pub owned_ok-requires : goal.owned_ok-requires
 owned_ok-requires c =
-    let k = counted_of c.args.r (sym c.counts_ok.ensures ∙ c.if-not-counts_ok.false) in
+    let k = counted_of c.args.r.now (sym c.counts_ok.ensures ∙ c.if-not-counts_ok.false) in
     record {
       scans = record {
         few = omega (arith, k.lagged, k.short);
@@ -91,7 +91,7 @@ returns-then-not-owned_ok c =
     (failed _ _ (sym c.owned_ok.ensures ∙ c.if-not-owned_ok.true))))))
 
 pub owners_ok-requires : goal.owners_ok-requires
-owners_ok-requires c = let k = counted_of c.args.r (sym c.counts_ok.ensures ∙ c.if-not-counts_ok.false) in (omega (arith, k.early), k.parts, k.few)
+owners_ok-requires c = let k = counted_of c.args.r.now (sym c.counts_ok.ensures ∙ c.if-not-counts_ok.false) in (omega (arith, k.early), k.parts, k.few)
 
 pub returns : goal.returns
 unfolding sound_in

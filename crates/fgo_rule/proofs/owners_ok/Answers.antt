@@ -9,33 +9,18 @@ use Rattle.fgo_rule.proofs.owners_ok.Goals as goal
 pub loop-k-init : goal.loop-k-init
 loop-k-init c = (omega arith, all_none _)
 
-pub is_distinct-requires : goal.is_distinct-requires
-is_distinct-requires c = (c.requires.2, c.loop-k-test.true)
-
 pub returns-then-not-is_distinct : goal.returns-then-not-is_distinct
 unfolding entry_ok entries_ok
-returns-then-not-is_distinct c = sym (all-less _ c.loop-k.k c.args.r.owned c.loop-k-test.true (sym (failed _ _ (sym c.is_distinct.ensures ∙ c.if-not-is_distinct.true))))
-
-pub owner_at-x-requires : goal.owner_at-x-requires
-owner_at-x-requires c = omega (arith, c.loop-k-test.true, c.requires.2)
-
-pub is_live-requires : goal.is_live-requires
-is_live-requires c = (c.requires.0, c.requires.1)
+returns-then-not-is_distinct c = sym (all-less _ c.loop-k.k c.args.r.now.owned c.loop-k-test.true (sym (failed _ _ (sym c.is_distinct.ensures ∙ c.if-not-is_distinct.true))))
 
 pub returns-then-not-is_live : goal.returns-then-not-is_live
 unfolding entry_ok entries_ok
-returns-then-not-is_live c = sym (all-less _ c.loop-k.k c.args.r.owned c.loop-k-test.true (sym (passed _ (sym c.is_distinct.ensures ∙ c.if-not-is_distinct.false) (sym (sym (c.is_live.ensures ∙ ap (live_in _ _ _ _ _ _) c.owner_at-x.ensures) ∙ c.if-not-is_live.true)))))
-
-pub overflow_add-k : goal.overflow_add-k
-overflow_add-k c = omega (arith, c.loop-k-test.true, c.requires.2)
-
-pub loop-k-smaller : goal.loop-k-smaller
-loop-k-smaller c = omega (arith, c.loop-k-test.true)
+returns-then-not-is_live c = sym (all-less _ c.loop-k.k c.args.r.now.owned c.loop-k-test.true (sym (passed _ (sym c.is_distinct.ensures ∙ c.if-not-is_distinct.false) (sym (sym (c.is_live.ensures ∙ ap (live_in _ _ _ _ _ _) c.owner_at.ensures) ∙ c.if-not-is_live.true)))))
 
 pub loop-k-preserved : goal.loop-k-preserved
 unfolding entry_ok
-loop-k-preserved c = (omega (arith, c.loop-k-test.true), all_more _ c.loop-k.k c.loop-k.invariant.1 (sym (passed _ (sym c.is_distinct.ensures ∙ c.if-not-is_distinct.false) (sym (sym (c.is_live.ensures ∙ ap (live_in _ _ _ _ _ _) c.owner_at-x.ensures) ∙ c.if-not-is_live.false)))))
+loop-k-preserved c = (omega (arith, c.loop-k-test.true), all_more _ c.loop-k.k c.loop-k.invariant.1 (sym (passed _ (sym c.is_distinct.ensures ∙ c.if-not-is_distinct.false) (sym (sym (c.is_live.ensures ∙ ap (live_in _ _ _ _ _ _) c.owner_at.ensures) ∙ c.if-not-is_live.false)))))
 
 pub returns : goal.returns
 unfolding entries_ok
-returns c = let e : c.loop-k.k ≡ c.args.r.owned = omega (arith, c.loop-k-test.false) in sym (rw e at c.loop-k.invariant.1)
+returns c = let e : c.loop-k.k ≡ c.args.r.now.owned = omega (arith, c.loop-k-test.false) in sym (rw e at c.loop-k.invariant.1)

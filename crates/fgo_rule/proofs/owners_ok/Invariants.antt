@@ -1,4 +1,4 @@
-use Prim.Native.Nat.{◌-◌, ◌≤◌}
+use Prim.Native.Nat.{◌≤◌}
 use mathlib.Core.Path.{◌≡◌}
 use mathlib.Core.Bool.{true}
 use Rattle.engine.specs.Body.{all}
@@ -6,7 +6,4 @@ use Rattle.fgo_rule.specs.Tests.{entry_ok}
 use Rattle.fgo_rule.proofs.owners_ok.Given as goal
 
 abbrev pub invariant-loop-k : goal.invariant-loop-k
-invariant-loop-k l = (l.k ≤ l.r.owned) × (all (entry_ok l.r l.bodies l.columns l.owners l.tracks) l.k ≡ true)
-
-abbrev pub decreases-loop-k : goal.decreases-loop-k
-decreases-loop-k l = l.r.owned - l.k
+invariant-loop-k l = (l.k ≤ l.r.owned) × (all (entry_ok l.r l.m.scans.bodies l.m.scans.columns l.m.owners l.m.parts.tracks) l.k ≡ true)

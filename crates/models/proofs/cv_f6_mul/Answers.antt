@@ -1,5 +1,4 @@
 use mathlib.Core.Path.{refl, ap, ◌∙◌}
-use Prim.Native.Nat.{◌-◌}
 use native.Mathlib.Omega.{arith}
 use Rattle.scalar.specs.F64.{f64}
 use Rattle.linalg.proofs.Fill.{next_column, all-columns}

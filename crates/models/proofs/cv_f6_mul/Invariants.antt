@@ -1,4 +1,3 @@
-use Prim.Native.Nat.{◌-◌}
 use Rattle.scalar.specs.F64.{f64}
 use Rattle.linalg.proofs.Fill.{ByColumns}
 use mathlib.Core.List.{List}
@@ -14,6 +13,3 @@ cell dt m i j = dot f64 (λ k. entry f64 (cv_f f64 dt) i k) (λ k. entry f64 m k
 
 abbrev pub invariant-loop-j : goal.invariant-loop-j
 invariant-loop-j l = ByColumns f64 (cell l.dt l.m) (λ i k. f64.zero) l.out l.j
-
-abbrev pub decreases-loop-j : goal.decreases-loop-j
-decreases-loop-j l = 6 - l.j

@@ -1,6 +1,6 @@
 use mathlib.Core.List.{List, [], ◌∷◌}
 use mathlib.Core.Path.{◌≡◌, ap, ◌∙◌}
-use Prim.Native.Nat.{ℕ, ◌-◌}
+use Prim.Native.Nat.{ℕ}
 use lib.Ieee.{Float}
 use Rattle.scalar.specs.F64.{f64}
 use Rattle.linalg.proofs.Fill.{no_row, next_row, all-rows}
@@ -21,7 +21,7 @@ turned m dt i = λ n. by 0 n ∷ by 1 n ∷ by 2 n ∷ by 3 n ∷ by 4 n ∷ by 
     by j = dot_comm (λ k. entry f64 (cv_f f64 dt) j k) (λ k. at f64 (row f64 m i) k)
 
 pub loop-i-init : goal.loop-i-init
-loop-i-init c = no_row f64 _ _ c.sized.ensures
+loop-i-init c = no_row f64 _ _ c.told-out
 
 pub loop-i-preserved : goal.loop-i-preserved
 loop-i-preserved c =

@@ -1,4 +1,3 @@
-use Prim.Native.Nat.{◌-◌}
 use Rattle.scalar.specs.F64.{f64}
 use Rattle.linalg.proofs.Fill.{ByRows}
 use Rattle.linalg.specs.Matrix.{entry}
@@ -15,6 +14,3 @@ cell m dt i j = dot f64 (λ k. entry f64 m i k) (λ k. entry f64 (transpose f64 
 
 abbrev pub invariant-loop-i : goal.invariant-loop-i
 invariant-loop-i l = ByRows f64 (cell l.m l.dt) (λ i j. entry f64 l.initial.out i j) l.out l.i
-
-abbrev pub decreases-loop-i : goal.decreases-loop-i
-decreases-loop-i l = 6 - l.i

@@ -1,4 +1,4 @@
-use Prim.Native.Nat.{◌+◌, ◌*◌, ◌^◌, ◌-◌, ◌≤◌}
+use Prim.Native.Nat.{◌+◌, ◌*◌, ◌^◌, ◌≤◌}
 use mathlib.Core.Path.{◌≡◌}
 use mathlib.Core.Bool.{true}
 use lib.Dec.{eqb}
@@ -8,7 +8,4 @@ use Rattle.recording.specs.Recording.{count, offset, start}
 use Rattle.recording.proofs.fills_rest.Given as goal
 
 abbrev pub invariant-loop-i : goal.invariant-loop-i
-invariant-loop-i l = (l.i ≤ l.n) × (l.n ≡ count l.s) × (l.at ≡ start l.s l.i) × (l.at ≤ RECORDING + 2 ^ 32 * l.i) × (all (λ k. eqb (offset l.s k) (start l.s k)) l.i ≡ true)
-
-abbrev pub decreases-loop-i : goal.decreases-loop-i
-decreases-loop-i l = l.n - l.i
+invariant-loop-i l = (l.n ≡ count l.s) × (l.at ≡ start l.s l.i) × (l.at ≤ RECORDING + 2 ^ 32 * l.i) × (all (λ k. eqb (offset l.s k) (start l.s k)) l.i ≡ true)

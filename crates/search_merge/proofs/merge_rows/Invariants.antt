@@ -1,4 +1,3 @@
-use Rattle.std.proofs.Common.{◌-◌}
 use Rattle.bounds.specs.Bounds.{SCANS}
 use Rattle.search_merge.specs.Merge.{merged_row}
 use Rattle.search_rows.proofs.Filled.{Filling}
@@ -6,6 +5,3 @@ use Rattle.search_merge.proofs.merge_rows.Given as goal
 
 abbrev pub invariant-loop-k : goal.invariant-loop-k
 invariant-loop-k l = Filling SCANS (merged_row l.own l.a l.b) l.initial.row l.row l.k
-
-abbrev pub decreases-loop-k : goal.decreases-loop-k
-decreases-loop-k l = SCANS - l.k

@@ -1,10 +1,16 @@
-use Rattle.std.proofs.Common.{ap, ◌∙◌}
-use Rattle.cost_row.specs.Price.{row_cost, view_in}
+use Rattle.std.proofs.Common.{ap, ◌∙◌, arith}
+use Rattle.cost.specs.Cost.{view_in}
+use Rattle.cost_row.specs.Price.{row_cost}
+use Rattle.cost_row.proofs.Heads.{ends_later}
 use Rattle.search_merge.proofs.Merged.{merged_ends}
 use Rattle.search_merge.proofs.merged_cost.Goals as goal
 
 pub row_cost-requires : goal.row_cost-requires
-row_cost-requires c = let p = c.requires in (p.0, rw c.merge_rows.ensures (merged_ends c.args.own p.2 p.3), p.1)
+row_cost-requires c =
+    let a = c.args.keeper.now in
+    let b = c.args.other.now in
+    let e = c.max.ensures in
+    (rw c.merge_rows.ensures (merged_ends c.args.own (ends_later (omega arith) (omega (arith, a.ends.within, b.ends.within)) a.ends) (ends_later (omega arith) (omega (arith, a.ends.within, b.ends.within)) b.ends)), a.fit.idle)
 
 pub returns : goal.returns
-returns c = let s = c.args in record { value = c.row_cost.ensures.value ∙ ap (row_cost s.hall.config (view_in s.hall s.dots.now) s.p) c.merge_rows.ensures; logs_kept = c.row_cost.ensures.logs_kept }
+returns c = let p = c.args.prices.now in c.row_cost.ensures ∙ ap (row_cost p.config (view_in p) c.args.keeper.now.from) c.merge_rows.ensures

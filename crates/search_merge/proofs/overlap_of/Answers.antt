@@ -1,4 +1,4 @@
-use Rattle.std.proofs.Common.{◌-◌, get_or, arith}
+use Rattle.std.proofs.Common.{get_or, arith}
 use Rattle.search_merge.proofs.Merged.{both_le, only_le, counts, counted}
 use Rattle.search_merge.proofs.overlap_of.Goals as goal
 
@@ -10,18 +10,6 @@ loop-k-init c =
       first = record { few = omega arith; rest = omega arith };
       second = record { few = omega arith; rest = omega arith };
     }
-
-pub offset_bounds-a-k : goal.offset_bounds-a-k
-offset_bounds-a-k c = omega arith
-
-pub bounds-a-k : goal.bounds-a-k
-bounds-a-k c = omega arith
-
-pub offset_bounds-b-k : goal.offset_bounds-b-k
-offset_bounds-b-k c = omega arith
-
-pub bounds-b-k : goal.bounds-b-k
-bounds-b-k c = omega arith
 
 pub overflow_add-shared : goal.overflow_add-shared
 overflow_add-shared c =
@@ -43,12 +31,6 @@ overflow_add-theirs c =
     let o = c.loop-k in
     let e = c.only_has-theirs.ensures in
     omega (arith, only_le (get_or s.b.now o.k 0) (get_or s.a.now o.k 0), o.invariant.second.few)
-
-pub overflow_add-k : goal.overflow_add-k
-overflow_add-k c = omega arith
-
-pub loop-k-smaller : goal.loop-k-smaller
-loop-k-smaller c = omega arith
 
 pub loop-k-preserved : goal.loop-k-preserved
 loop-k-preserved c =

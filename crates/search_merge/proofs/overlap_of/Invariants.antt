@@ -1,4 +1,3 @@
-use Rattle.std.proofs.Common.{◌-◌}
 use Rattle.bounds.specs.Bounds.{SCANS}
 use Rattle.std.proofs.Common.{ℕ, ◌≤◌, List}
 use Rattle.search_merge.specs.Merge.{both_have, only_has}
@@ -13,6 +12,3 @@ pub record Overlaps (a b : List ℕ) (shared mine theirs k : ℕ) : Type 0 where
 
 abbrev pub invariant-loop-k : goal.invariant-loop-k
 invariant-loop-k l = Overlaps l.a l.b l.shared l.mine l.theirs l.k
-
-abbrev pub decreases-loop-k : goal.decreases-loop-k
-decreases-loop-k l = SCANS - l.k

@@ -1,12 +1,13 @@
 use Rattle.std.proofs.Common.{sym, ap, ◌∙◌}
+use Rattle.cost.specs.Cost.{view_in}
 use Rattle.search_merge.specs.declared.Overlap.{Overlap}
-use Rattle.cost_row.specs.Price.{row_cost, view_in}
+use Rattle.cost_row.specs.Price.{row_cost}
 use Rattle.search_merge.proofs.Merged.{merged_own}
 use Rattle.search_merge.proofs.own_cost.Goals as goal
 
 pub returns-then-o-eq0 : goal.returns-then-o-eq0
 returns-then-o-eq0 c =
-    let s = c.args in
-    let p = c.requires in
-    let none = sym (ap (λ (o : Overlap). o.theirs) p.0.lie) ∙ c.if-o-eq0.true in
-    record { value = p.1 ∙ sym (ap (row_cost s.hall.config (view_in s.hall s.dots.now) s.p) (merged_own s.a.now s.b.now none)); logs_kept = p.0.priced.kept }
+    let p = c.args.prices.now in
+    let k = c.args.keeper.now in
+    let none = sym (ap (λ (o : Overlap). o.theirs) c.requires.0) ∙ c.if-o-eq0.true in
+    c.requires.1 ∙ sym (ap (row_cost p.config (view_in p) k.from) (merged_own k.row.now c.args.other.now.row.now none))

@@ -102,20 +102,8 @@ loop-k-init c =
     let p = c.requires in
     noting-start p.0 p.1 (c.point_at-x.ensures ∙ ap (point_at _) c.slot.ensures) (c.point_at-y.ensures ∙ ap (point_at _) c.slot-2.ensures)
 
-pub overflow_add-k : goal.overflow_add-k
-overflow_add-k c = omega arith
-
-pub overflow_add-k-in-loop-k : goal.overflow_add-k-in-loop-k
-overflow_add-k-in-loop-k c = omega arith
-
 pub bounds-close-k : goal.bounds-close-k
 bounds-close-k c = omega (arith, c.requires.0.few)
-
-pub overflow_add-k-in-loop-k-2 : goal.overflow_add-k-in-loop-k-2
-overflow_add-k-in-loop-k-2 c = omega (arith, c.requires.0.few)
-
-pub loop-k-smaller : goal.loop-k-smaller
-loop-k-smaller c = omega arith
 
 pub loop-k-preserved : goal.loop-k-preserved
 loop-k-preserved c =
@@ -133,4 +121,4 @@ loop-k-preserved c =
 pub returns : goal.returns
 returns c =
     let o = c.loop-k.invariant in
-    (noting-done c.requires.0 o c.loop-k-test.false, o.any)
+    record { scans = noting-done c.requires.0 o c.loop-k-test.false; any = o.any }

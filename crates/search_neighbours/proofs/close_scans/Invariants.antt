@@ -1,4 +1,3 @@
-use Prim.Native.Nat.{◌-◌}
 use mathlib.Core.Path.{◌≡◌}
 use mathlib.Core.Bool.{Bool, false}
 use mathlib.Core.List.{List}
@@ -6,7 +5,6 @@ use Prim.Native.Nat.{ℕ, ◌≤◌, ◌<◌}
 use lib.ListN.{length, get_or}
 use lib.Ieee.{Float}
 use Rattle.bounds.specs.Bounds.{SCANS}
-use Rattle.fgo_spec.specs.Lists.{any}
 use Rattle.search_neighbours.specs.declared.Point.{Point}
 use Rattle.search_neighbours.specs.Near.{close_at, any_close, point_at}
 use Rattle.search_neighbours.proofs.close_scans.Given as goal
@@ -22,6 +20,3 @@ pub record Noting (q : Float) (dots : List Float) (a b : List ℕ) (close : List
 
 abbrev pub invariant-loop-k : goal.invariant-loop-k
 invariant-loop-k l = Noting l.q l.dots l.a l.b l.close l.found l.k l.x l.y
-
-abbrev pub decreases-loop-k : goal.decreases-loop-k
-decreases-loop-k l = l.to - l.k

@@ -1,7 +1,8 @@
+use Rattle.std.specs.Prelude.{Option, None}
 use mathlib.Core.Path.{◌≡◌, refl, sym, ap, ◌∙◌}
 use mathlib.Core.Bool.{Bool, true, false}
 use mathlib.Core.List.{List}
-use Prim.Native.Nat.{ℕ, ◌+◌, ◌-◌, ◌≤◌}
+use Prim.Native.Nat.{ℕ, ◌+◌, ◌≤◌}
 use native.Mathlib.Nat.{le_trans, add-zero}
 use native.Mathlib.Omega.{arith}
 use lib.ListN.{length, drop}
@@ -10,20 +11,20 @@ use Rattle.bounds.specs.Bounds.{SCANS, STARTS}
 use Rattle.engine.specs.declared.config.FgoConfig.{FgoConfig}
 use Rattle.engine.specs.declared.types.ScanIndex.{ScanIndex}
 use Rattle.cost.specs.declared.Fold.{Fold}
-use Rattle.cost.specs.Cost.{View, measurements, fold_over, cost}
+use Rattle.cost.specs.Cost.{View, measurements, fold_over, cost, view_in}
 use Rattle.fgo_spec.specs.declared.moves.PairMove.{PairMove}
-use Rattle.fgo_spec.specs.declared.moves.PairMove.TheVariants.{Stay, Swap}
-use Rattle.fgo_spec.specs.Searching.{◌⊕◌, ◌⊖◌, pair_gain, better_pair}
+use Rattle.fgo_spec.specs.declared.moves.PairMove.TheVariants.{Swap}
+use Rattle.fgo_spec.specs.Searching.{◌⊕◌, ◌⊖◌, pair_gain, best_gain, better_pair}
 use Rattle.fgo_spec.proofs.NoGain.{nothing_wins, best_below, start}
 use Rattle.search_pair.specs.Pair.{cut_at, cuts_of, try_swap_row, first_swap, best_swap_row}
-use Rattle.cost_row.specs.Price.{row_cost, on_to, scan_at, view_in, EndsBy}
+use Rattle.cost_row.specs.Price.{row_cost, on_to, scan_at, EndsBy}
 use Rattle.cost_row.proofs.Left.{best_from, best_yes, best_no, best_stays}
-use Rattle.cost_row.proofs.Heads.{begins, passes, on_to_lem, taken_on, until, crossed-cost, few_on, ends_same}
+use Rattle.cost_row.proofs.Heads.{begins, passes, on_to_lem, taken_on, until, crossed-cost, few_on, ends_same, ends_later}
 use Rattle.search_pair.proofs.best_swap.Invariants.{Tried}
 use Rattle.search_pair.proofs.best_swap.Goals as goal
 use Rattle.search_pair.proofs.best_swap.Goals.{else-is_cut, then-is_cut}
 
-module _ {c : FgoConfig} {v : View} {pa pb : Fold} {close : List Bool} {ra rb : List ℕ} {base : Float} {best : PairMove} {fa fb : Fold} {done k : ℕ} (s : Tried c v pa pb close ra rb base best fa fb done k) where
+module _ {c : FgoConfig} {v : View} {pa pb : Fold} {close : List Bool} {ra rb : List ℕ} {base : Float} {best : Option PairMove} {fa fb : Fold} {done k : ℕ} (s : Tried c v pa pb close ra rb base best fa fb done k) where
   tries : k ≤ SCANS → length ra ≡ SCANS → length rb ≡ SCANS → cut_at close k ≡ true → {ga gb : Fold} {gain : Float} → ga ≡ on_to c v done k ra fa → gb ≡ on_to c v done k rb fb →
       gain ≡ cost c ga (measurements v k (drop k rb)) ⊕ cost c gb (measurements v k (drop k ra)) ⊖ base →
       Tried c v pa pb close ra rb base (better_pair best (Swap (scan_at v k) gain)) ga gb k (k + 1)
@@ -59,14 +60,14 @@ module _ {c : FgoConfig} {v : View} {pa pb : Fold} {close : List Bool} {ra rb : 
       let x = ap (row_cost c v pa) (ends_same ea eb g h) in
       let y = ap (row_cost c v pb) (ends_same eb ea g h) in
       let z = (λ i. sub binary64 (add binary64 (x i) (y i)) base) ∙ ap (λ (d : Float). sub binary64 d base) (sym q) in
-      rw (z, nothing_wins base (pair_gain best) s.low)
+      rw (z, nothing_wins base (best_gain pair_gain best) s.low)
 
   ends : {end : ℕ} → EndsBy end ra → EndsBy end rb → base ≡ row_cost c v pa ra ⊕ row_cost c v pb rb → end ≤ k → best ≡ best_swap_row c v pa pb close ra rb base
   ends ea eb q g = sym (best_stays better_pair (try_swap_row c v pa pb ra rb base) (cut_at close) STARTS k best (λ j l. idle ea eb q j (le_trans g l))) ∙ s.left
 
 -- nothing is tried yet, and then the swap before all scans
 module _ (c : FgoConfig) (v : View) (pa pb : Fold) (close : List Bool) (ra rb : List ℕ) (base : Float) where
-  begun : Tried c v pa pb close ra rb base Stay pa pb 0 0
+  begun : Tried c v pa pb close ra rb base None pa pb 0 0
   unfolding best_swap_row cuts_of
   begun = record { within = omega arith; a = begins c v pa ra; b = begins c v pb rb; left = refl; low = start }
 
@@ -76,71 +77,57 @@ module _ (c : FgoConfig) (v : View) (pa pb : Fold) (close : List Bool) (ra rb : 
   first-tried true e f la lb x y = rw f (tries begun (omega arith) la lb (sym e) refl refl (λ i. sub binary64 (add binary64 (x (sym e) i) (y (sym e) i)) base))
   first-tried false e f la lb x y = skips begun (omega arith) (sym e)
 
-pub is_cut-requires : goal.is_cut-requires
-is_cut-requires c = (omega arith, c.requires.noted)
-
 pub loop-k-init : goal.loop-k-init
 loop-k-init c =
-    let s = c.args in
-    let p = c.requires in
-    let v = view_in s.hall s.dots.now in
-    let first : s.hall.first ≡ scan_at v 0 = λ i. record { 0 = sym (add-zero s.hall.first.0) i } in (
-      rw (c.first_swap-best.ensures, c.lend-sa.ensures, c.lend-sb.ensures)
-          (first-tried s.hall.config v s.pa s.pb s.close.now s.a.now s.b.now s.base _ c.is_cut.ensures first p.fit_a.long p.fit_b.long p.exchanged_a p.exchanged_b),
-      rw (c.lend-sa.ensures, c.lend-sb.ensures) p,
-      p.priced.kept,
-    )
+    let p = c.args.prices.now in
+    let a = c.args.a.now in
+    let b = c.args.b.now in
+    let v = view_in p in
+    let q = c.requires in
+    let first : p.first ≡ scan_at v 0 = λ i. record { 0 = sym (add-zero p.first.0) i } in
+    rw c.first_swap-best.ensures
+    (first-tried p.config v a.from b.from c.args.close.now a.row.now b.row.now (a.cost ⊕ b.cost) _ c.is_cut.ensures first a.fit.long b.fit.long q.exchanged_a q.exchanged_b)
 
-pub is_cut-requires-in-loop-k : goal.is_cut-requires-in-loop-k
-is_cut-requires-in-loop-k c = (omega (arith, c.requires.over_a.within), c.requires.noted)
+pub fold_to-fa-requires : goal.fold_to-fa-requires
+fold_to-fa-requires c =
+    let a = c.args.a.now in
+    let b = c.args.b.now in
+    (omega (arith, c.max-end.ensures, a.ends.within, b.ends.within), until c.loop-k.invariant.a c.args.prices.now.early a.fit)
 
-pub fold_to-sa-requires : goal.fold_to-sa-requires
-fold_to-sa-requires c =
-    let i = c.loop-k.invariant in
-    let p = i.1 in
-    (record { early = p.priced.early; kept = i.2 }, omega (arith, p.over_a.within), until i.0.a p.priced.early p.fit_a)
-
-pub fold_to-sb-requires : goal.fold_to-sb-requires
-fold_to-sb-requires c =
-    let i = c.loop-k.invariant in
-    let p = i.1 in
-    (record { early = p.priced.early; kept = c.fold_to-sa.ensures.logs_kept }, omega (arith, p.over_a.within), until i.0.b p.priced.early p.fit_b)
+pub fold_to-fb-requires : goal.fold_to-fb-requires
+fold_to-fb-requires c =
+    let a = c.args.a.now in
+    let b = c.args.b.now in
+    (omega (arith, c.max-end.ensures, a.ends.within, b.ends.within), until c.loop-k.invariant.b c.args.prices.now.early b.fit)
 
 pub swap_gain-gain-requires : goal.swap_gain-gain-requires
 swap_gain-gain-requires c =
+    let a = c.args.a.now in
+    let b = c.args.b.now in
     let i = c.loop-k.invariant in
-    let p = i.1 in
-    let t : c.loop-k.k ≤ SCANS = omega (arith, p.over_a.within, c.loop-k-test.true) in (
-      record { early = p.priced.early; kept = c.fold_to-sb.ensures.logs_kept },
-      p.end_a,
-      p.end_b,
-      few_on i.0.a (omega (arith, p.fit_a.long)) p.priced.early p.fit_a c.fold_to-sa.ensures.numbers_after,
-      few_on i.0.b (omega (arith, p.fit_b.long)) p.priced.early p.fit_b c.fold_to-sb.ensures.numbers_after,
+    let early = c.args.prices.now.early in
+    let t : c.loop-k.k ≤ SCANS = omega (arith, c.max-end.ensures, a.ends.within, b.ends.within) in (
+      few_on i.a (omega (arith, a.fit.long)) early a.fit c.fold_to-fa.ensures,
+      few_on i.b (omega (arith, b.fit.long)) early b.fit c.fold_to-fb.ensures,
     )
-
-pub overflow_add-cut : goal.overflow_add-cut
-overflow_add-cut c = let p = c.requires in omega (arith, p.priced.early, p.over_a.within, c.loop-k-test.true)
-
-pub overflow_add-k : goal.overflow_add-k
-overflow_add-k c = omega (arith, c.requires.over_a.within, c.loop-k-test.true)
-
-pub loop-k-smaller : goal.loop-k-smaller
-loop-k-smaller c = omega arith
 
 pub loop-k-preserved : goal.loop-k-preserved
 loop-k-preserved c =
+    let a = c.args.a.now in
+    let b = c.args.b.now in
     let i = c.loop-k.invariant in
-    let p = i.1 in
     let e = c.is_cut-in-loop-k.ensures in
-    let t : c.loop-k.k ≤ SCANS = omega (arith, p.over_a.within, c.loop-k-test.true) in
+    let t : c.loop-k.k ≤ SCANS = omega (arith, c.max-end.ensures, a.ends.within, b.ends.within) in
     elim c.if-is_cut.branch [
-      | then-is_cut w ↦ rw (w.logs-is, w.best-is, w.fa-is, w.fb-is, w.sa-is, w.sb-is, w.done-is, w.better_pair-best.ensures) (tries i.0 t p.fit_a.long p.fit_b.long (sym e ∙ w.if-is_cut.true) w.fold_to-sa.ensures.numbers_after w.fold_to-sb.ensures.numbers_after w.swap_gain-gain.ensures.value, p, w.swap_gain-gain.ensures.logs_kept)
-      | else-is_cut w ↦ rw (w.logs-is, w.best-is, w.fa-is, w.fb-is, w.sa-is, w.sb-is, w.done-is) (skips i.0 t (sym e ∙ w.if-is_cut.false), p, i.2)
+      | then-is_cut w ↦ rw (w.best-is, w.fa-is, w.fb-is, w.done-is, w.better-best.ensures) (tries i t a.fit.long b.fit.long (sym e ∙ w.if-is_cut.true) w.fold_to-fa.ensures w.fold_to-fb.ensures w.swap_gain-gain.ensures)
+      | else-is_cut w ↦ rw (w.best-is, w.fa-is, w.fb-is, w.done-is) (skips i t (sym e ∙ w.if-is_cut.false))
     ]
 
 pub returns : goal.returns
 returns c =
-    let i = c.loop-k.invariant in
-    let p = c.requires in
-    let s = c.args in
-    record { value = ends i.0 p.over_a p.over_b i.1.paid c.loop-k-test.false ∙ (λ j. best_swap_row s.hall.config (view_in s.hall s.dots.now) (c.lend-sa.ensures j) (c.lend-sb.ensures j) s.close.now s.a.now s.b.now s.base); logs_kept = i.2 }
+    let a = c.args.a.now in
+    let b = c.args.b.now in
+    let q = c.requires in
+    let m = c.max-end.ensures in
+    let within : c.max-end.result ≤ SCANS = omega (arith, m, a.ends.within, b.ends.within) in
+    ends c.loop-k.invariant (ends_later (omega (arith, m)) within a.ends) (ends_later (omega (arith, m)) within b.ends) (λ i. q.paid_a i ⊕ q.paid_b i) c.loop-k-test.false

@@ -1,7 +1,4 @@
-use Prim.Native.Nat.{◌-◌}
-use Rattle.cost.specs.Cost.{LogsKept, fold_in}
-use Rattle.search_pair.specs.Pair.{Swaps}
-use Rattle.cost_row.specs.Price.{view_in}
+use Rattle.std.specs.Prelude.{Option}
 use mathlib.Core.Path.{◌≡◌}
 use mathlib.Core.Bool.{Bool, true}
 use mathlib.Core.List.{List}
@@ -10,9 +7,9 @@ use lib.Ieee.{Float, le}
 use Rattle.bounds.specs.Bounds.{STARTS}
 use Rattle.engine.specs.declared.config.FgoConfig.{FgoConfig}
 use Rattle.cost.specs.declared.Fold.{Fold}
-use Rattle.cost.specs.Cost.{View}
+use Rattle.cost.specs.Cost.{View, view_in}
 use Rattle.fgo_spec.specs.declared.moves.PairMove.{PairMove}
-use Rattle.fgo_spec.specs.Searching.{pair_gain, better_pair}
+use Rattle.fgo_spec.specs.Searching.{pair_gain, best_gain, better_pair}
 use Rattle.fgo_spec.proofs.NoGain.{nought}
 use Rattle.search_pair.specs.Pair.{cut_at, try_swap_row, best_swap_row}
 use Rattle.cost_row.proofs.Left.{best_from}
@@ -20,18 +17,13 @@ use Rattle.cost_row.proofs.Heads.{Along}
 use Rattle.search_pair.proofs.best_swap.Given as goal
 
 -- the folds stand at the last cut, and what is left from k on gives the best of all
-pub record Tried (c : FgoConfig) (v : View) (pa pb : Fold) (close : List Bool) (ra rb : List ℕ) (base : Float) (best : PairMove) (fa fb : Fold) (done k : ℕ) : Type 0 where
+pub record Tried (c : FgoConfig) (v : View) (pa pb : Fold) (close : List Bool) (ra rb : List ℕ) (base : Float) (best : Option PairMove) (fa fb : Fold) (done k : ℕ) : Type 0 where
   pub within : k ≤ STARTS
   pub a : Along c v pa ra k done fa
   pub b : Along c v pb rb k done fb
   pub left : best_from better_pair (try_swap_row c v pa pb ra rb base) (cut_at close) STARTS k best ≡ best_swap_row c v pa pb close ra rb base
-  pub low : le (pair_gain best) nought ≡ true
+  pub low : le (best_gain pair_gain best) nought ≡ true
 
 abbrev pub invariant-loop-k : goal.invariant-loop-k
 invariant-loop-k l =
-    Tried l.hall.config (view_in l.hall l.dots) (fold_in l.initial.sa l.initial.fa) (fold_in l.initial.sb l.initial.fb) l.close l.a l.b l.base l.best (fold_in l.sa l.fa) (fold_in l.sb l.fb) l.done l.k
-    × Swaps l.hall (fold_in l.initial.sa l.initial.fa) (fold_in l.initial.sb l.initial.fb) l.xa l.xb l.close l.a l.b l.ea l.eb l.end l.base l.dots l.initial.logs
-    × LogsKept l.logs
-
-abbrev pub decreases-loop-k : goal.decreases-loop-k
-decreases-loop-k l = l.end - l.k
+    Tried l.prices.config (view_in l.prices) l.a.from l.b.from l.close l.a.row.now l.b.row.now l.paid l.best l.fa l.fb l.done l.k

@@ -1,8 +1,9 @@
 use borrow.Author.Tests.{lt-ltb, le-ltb}
+use Rattle.std.specs.Prelude.{Option}
 use mathlib.Core.Path.{◌≡◌, refl, sym, ◌∙◌}
 use mathlib.Core.Bool.{true, false}
 use mathlib.Core.List.{List}
-use Prim.Native.Nat.{ℕ, ◌+◌, ◌-◌, ◌≤◌, ◌<◌}
+use Prim.Native.Nat.{ℕ, ◌+◌, ◌≤◌, ◌<◌}
 use native.Mathlib.Omega.{arith}
 use lib.ListN.{get_or}
 use lib.Ieee.{Float}
@@ -15,9 +16,9 @@ use Rattle.cost_row.specs.Price.{EndsBy}
 use Rattle.cost_row.proofs.Left.{best_yes, best_no, best_over}
 use Rattle.search_track.proofs.best_drop.Invariants.{Drops, by}
 use Rattle.search_track.proofs.best_drop.Goals as goal
-use Rattle.search_track.proofs.best_drop.Goals.{else-row-k-gt0, then-row-k-gt0}
+use Rattle.search_track.proofs.best_drop.Goals.{else-w-k-gt0, then-w-k-gt0}
 
-module _ {first : ℕ} {gains : List Float} {r : List ℕ} {end : ℕ} {start best : TrackMove} {k : ℕ} (e : EndsBy end r) (s : Drops first gains r end start best k) where
+module _ {first : ℕ} {gains : List Float} {r : List ℕ} {end : ℕ} {start best : Option TrackMove} {k : ℕ} (e : EndsBy end r) (s : Drops first gains r end start best k) where
   tries : k < end → has_slot r k ≡ true → Drops first gains r end start (better_track best (by first gains k)) (k + 1)
   tries g t = record { within = omega arith; left = best_yes better_track (by first gains) (has_slot r) SCANS k best (omega (arith, e.within)) t ∙ s.left }
 
@@ -31,36 +32,15 @@ pub loop-k-init : goal.loop-k-init
 unfolding best_drop_by marks
 loop-k-init c = record { within = omega arith; left = refl }
 
-pub offset_bounds-row-k : goal.offset_bounds-row-k
-offset_bounds-row-k c = omega (arith, c.requires.1.within)
-
-pub bounds-row-k : goal.bounds-row-k
-bounds-row-k c = let e = c.requires.1 in omega (arith, e.within, e.long)
-
-pub overflow_add-scan : goal.overflow_add-scan
-overflow_add-scan c = let p = c.requires in omega (arith, p.0, p.1.within)
-
-pub offset_bounds-gains-k : goal.offset_bounds-gains-k
-offset_bounds-gains-k c = omega (arith, c.requires.1.within)
-
-pub bounds-gains-k : goal.bounds-gains-k
-bounds-gains-k c = let p = c.requires in omega (arith, p.1.within, p.2)
-
-pub overflow_add-k : goal.overflow_add-k
-overflow_add-k c = omega (arith, c.requires.1.within)
-
-pub loop-k-smaller : goal.loop-k-smaller
-loop-k-smaller c = omega arith
-
 pub loop-k-preserved : goal.loop-k-preserved
 loop-k-preserved c =
     let i = c.loop-k.invariant in
-    let e = c.requires.1 in
+    let e = c.args.w.now.ends in
     let g = c.loop-k-test.true in
-    elim c.if-row-k-gt0.branch [
-      | then-row-k-gt0 w ↦ rw (w.best-is, w.better_track-best.ensures) (tries e i g (lt-ltb _ _ w.if-row-k-gt0.true))
-      | else-row-k-gt0 w ↦ rw w.best-is (skips e i g (le-ltb _ _ w.if-row-k-gt0.false))
+    elim c.if-w-k-gt0.branch [
+      | then-w-k-gt0 w ↦ rw (w.best-is, w.better-best.ensures) (tries e i g (lt-ltb _ _ w.if-w-k-gt0.true))
+      | else-w-k-gt0 w ↦ rw w.best-is (skips e i g (le-ltb _ _ w.if-w-k-gt0.false))
     ]
 
 pub returns : goal.returns
-returns c = ends c.requires.1 c.loop-k.invariant c.loop-k-test.false
+returns c = ends c.args.w.now.ends c.loop-k.invariant c.loop-k-test.false

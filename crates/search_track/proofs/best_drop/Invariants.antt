@@ -1,4 +1,4 @@
-use Prim.Native.Nat.{◌-◌}
+use Rattle.std.specs.Prelude.{Option}
 use mathlib.Core.Path.{◌≡◌}
 use mathlib.Core.List.{List}
 use Prim.Native.Nat.{ℕ, ◌+◌, ◌≤◌}
@@ -17,12 +17,9 @@ abbrev pub by : ℕ → List Float → ℕ → TrackMove
 by first gains k = Drop (record { 0 = first + k }) (get_or gains k nan)
 
 -- what is left from k on gives the best of all
-pub record Drops (first : ℕ) (gains : List Float) (r : List ℕ) (end : ℕ) (start best : TrackMove) (k : ℕ) : Type 0 where
+pub record Drops (first : ℕ) (gains : List Float) (r : List ℕ) (end : ℕ) (start best : Option TrackMove) (k : ℕ) : Type 0 where
   pub within : k ≤ end
   pub left : best_from better_track (by first gains) (has_slot r) SCANS k best ≡ best_drop_by first gains r start
 
 abbrev pub invariant-loop-k : goal.invariant-loop-k
-invariant-loop-k l = Drops l.hall.first.0 l.gains l.row l.end l.initial.best l.best l.k
-
-abbrev pub decreases-loop-k : goal.decreases-loop-k
-decreases-loop-k l = l.end - l.k
+invariant-loop-k l = Drops l.first.0 l.gains l.w.row.now l.w.end l.initial.best l.best l.k

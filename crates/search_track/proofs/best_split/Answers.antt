@@ -1,9 +1,11 @@
 use borrow.Author.Tests.{lt-ltb, le-ltb}
+use Rattle.std.specs.Prelude.{Option}
+use Rattle.cost.specs.Cost.{view_in}
 use borrow.Author.Count.{below_more}
-use mathlib.Core.Path.{◌≡◌, refl, sym, ap, subst, ◌∙◌}
+use mathlib.Core.Path.{◌≡◌, refl, sym, ap, ◌∙◌}
 use mathlib.Core.Bool.{Bool, true, false}
 use mathlib.Core.List.{List, [], ◌∷◌, map, foldl}
-use Prim.Native.Nat.{ℕ, ◌+◌, ◌-◌, ◌≤◌, ◌<◌}
+use Prim.Native.Nat.{ℕ, ◌+◌, ◌≤◌, ◌<◌}
 use native.Mathlib.Omega.{arith}
 use lib.ListN.{get_or, set, drop, length-set}
 use lib.Seq.{get_or-set_same, get_or-set_other}
@@ -18,12 +20,12 @@ use Rattle.fgo_spec.specs.declared.moves.TrackMove.TheVariants.{Split}
 use Rattle.fgo_spec.specs.Searching.{better_track}
 use Rattle.search_rows.specs.Moves.{has_slot}
 use Rattle.search_track.specs.Track.{marks, try_split_row, best_split_row, better_split, drop_gain, DropGains}
-use Rattle.cost_row.specs.Price.{head_of, on_to, scan_at, view_in, EndsBy}
+use Rattle.cost_row.specs.Price.{head_of, on_to, scan_at, EndsBy}
 use Rattle.cost_row.proofs.Left.{left, left_yes, left_no, left_over}
 use Rattle.cost_row.proofs.Heads.{begins, passes, on_to_lem, taken_on, until, few_on}
 use Rattle.search_track.proofs.best_split.Invariants.{Splits, after, best_after}
 use Rattle.search_track.proofs.best_split.Goals as goal
-use Rattle.search_track.proofs.best_split.Goals.{else-row-k-gt0, then-row-k-gt0}
+use Rattle.search_track.proofs.best_split.Goals.{else-w-k-gt0, then-w-k-gt0}
 
 -- the drop of the detection in scan k is noted
 module _ {c : FgoConfig} {v : View} {p : Fold} {r : List ℕ} {base : Float} {k : ℕ} {gains : List Float} (d : DropGains c v p r base k gains) where
@@ -45,12 +47,12 @@ module _ {c : FgoConfig} {v : View} {p : Fold} {r : List ℕ} {base : Float} {k 
         each = below_more (λ j. has_slot r j ≡ true → get_or gains j nan ≡ drop_gain c v (head_of c v p r j) r j base) k d.each (λ u. let n : ◌≡◌ {A = ℕ} 0 1 = cc in absurd (omega arith));
       }
 
-module _ {c : FgoConfig} {v : View} {p : Fold} {r : List ℕ} {base : Float} {end : ℕ} {gains : List Float} {best : TrackMove} {fold : Fold} {done : ℕ} {seen : Bool} {k : ℕ} (e : EndsBy end r) (s : Splits c v p r base end gains best fold done seen k) where
+module _ {c : FgoConfig} {v : View} {p : Fold} {r : List ℕ} {base : Float} {end : ℕ} {gains : List Float} {best : Option TrackMove} {fold : Fold} {done : ℕ} {seen : Bool} {k : ℕ} (e : EndsBy end r) (s : Splits c v p r base end gains best fold done seen k) where
   at : (l : List ℕ) → left (has_slot r) SCANS k ≡ l → foldl better_track best (map (try_split_row c v p r base) (after seen l)) ≡ best_after c v p r base seen k best
   at l q = ap (λ (m : List ℕ). foldl better_track best (map (try_split_row c v p r base) (after seen m))) (sym q)
 
   -- a detection; there is no split before the first
-  tries : k < end → has_slot r k ≡ true → {f : Fold} {b : TrackMove} {g : Float} → f ≡ on_to c v done k r fold → b ≡ better_split c v best seen f r k base → g ≡ drop_gain c v f r k base →
+  tries : k < end → has_slot r k ≡ true → {f : Fold} {b : Option TrackMove} {g : Float} → f ≡ on_to c v done k r fold → b ≡ better_split c v best seen f r k base → g ≡ drop_gain c v f r k base →
       Splits c v p r base end (set gains k g) b f k true (k + 1)
   tries g t {f} ef eb eg =
       let h : k < SCANS = omega (arith, e.within) in
@@ -91,78 +93,37 @@ module _ {c : FgoConfig} {v : View} {p : Fold} {r : List ℕ} {base : Float} {en
 pub loop-k-init : goal.loop-k-init
 unfolding best_split_row marks
 loop-k-init c =
-    let s = c.args in
-    let p = c.requires in (
-      record {
-        within = omega arith;
-        along = begins s.hall.config (view_in s.hall s.dots.now) _ s.row.now;
-        rest = refl;
-        drops = record { long = p.3; each = λ j h. absurd (omega arith) };
-      },
-      rw c.lend-fold.ensures p.1,
-      p.0.kept,
-    )
-
-pub offset_bounds-row-k : goal.offset_bounds-row-k
-offset_bounds-row-k c = omega (arith, c.requires.2.within)
-
-pub bounds-row-k : goal.bounds-row-k
-bounds-row-k c = let e = c.requires.2 in omega (arith, e.within, e.long)
+    let p = c.args.prices.now in
+    let w = c.args.w.now in
+    record {
+      within = omega arith;
+      along = begins p.config (view_in p) w.from w.row.now;
+      rest = refl;
+      drops = record { long = c.told-gains; each = λ j h. absurd (omega arith) };
+    }
 
 pub fold_to-fold-requires : goal.fold_to-fold-requires
 fold_to-fold-requires c =
-    let p = c.requires in
-    let i = c.loop-k.invariant in
-    (record { early = p.0.early; kept = i.2 }, omega (arith, p.2.within), until i.0.along p.0.early i.1)
-
-pub better_split-best-requires : goal.better_split-best-requires
-better_split-best-requires c = let p = c.requires in (record { early = p.0.early; kept = c.fold_to-fold.ensures.logs_kept }, p.2, omega (arith, p.2.within))
+    let w = c.args.w.now in
+    (omega (arith, w.ends.within), until c.loop-k.invariant.along c.args.prices.now.early w.fit)
 
 pub drop_gain-requires : goal.drop_gain-requires
 drop_gain-requires c =
-    let p = c.requires in
-    let i = c.loop-k.invariant in
-    let h = c.loop-k-test.true in (
-      record { early = p.0.early; kept = c.better_split-best.ensures.logs_kept },
-      p.2,
-      few_on i.0.along (omega (arith, p.2.within, p.2.long)) p.0.early i.1 c.fold_to-fold.ensures.numbers_after,
-      omega (arith, p.2.within),
-    )
-
-pub offset_bounds-gains-k : goal.offset_bounds-gains-k
-offset_bounds-gains-k c = omega (arith, c.requires.2.within)
-
-pub bounds-gains-k : goal.bounds-gains-k
-bounds-gains-k c = omega (arith, c.requires.2.within, c.loop-k.invariant.0.drops.long)
-
-pub overflow_add-k : goal.overflow_add-k
-overflow_add-k c = omega (arith, c.requires.2.within)
-
-pub loop-k-smaller : goal.loop-k-smaller
-loop-k-smaller c = omega arith
+    let w = c.args.w.now in
+    (few_on c.loop-k.invariant.along (omega (arith, w.ends.within, w.ends.long)) c.args.prices.now.early w.fit c.fold_to-fold.ensures, omega (arith, w.ends.within))
 
 pub loop-k-preserved : goal.loop-k-preserved
 loop-k-preserved c =
     let i = c.loop-k.invariant in
-    let e = c.requires.2 in
+    let e = c.args.w.now.ends in
     let g = c.loop-k-test.true in
-    elim c.if-row-k-gt0.branch [
-      | then-row-k-gt0 w ↦ rw (w.gains-is, w.logs-is, w.best-is, w.numbers-is, w.fold-is, w.done-is, w.seen-is) (tries e i.0 g (lt-ltb _ _ w.if-row-k-gt0.true) w.fold_to-fold.ensures.numbers_after w.better_split-best.ensures.value w.drop_gain.ensures.value, i.1, w.drop_gain.ensures.logs_kept)
-      | else-row-k-gt0 w ↦ rw (w.gains-is, w.logs-is, w.best-is, w.numbers-is, w.fold-is, w.done-is, w.seen-is) (skips e i.0 g (le-ltb _ _ w.if-row-k-gt0.false), i.1, i.2)
+    elim c.if-w-k-gt0.branch [
+      | then-w-k-gt0 w ↦ rw (w.gains-is, w.best-is, w.fold-is, w.done-is, w.seen-is) (tries e i g (lt-ltb _ _ w.if-w-k-gt0.true) w.fold_to-fold.ensures w.better_split-best.ensures w.drop_gain.ensures)
+      | else-w-k-gt0 w ↦ rw (w.gains-is, w.best-is, w.fold-is, w.done-is, w.seen-is) (skips e i g (le-ltb _ _ w.if-w-k-gt0.false))
     ]
 
 pub returns : goal.returns
 returns c =
     let i = c.loop-k.invariant in
-    let s = c.args in
-    let e = c.requires.2 in
-    let v = view_in s.hall s.dots.now in
-    record {
-      value =
-          ends e i.0 c.loop-k-test.false
-          ∙ ap (λ (p : Fold). best_split_row s.hall.config v p s.row.now s.base) c.lend-fold.ensures;
-      drop_gains =
-          subst (λ (p : Fold). DropGains s.hall.config v p s.row.now s.base s.end c.loop-k.gains) c.lend-fold.ensures
-          (noted e i.0 c.loop-k-test.false);
-      logs_kept = i.2;
-    }
+    let e = c.args.w.now.ends in
+    record { best = ends e i c.loop-k-test.false; drop_gains = noted e i c.loop-k-test.false }

@@ -1,15 +1,12 @@
-use borrow.Author.Tests.{le-leb, lt-leb}
+use Rattle.std.proofs.Common.{arith}
+use Rattle.std.proofs.lemmas.Bool.Decides.{nat_tests}
 use Rattle.smoother_window.specs.Config as Config
 use Rattle.smoother.proofs.bounded.Goals as goal
 
-pub returns-then-c-gt-LAG : goal.returns-then-c-gt-LAG
+pub returns-then-c-ge1 : goal.returns-then-c-ge1
 unfolding Config.bounded
-returns-then-c-gt-LAG c = rw (lt-leb _ _ c.if-c-gt-LAG.true)
+returns-then-c-ge1 c = grind (arith, nat_tests)
 
-pub returns-then-c-lt1 : goal.returns-then-c-lt1
+pub returns-else-c-ge1 : goal.returns-else-c-ge1
 unfolding Config.bounded
-returns-then-c-lt1 c = rw (le-leb _ _ c.if-c-gt-LAG.false, lt-leb _ _ c.if-c-lt1.true)
-
-pub returns : goal.returns
-unfolding Config.bounded
-returns c = rw (le-leb _ _ c.if-c-gt-LAG.false, le-leb _ _ c.if-c-lt1.false)
+returns-else-c-ge1 c = grind (arith, nat_tests)

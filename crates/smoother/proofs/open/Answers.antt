@@ -1,4 +1,8 @@
-use mathlib.Core.Path.{sym, ap, ◌∙◌}
+use borrow.Author.Tests.{eqb-false}
+use Rattle.std.proofs.lemmas.Result.{err_from_is_err_and}
+use Rattle.refusals.specs.Refusals.{number_of}
+use Rattle.refusals.proofs.Refused.{numbered}
+use mathlib.Core.Path.{ap, ◌∙◌}
 use Rattle.buffers.specs.Answer.{opened_by}
 use Rattle.smoother_window.specs.Window.{frames_from}
 use Rattle.smoother.specs.Smoother.{new, opens}
@@ -6,10 +10,14 @@ use Rattle.smoother.specs.Promise.{state_in}
 use Rattle.buffers.proofs.Checking.{open_refused}
 use Rattle.smoother.proofs.open.Goals as goal
 
-pub returns-then-n-ne0 : goal.returns-then-n-ne0
+pub returns-in_err-check_open : goal.returns-in_err-check_open
 unfolding opens
-returns-then-n-ne0 c = let s = new c.args.config in open_refused c.open_refusal-n.result s c.if-n-ne0.true ∙ ap (λ n. opened_by n s) c.open_refusal-n.ensures
+returns-in_err-check_open c =
+    let s = new c.args.config in
+    let r = c.in_err-check_open.field-0.0 in
+    let p = err_from_is_err_and c.from_residual.result c.from_residual.ensures.1 in
+    rw (p.1, p.2) (open_refused (number_of r) s (eqb-false _ 0 (numbered r)) ∙ ap (λ n. opened_by n s) c.in_err-check_open.ensures)
 
 pub returns : goal.returns
 unfolding opens state_in frames_from
-returns c = let s = new c.args.config in ap (λ n. opened_by n s) (sym c.if-n-ne0.false ∙ c.open_refusal-n.ensures)
+returns c = let s = new c.args.config in ap (λ n. opened_by n s) c.in_ok-check_open.ensures

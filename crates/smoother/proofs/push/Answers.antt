@@ -1,42 +1,58 @@
-use mathlib.Core.Path.{sym, ◌∙◌}
+use borrow.Author.Tests.{eqb-false}
+use Rattle.std.proofs.lemmas.Result.{err_from_is_err_and}
+use Rattle.refusals.specs.Refusals.{number_of}
+use Rattle.refusals.proofs.Refused.{numbered}
+use mathlib.Core.Path.{refl, sym, ◌∙◌}
 use lib.ListN.{length}
 use Rattle.buffers.specs.Answer.{pushed}
+use native.Mathlib.Omega.{arith}
 use Rattle.smoother_frame.specs.Frame.{frame}
 use Rattle.smoother_window.proofs.Forms.{fits}
 use Rattle.smoother.specs.Promise.{window, state_in}
-use Rattle.smoother.proofs.Refusals.{passing}
+use Rattle.smoother.proofs.Refusals.{passing, some_when, none_when}
 use Rattle.smoother.proofs.Calls.{due_refused, due_passed, push_malformed, refuses, push_ready, push-holds, push_gives}
 use Rattle.smoother.proofs.push.Goals as goal
 
-pub returns-then-n-ne0 : goal.returns-then-n-ne0
-returns-then-n-ne0 c =
+pub returns-in_err-check_call : goal.returns-in_err-check_call
+returns-in_err-check_call c =
     let g = c.args in
     let w = window g.window.now g.values.now in
     let ws = g.words.now in
     let ns = g.numbers.now in
     let f = frame g.fw.now g.fx.now in
-    refuses (pushed f) g.given w ws ns _ (due_refused (pushed f) g.given w ws ns c.later_refusal-n.ensures c.if-n-ne0.true) c.refused.ensures
+    let r = c.in_err-check_call.field-0.0 in
+    let p = err_from_is_err_and c.from_residual.result c.from_residual.ensures.1 in
+    let d = due_refused (pushed f) g.s.now w ws ns c.in_err-check_call.ensures (eqb-false _ 0 (numbered r)) in
+    rw (p.1, p.2) (refuses (pushed f) g.s.now w ws ns (number_of r) d refl)
 
 pub well_formed-requires : goal.well_formed-requires
 well_formed-requires c =
     let g = c.args in
-    (passing g.given (window g.window.now g.values.now) (length g.words.now) (length g.numbers.now) (sym c.later_refusal-n.ensures ∙ c.if-n-ne0.false)).fits.tracks
+    (passing g.s.now (window g.window.now g.values.now) (length g.words.now) (length g.numbers.now) (sym c.in_ok-check_call.ensures)).fits.tracks
 
-pub returns-then-not-well_formed : goal.returns-then-not-well_formed
+pub returns-in_default : goal.returns-in_default
 unfolding state_in
-returns-then-not-well_formed c =
+returns-in_default c =
     let g = c.args in
     let w = window g.window.now g.values.now in
     let ws = g.words.now in
     let ns = g.numbers.now in
     let f = frame g.fw.now g.fx.now in
-    refuses (pushed f) g.given w ws ns 5 (due_passed (pushed f) g.given w ws ns (sym c.later_refusal-n.ensures ∙ c.if-n-ne0.false) ∙ push_malformed (state_in g.given w) f (sym c.well_formed-2.ensures ∙ c.if-not-well_formed.true)) c.refused-then-not-well_formed.ensures
+    let z = sym c.in_ok-check_call.ensures in
+    let h = none_when _ _ c.well_formed-2.ensures c.in_default.is in
+    refuses (pushed f) g.s.now w ws ns 5 (due_passed (pushed f) g.s.now w ws ns z ∙ push_malformed (state_in g.s.now w) f h) refl
 
-pub store-s-requires : goal.store-s-requires
-store-s-requires c =
+pub store-requires : goal.store-requires
+store-requires c =
     let g = c.args in
-    let p = passing g.given (window g.window.now g.values.now) (length g.words.now) (length g.numbers.now) (sym c.later_refusal-n.ensures ∙ c.if-n-ne0.false) in
-    (p.fits, p.few, fits g.given.config (frame g.fw.now g.fx.now) (sym c.well_formed-2.ensures ∙ c.if-not-well_formed.false))
+    let w = window g.window.now g.values.now in
+    let ws = g.words.now in
+    let ns = g.numbers.now in
+    let f = frame g.fw.now g.fx.now in
+    let z = sym c.in_ok-check_call.ensures in
+    let h = some_when _ c.well_formed-2.ensures c.in-Some.is in
+    let p = passing g.s.now w (length ws) (length ns) z in
+    record { fitting = p.fits; free = p.few; few = rw h.1 (fits g.s.now.config f h.0).tracks }
 
 pub returns-then-s : goal.returns-then-s
 returns-then-s c =
@@ -45,20 +61,44 @@ returns-then-s c =
     let ws = g.words.now in
     let ns = g.numbers.now in
     let f = frame g.fw.now g.fx.now in
-    let v = window c.store-s.new.win c.store-s.new.nums in
-    push-holds g.given w ws ns f (sym c.later_refusal-n.ensures ∙ c.if-n-ne0.false) (sym c.well_formed-2.ensures ∙ c.if-not-well_formed.false) c.store-s.result v c.store-s.ensures c.if-s.true
+    let z = sym c.in_ok-check_call.ensures in
+    let h = some_when _ c.well_formed-2.ensures c.in-Some.is in
+    let v = window c.store.new.words c.store.new.values in
+    let d = rw h.1 at c.store.ensures in
+    push-holds g.s.now w ws ns f z h.0 c.store.new.self v d c.if-s.true
 
-pub emit_oldest-requires : goal.emit_oldest-requires
-emit_oldest-requires c =
+pub invariant_of-held : goal.invariant_of-held
+invariant_of-held c =
     let g = c.args in
     let w = window g.window.now g.values.now in
     let ws = g.words.now in
     let ns = g.numbers.now in
     let f = frame g.fw.now g.fx.now in
-    let v = window c.store-s.new.win c.store-s.new.nums in
-    let p = passing g.given w (length ws) (length ns) (sym c.later_refusal-n.ensures ∙ c.if-n-ne0.false) in
-    let q = push_ready g.given w ws ns f (sym c.later_refusal-n.ensures ∙ c.if-n-ne0.false) (sym c.well_formed-2.ensures ∙ c.if-not-well_formed.false) c.store-s.result v c.store-s.ensures in
-    (q.fits, q.few, q.some, q.counts, p.words, p.numbers)
+    let z = sym c.in_ok-check_call.ensures in
+    let h = some_when _ c.well_formed-2.ensures c.in-Some.is in
+    let v = window c.store.new.words c.store.new.values in
+    let d = rw h.1 at c.store.ensures in
+    record { fitting = (push_ready g.s.now w ws ns f z h.0 c.store.new.self v d).fits }
+
+pub invariant_of-held-2 : goal.invariant_of-held-2
+invariant_of-held-2 c =
+    let g = c.args in
+    let w = window g.window.now g.values.now in
+    let ws = g.words.now in
+    let ns = g.numbers.now in
+    let f = frame g.fw.now g.fx.now in
+    let z = sym c.in_ok-check_call.ensures in
+    let h = some_when _ c.well_formed-2.ensures c.in-Some.is in
+    let v = window c.store.new.words c.store.new.values in
+    let d = rw h.1 at c.store.ensures in
+    let q = push_ready g.s.now w ws ns f z h.0 c.store.new.self v d in
+    record { few = q.few; counted = q.counts }
+
+pub emit_oldest-size-requires : goal.emit_oldest-size-requires
+emit_oldest-size-requires c =
+    let g = c.args in
+    let p = passing g.s.now (window g.window.now g.values.now) (length g.words.now) (length g.numbers.now) (sym c.in_ok-check_call.ensures) in
+    record { some = omega (arith, c.if-s.false); words = p.words; numbers = p.numbers }
 
 pub returns : goal.returns
 returns c =
@@ -67,5 +107,8 @@ returns c =
     let ws = g.words.now in
     let ns = g.numbers.now in
     let f = frame g.fw.now g.fx.now in
-    let v = window c.store-s.new.win c.store-s.new.nums in
-    push_gives g.given w ws ns f (sym c.later_refusal-n.ensures ∙ c.if-n-ne0.false) (sym c.well_formed-2.ensures ∙ c.if-not-well_formed.false) c.store-s.result v c.store-s.ensures c.if-s.false c.emit_oldest.ensures c.emit_oldest.auto.words c.emit_oldest.auto.numbers
+    let z = sym c.in_ok-check_call.ensures in
+    let h = some_when _ c.well_formed-2.ensures c.in-Some.is in
+    let v = window c.store.new.words c.store.new.values in
+    let d = rw h.1 at c.store.ensures in
+    rw c.drop_oldest.ensures (push_gives g.s.now w ws ns f z h.0 c.store.new.self v d c.if-s.false c.emit_oldest-size.ensures c.emit_oldest-size.auto.words c.emit_oldest-size.auto.numbers)

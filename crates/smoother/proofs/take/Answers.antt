@@ -1,3 +1,7 @@
+use borrow.Author.Tests.{eqb-false}
+use Rattle.std.proofs.lemmas.Result.{err_from_is_err_and}
+use Rattle.refusals.specs.Refusals.{number_of}
+use Rattle.refusals.proofs.Refused.{numbered}
 use mathlib.Core.Path.{refl, sym, ◌∙◌}
 use native.Mathlib.Omega.{arith}
 use lib.ListN.{length}
@@ -8,27 +12,42 @@ use Rattle.smoother.proofs.Refusals.{passing}
 use Rattle.smoother.proofs.Calls.{due_refused, due_passed, none_held, refuses, gives_oldest}
 use Rattle.smoother.proofs.take.Goals as goal
 
-pub returns-then-n-ne0 : goal.returns-then-n-ne0
-returns-then-n-ne0 c =
+pub returns-in_err-check_call : goal.returns-in_err-check_call
+returns-in_err-check_call c =
     let g = c.args in
     let w = window g.window.now g.values.now in
     let ws = g.words.now in
     let ns = g.numbers.now in
-    refuses taken g.given w ws ns _ (due_refused taken g.given w ws ns c.later_refusal-n.ensures c.if-n-ne0.true) c.refused.ensures
+    let r = c.in_err-check_call.field-0.0 in
+    let p = err_from_is_err_and c.from_residual.result c.from_residual.ensures.1 in
+    let d = due_refused (taken) g.s.now w ws ns c.in_err-check_call.ensures (eqb-false _ 0 (numbered r)) in
+    rw (p.1, p.2) (refuses (taken) g.s.now w ws ns (number_of r) d refl)
 
-pub returns-then-given-eq0 : goal.returns-then-given-eq0
-returns-then-given-eq0 c =
+pub returns-then-s-eq0 : goal.returns-then-s-eq0
+returns-then-s-eq0 c =
     let g = c.args in
     let w = window g.window.now g.values.now in
     let ws = g.words.now in
     let ns = g.numbers.now in
-    refuses taken g.given w ws ns 13 (due_passed taken g.given w ws ns (sym c.later_refusal-n.ensures ∙ c.if-n-ne0.false) ∙ none_held g.given w c.if-given-eq0.true) c.refused-then-given-eq0.ensures
+    refuses taken g.s.now w ws ns 13 (due_passed taken g.s.now w ws ns (sym c.in_ok-check_call.ensures) ∙ none_held g.s.now w c.if-s-eq0.true) refl
 
-pub emit_oldest-requires : goal.emit_oldest-requires
-emit_oldest-requires c =
+pub invariant_of-held : goal.invariant_of-held
+invariant_of-held c =
     let g = c.args in
-    let p = passing g.given (window g.window.now g.values.now) (length g.words.now) (length g.numbers.now) (sym c.later_refusal-n.ensures ∙ c.if-n-ne0.false) in
-    (p.fits, omega (arith, p.few), omega (arith, c.if-given-eq0.false), p.counted, p.words, p.numbers)
+    let p = passing g.s.now (window g.window.now g.values.now) (length g.words.now) (length g.numbers.now) (sym c.in_ok-check_call.ensures) in
+    record { fitting = p.fits }
+
+pub invariant_of-held-2 : goal.invariant_of-held-2
+invariant_of-held-2 c =
+    let g = c.args in
+    let p = passing g.s.now (window g.window.now g.values.now) (length g.words.now) (length g.numbers.now) (sym c.in_ok-check_call.ensures) in
+    record { few = omega (arith, p.few); counted = p.counted }
+
+pub emit_oldest-size-requires : goal.emit_oldest-size-requires
+emit_oldest-size-requires c =
+    let g = c.args in
+    let p = passing g.s.now (window g.window.now g.values.now) (length g.words.now) (length g.numbers.now) (sym c.in_ok-check_call.ensures) in
+    record { some = omega (arith, c.if-s-eq0.false); words = p.words; numbers = p.numbers }
 
 pub returns : goal.returns
 unfolding takes
@@ -37,4 +56,4 @@ returns c =
     let w = window g.window.now g.values.now in
     let ws = g.words.now in
     let ns = g.numbers.now in
-    gives_oldest taken g.given w ws ns g.given w refl refl (due_passed taken g.given w ws ns (sym c.later_refusal-n.ensures ∙ c.if-n-ne0.false)) (omega (arith, c.if-given-eq0.false)) c.emit_oldest.ensures c.emit_oldest.auto.words c.emit_oldest.auto.numbers
+    rw c.drop_oldest.ensures (gives_oldest taken g.s.now w ws ns g.s.now w refl refl (due_passed taken g.s.now w ws ns (sym c.in_ok-check_call.ensures)) (omega (arith, c.if-s-eq0.false)) c.emit_oldest-size.ensures c.emit_oldest-size.auto.words c.emit_oldest-size.auto.numbers)

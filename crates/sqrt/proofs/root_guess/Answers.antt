@@ -1,5 +1,4 @@
 use native.Mathlib.Omega.{arith}
-use Rattle.scalar.proofs.Positive.{positive_no_nan}
 use Rattle.scalar.proofs.RootScale.{no_nan}
 use Rattle.sqrt.proofs.root_guess.Goals as goal
 
@@ -8,6 +7,3 @@ float_from_bits-x c = no_nan _ (omega arith)
 
 pub float_from_bits-x-else-m-lt9007199254740992 : goal.float_from_bits-x-else-m-lt9007199254740992
 float_from_bits-x-else-m-lt9007199254740992 c = no_nan _ (omega arith)
-
-pub float_to_bits-result : goal.float_to_bits-result
-float_to_bits-result c = positive_no_nan c.newton-y.result c.if-y.true

@@ -1,7 +1,6 @@
-use Rattle.std.proofs.Common.{refl}
 use Rattle.cost.specs.Cost.{added}
 use Rattle.cost.proofs.Sums.add.Goals as goal
 
 pub returns : goal.returns
 unfolding added
-returns c = (rw (c.update_by-u.ensures, c.predict-p.ensures, c.requires.1) refl, c.log_of-l.ensures.kept)
+returns c = rw (c.update_by-u.ensures, c.predict-p.ensures, c.requires.1)

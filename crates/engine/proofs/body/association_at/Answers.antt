@@ -15,4 +15,4 @@ f64_at-requires c = omega arith
 
 pub returns : goal.returns
 unfolding association_at
-returns c = association_read_lem c.args.kind c.args.s.now c.args.o (rw (little-one c.args.s.now c.args.o, c.associated_of-track.ensures, c.u64_at.ensures, c.outcome_of-outcome.ensures, c.cost_of-cost.ensures, c.f64_at.ensures))
+returns c = association_read_lem c.args.kind c.args.s.now c.args.o (rw (little-one c.args.s.now c.args.o, c.associated_of-track.ensures, c.u64_at.ensures, c.from-outcome.ensures, c.cost_of-cost.ensures, c.f64_at.ensures))

@@ -11,4 +11,4 @@ returns-then-s-eq0 c = ap mode_of (sym (get_or-eq_default c.args.s.now 0 (omega 
 
 pub returns : goal.returns
 unfolding frame_of
-returns c = c.mode_of.ensures
+returns c = c.from.ensures

@@ -1,20 +1,7 @@
-use mathlib.Core.Path.{sym}
-use Prim.Native.Nat.{◌+◌}
 use native.Mathlib.Omega.{arith}
-use Rattle.engine.proofs.Bytes.{little-add, little_below}
+use native.Mathlib.Nat.{add-zero}
+use Rattle.engine.proofs.Bytes.{little-bytes}
 use Rattle.engine.proofs.little.u24_at.Goals as goal
 
-pub u8_at-requires : goal.u8_at-requires
-u8_at-requires c = omega arith
-
-pub u16_at-requires : goal.u16_at-requires
-u16_at-requires c = omega arith
-
-pub overflow_mul-result : goal.overflow_mul-result
-overflow_mul-result c = record { fits = omega (arith, c.u16_at.ensures, little_below 2 c.args.s.now (c.args.o + 1) c.type_inv.s) }
-
-pub overflow_add-result : goal.overflow_add-result
-overflow_add-result c = record { fits = omega (arith, c.u8_at.ensures, c.u16_at.ensures, little_below 1 c.args.s.now c.args.o c.type_inv.s, little_below 2 c.args.s.now (c.args.o + 1) c.type_inv.s) }
-
 pub returns : goal.returns
-returns c = rw (c.u8_at.ensures, c.u16_at.ensures) (sym (little-add 1 2 _ _))
+returns c = rw (little-bytes 2 c.args.s.now c.args.o, add-zero, c.from.ensures, c.from_le_bytes.ensures) (omega arith)

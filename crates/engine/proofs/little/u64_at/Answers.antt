@@ -1,20 +1,7 @@
-use mathlib.Core.Path.{sym}
-use Prim.Native.Nat.{◌+◌}
-use native.Mathlib.Omega.{arith}
-use Rattle.engine.proofs.Bytes.{little-add, little_below}
+use mathlib.Core.Path.{refl}
+use native.Mathlib.Nat.{add-zero}
+use Rattle.engine.proofs.Bytes.{little-bytes}
 use Rattle.engine.proofs.little.u64_at.Goals as goal
 
-pub u32_at-requires : goal.u32_at-requires
-u32_at-requires c = omega arith
-
-pub u32_at-requires-2 : goal.u32_at-requires-2
-u32_at-requires-2 c = omega arith
-
-pub overflow_mul-result : goal.overflow_mul-result
-overflow_mul-result c = record { fits = omega (arith, c.u32_at-2.ensures, little_below 4 c.args.s.now (c.args.o + 4) c.type_inv.s) }
-
-pub overflow_add-result : goal.overflow_add-result
-overflow_add-result c = record { fits = omega (arith, c.u32_at.ensures, c.u32_at-2.ensures, little_below 4 c.args.s.now c.args.o c.type_inv.s, little_below 4 c.args.s.now (c.args.o + 4) c.type_inv.s) }
-
 pub returns : goal.returns
-returns c = rw (c.u32_at.ensures, c.u32_at-2.ensures) (sym (little-add 4 4 _ _))
+returns c = rw (little-bytes 7 c.args.s.now c.args.o, add-zero, c.from_le_bytes.ensures) refl

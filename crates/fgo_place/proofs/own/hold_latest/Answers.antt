@@ -2,27 +2,9 @@ use Prim.Native.Nat.{◌<◌}
 use native.Mathlib.Omega.{arith}
 use mathlib.Core.Path.{◌∙◌}
 use Rattle.bounds.specs.Bounds.{OWNED}
-use Rattle.fgo_place.proofs.Telling.{kept, changed, none_told, all_told}
+use Rattle.fgo_place.proofs.Telling.{kept, changed, all_told}
 use Rattle.fgo_place.proofs.own.hold_latest.Goals as goal
 use Rattle.fgo_place.proofs.own.hold_latest.Goals.{then-x-gt0, else-x-gt0}
-
-pub loop-k-init : goal.loop-k-init
-loop-k-init c = (omega arith, c.requires.0, none_told c.args.ids.now c.args.engines.now c.args.starts.now c.args.held c.args.owners.now c.requires.1)
-
-pub engine_at-e-requires : goal.engine_at-e-requires
-engine_at-e-requires c = omega (arith, c.loop-k.invariant.1)
-
-pub latest_in-x-requires : goal.latest_in-x-requires
-latest_in-x-requires c = c.requires.2
-
-pub put_owner-requires : goal.put_owner-requires
-put_owner-requires c = (omega (arith, c.loop-k.invariant.1), c.loop-k.invariant.2.long)
-
-pub overflow_add-k : goal.overflow_add-k
-overflow_add-k c = omega arith
-
-pub loop-k-smaller : goal.loop-k-smaller
-loop-k-smaller c = omega arith
 
 pub loop-k-preserved : goal.loop-k-preserved
 loop-k-preserved c = let f = c.args in
@@ -41,4 +23,4 @@ pub returns : goal.returns
 returns c = let f = c.args in
     let l = c.loop-k in
     let v = c.loop-k.invariant in
-    (all_told f.ids.now f.engines.now f.starts.now f.held f.owners.now f.owned l.k l.owners c.loop-k-test.false v.2, v.2.long)
+    all_told f.ids.now f.engines.now f.starts.now f.held f.owners.now f.owned l.k l.owners c.loop-k-test.false v.2

@@ -1,10 +1,7 @@
-use Prim.Native.Nat.{◌-◌, ◌≤◌}
+use Prim.Native.Nat.{◌≤◌}
 use Rattle.bounds.specs.Bounds.{OWNED}
 use Rattle.fgo_place.proofs.Telling.{Telling}
 use Rattle.fgo_place.proofs.own.hold_latest.Given as goal
 
 abbrev pub invariant-loop-k : goal.invariant-loop-k
 invariant-loop-k l = (l.k ≤ l.owned) × (l.owned ≤ OWNED) × Telling l.ids l.engines l.starts l.held l.initial.owners l.k l.owners
-
-abbrev pub decreases-loop-k : goal.decreases-loop-k
-decreases-loop-k l = l.owned - l.k

@@ -1,4 +1,3 @@
-use Prim.Native.Nat.{◌-◌}
 use Rattle.fgo_place.proofs.Compacting.{Compacts}
 use Prim.Native.Nat.{ℕ}
 use mathlib.Core.Bool.{Bool}
@@ -11,7 +10,4 @@ abbrev pub lives : List ℕ → List ℕ → ℕ → ℕ → List ℕ → ℕ �
 lives bodies columns first held tracks frozen o = live_in bodies columns first held tracks frozen o.1
 
 abbrev pub invariant-loop-k : goal.invariant-loop-k
-invariant-loop-k l = Compacts (lives l.bodies l.columns l.first.0 l.held l.tracks l.frozen) l.initial.owners l.owned l.w l.k l.owners
-
-abbrev pub decreases-loop-k : goal.decreases-loop-k
-decreases-loop-k l = l.owned - l.k
+invariant-loop-k l = Compacts (lives l.scans.bodies l.scans.columns l.r.first.0 l.r.held l.parts.tracks l.r.frozen) l.initial.owners l.r.owned l.w l.k l.owners

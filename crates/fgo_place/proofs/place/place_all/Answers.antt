@@ -4,6 +4,7 @@ use native.Mathlib.Omega.{arith}
 use mathlib.Core.Path.{◌≡◌, refl, ap, ◌∙◌, subst}
 use lib.ListN.{take}
 use lib.Seq.{take_all}
+use borrow.Author.Rules.{rules}
 use Rattle.engine.specs.Body.{body, frame_in, associations_in}
 use Rattle.fgo_place.specs.Placing.{placed_all, Placed, begins}
 use Rattle.fgo_state.proofs.Counts.{associations_long, associations_few}
@@ -16,7 +17,7 @@ loop-j-init c = let f = c.args in
     let low : f.next.0 ≤ f.next.0 + 0 = omega arith in (
       omega arith,
       low,
-      (unfold placed_all in record { few = h.1; owners_long = h.3; ids_long = h.4; ids_are = refl; owners_are = refl; next_is = refl }),
+      (unfold placed_all in record { few = h.1; owners_long = search rules; ids_long = search rules; ids_are = refl; owners_are = refl; next_is = refl }),
     )
 
 pub place_one-p-requires : goal.place_one-p-requires
@@ -24,20 +25,8 @@ place_one-p-requires c = let v = c.loop-j.invariant in
     let h = c.requires in
     let few = associations_few (body c.args.kind c.args.s.now) h.0 in
     let taken = c.loop-j-test.true in
-    let count = c.association_count.ensures in
-    (omega arith, v.2.few, omega arith, v.2.owners_long, v.2.ids_long)
-
-pub overflow_add-j : goal.overflow_add-j
-overflow_add-j c = let few = associations_few (body c.args.kind c.args.s.now) c.requires.0 in
-    let taken = c.loop-j-test.true in
-    let count = c.association_count.ensures in
-    record { fits = omega arith }
-
-pub loop-j-smaller : goal.loop-j-smaller
-loop-j-smaller c = let few = associations_few (body c.args.kind c.args.s.now) c.requires.0 in
-    let taken = c.loop-j-test.true in
-    let count = c.association_count.ensures in
-    omega arith
+    let count = c.association_count-j-end.ensures in
+    (omega arith, v.2.few, omega arith)
 
 pub loop-j-preserved : goal.loop-j-preserved
 loop-j-preserved c = let f = c.args in
@@ -45,14 +34,14 @@ loop-j-preserved c = let f = c.args in
     let v = c.loop-j.invariant in
     let few = associations_few (body c.args.kind c.args.s.now) c.requires.0 in
     let taken = c.loop-j-test.true in
-    let count = c.association_count.ensures in
-    let more = c.place_one-p.ensures.0 in
+    let count = c.association_count-j-end.ensures in
+    let more = c.place_one-p.ensures.next in
     let step =
     ap (λ (k : ℕ). placed_all f.next.0 (take k (frame_in (body f.kind f.s.now)).associations) (begins f.owners.now f.owned f.next.0)) (add-one l.j)
     ∙ placed-more f.next.0 (frame_in (body f.kind f.s.now)).associations l.j (begins f.owners.now f.owned f.next.0) (rw (associations_long (body f.kind f.s.now)) (omega arith)) in (
       omega arith,
       omega arith,
-      rw (step, ← c.association-a.ensures.1 c.requires.0) (c.place_one-p.ensures.1 _ v.2),
+      rw (step, ← c.association.ensures.1 c.requires.0) (c.place_one-p.ensures.placed _ v.2),
     )
 
 pub returns : goal.returns
@@ -60,7 +49,7 @@ returns c = let f = c.args in
     let l = c.loop-j in
     let v = c.loop-j.invariant in
     let left = c.loop-j-test.false in
-    let count = c.association_count.ensures in
+    let count = c.association_count-j-end.ensures in
     let same : c.loop-j.j ≡ associations_in (body f.kind f.s.now) = omega arith in
     let all : take (associations_in (body f.kind f.s.now)) (frame_in (body f.kind f.s.now)).associations ≡ (frame_in (body f.kind f.s.now)).associations =
     take_all (associations_in (body f.kind f.s.now)) (frame_in (body f.kind f.s.now)).associations (rw (associations_long (body f.kind f.s.now)) (omega arith)) in

@@ -12,7 +12,7 @@ loop-j-init c = numbers_none _ _ _ _ _ _
 pub put_dot-requires : goal.put_dot-requires
 put_dot-requires c =
     let v = c.loop-j in
-    let e = c.association_count.ensures in
+    let e = c.association_count-j-end.ensures in
     let l = c.loop-j-test.true in
     let i = c.id_at.ensures in
     let h = c.if-id_at-gt0.true in
@@ -22,24 +22,18 @@ put_dot-requires c =
 pub overflow_add-p : goal.overflow_add-p
 overflow_add-p c =
     let v = c.loop-j in
-    let e = c.association_count.ensures in
+    let e = c.association_count-j-end.ensures in
     let l = c.loop-j-test.true in
     let i = c.id_at.ensures in
     let h = c.if-id_at-gt0.true in
     let r = numbers-room _ _ _ _ _ _ c.requires.1 v.invariant (omega arith) (omega arith) in
     omega (arith, v.invariant.numbers.long)
 
-pub overflow_add-j : goal.overflow_add-j
-overflow_add-j c = omega (arith, c.loop-j-test.true)
-
-pub loop-j-smaller : goal.loop-j-smaller
-loop-j-smaller c = omega (arith, c.loop-j-test.true, c.association_count.ensures)
-
 pub loop-j-preserved : goal.loop-j-preserved
 loop-j-preserved c =
     let a = c.args in
     let v = c.loop-j in
-    let e = c.association_count.ensures in
+    let e = c.association_count-j-end.ensures in
     let l = c.loop-j-test.true in
     let few : v.j < associations_in (body a.kind a.s.now) = omega arith in
     let i = c.id_at.ensures in
@@ -48,8 +42,8 @@ loop-j-preserved c =
       | else-id_at-gt0 w ↦ numbers-clutter _ _ _ _ _ _ c.requires.1 v.invariant few i (omega (arith, w.if-id_at-gt0.false)) w.dots-is w.p-is
     ]
 
-pub shape_of-dots : goal.shape_of-dots
-shape_of-dots c = c.loop-j.invariant.numbers.long
-
 pub returns : goal.returns
-returns c = let e = c.association_count.ensures in numbers-all _ _ _ _ _ _ c.requires.1 c.loop-j.invariant (omega (arith, c.loop-j-test.false))
+returns c =
+    let e = c.association_count-j-end.ensures in
+    let both = numbers-all _ _ _ _ _ _ c.requires.1 c.loop-j.invariant (omega (arith, c.loop-j-test.false)) in
+    record { count = both.0; numbers = both.1 }

@@ -1,50 +1,42 @@
+use Prim.Native.Nat.{ℕ, ◌+◌, ◌-◌}
 use native.Mathlib.Omega.{arith}
+use borrow.Author.Rules.{rules}
 use mathlib.Core.Path.{◌≡◌, refl}
+use mathlib.Core.List.{List}
+use lib.ListN.{length, replicate}
+use lib.Seq.{drop-drop}
+use borrow.Rule.Slice.PartMut.{put_mid}
+use Rattle.std.proofs.lemmas.List.{length-replicate}
+use Rattle.bounds.specs.Bounds.{STARTS}
+use Rattle.buffers.specs.Buffers.{over}
 use Rattle.fgo_state.proofs.Columns.{body_read}
 use Rattle.fgo_state.proofs.GatheringHeld.{held_none, held_fits, held_more, held_all}
 use Rattle.fgo_state.proofs.gather.gather.Goals as goal
 
-pub bounds-starts-0 : goal.bounds-starts-0
-bounds-starts-0 c = omega arith
-
 pub loop-k-init : goal.loop-k-init
 loop-k-init c = (omega arith, held_none _ _ _ _ _ c.args.starts.now)
 
-pub overflow_add-n : goal.overflow_add-n
-overflow_add-n c = omega (arith, c.requires.early, c.loop-k-test.true)
-
 pub gather_scan-p-requires : goal.gather_scan-p-requires
 gather_scan-p-requires c =
-    held_fits _ _ _ _ _ c.requires c.loop-k.invariant.1 c.loop-k-test.true c.gather_scan-arg-1.given.0.1 c.gather_scan-arg-in-loop-k-1.given.0.1 (body_read _ _ _ c.kind_of.ensures c.body_in-s.ensures)
-
-pub overflow_add-starts : goal.overflow_add-starts
-overflow_add-starts c = omega (arith, c.requires.few, c.loop-k-test.true)
-
-pub offset_bounds-starts-k : goal.offset_bounds-starts-k
-offset_bounds-starts-k c = omega (arith, c.requires.few, c.loop-k-test.true)
-
-pub bounds-starts-k : goal.bounds-starts-k
-bounds-starts-k c = omega (arith, c.requires.few, c.loop-k-test.true)
-
-pub overflow_add-k : goal.overflow_add-k
-overflow_add-k c = omega (arith, c.requires.few, c.loop-k-test.true)
-
-pub loop-k-smaller : goal.loop-k-smaller
-loop-k-smaller c = omega (arith, c.loop-k-test.true)
+    held_fits _ _ _ _ _ c.requires c.loop-k.invariant.1 c.loop-k-test.true c.gather_scan-arg-1.given.0.1 c.gather_scan-arg-in-loop-k-1.given.0.1 (body_read _ _ _ c.kind_of.ensures c.body_in.ensures)
 
 pub loop-k-preserved : goal.loop-k-preserved
 loop-k-preserved c = (
   omega (arith, c.loop-k-test.true),
-  held_more _ _ _ _ _ c.requires c.loop-k.invariant.1 c.loop-k-test.true c.gather_scan-arg-1.given.0.1 c.gather_scan-arg-in-loop-k-1.given.0.1 (body_read _ _ _ c.kind_of.ensures c.body_in-s.ensures) c.gather_scan-p.ensures refl,
+  held_more _ _ _ _ _ c.requires c.loop-k.invariant.1 c.loop-k-test.true c.gather_scan-arg-1.given.0.1 c.gather_scan-arg-in-loop-k-1.given.0.1 (body_read _ _ _ c.kind_of.ensures c.body_in.ensures) c.gather_scan-p.ensures refl,
 )
 
-pub overflow_add-held : goal.overflow_add-held
-overflow_add-held c = omega (arith, c.requires.few)
-
-pub fill_starts-requires : goal.fill_starts-requires
-fill_starts-requires c = c.fill_starts-arg-1.given.0.1
+-- the starts from place o on, filled with p
+filled : (o n p : ℕ) (ts : List ℕ) {fs : List ℕ} → fs ≡ replicate n p → put_mid o n ts fs ≡ over o (replicate n p) ts
+unfolding over
+filled o n p ts e =
+    rw (e, length-replicate n p, drop-drop n o ts)
 
 pub returns : goal.returns
 returns c =
-    let e : c.loop-k.k ≡ c.args.held = omega (arith, c.loop-k-test.false) in
-    held_all _ _ _ _ _ c.loop-k.invariant.1 e c.fill_starts-arg-1.given.0.1 c.fill_starts.ensures
+    let v = c.loop-k in
+    let e : v.k ≡ c.args.held = omega (arith, c.loop-k-test.false) in
+    let n : ℕ = STARTS - (c.args.held + 1) in
+    let long : length v.starts ≡ STARTS = search rules in
+    let f : c.fill.new.self ≡ replicate n v.p = search rules in
+    held_all _ _ _ _ _ v.invariant.1 e long n (omega (arith, c.requires.few)) (filled (c.args.held + 1) n v.p v.starts f)

@@ -1,9 +1,6 @@
-use Prim.Native.Nat.{◌-◌, ◌≤◌}
+use Prim.Native.Nat.{◌≤◌}
 use Rattle.fgo_state.proofs.GatheringHeld.{GathersHeld}
 use Rattle.fgo_state.proofs.gather.gather.Given as goal
 
 abbrev pub invariant-loop-k : goal.invariant-loop-k
-invariant-loop-k l = (l.k ≤ l.held) × GathersHeld l.bodies l.columns l.first.0 l.k l.p l.initial.ids l.initial.engines l.ids l.engines l.starts
-
-abbrev pub decreases-loop-k : goal.decreases-loop-k
-decreases-loop-k l = l.held - l.k
+invariant-loop-k l = (l.k ≤ l.held) × GathersHeld l.scans.bodies l.scans.columns l.first.0 l.k l.p l.initial.ids l.initial.engines l.ids l.engines l.starts

@@ -1,9 +1,6 @@
-use Prim.Native.Nat.{◌-◌, ◌≤◌}
+use Prim.Native.Nat.{◌≤◌}
 use Rattle.fgo_state.proofs.GatheringHeld.{NumbersHeld}
 use Rattle.fgo_state.proofs.gather.gather_dots.Given as goal
 
 abbrev pub invariant-loop-k : goal.invariant-loop-k
-invariant-loop-k l = (l.k ≤ l.held) × NumbersHeld l.c l.bodies l.columns l.first.0 l.k l.p l.initial.dots l.dots
-
-abbrev pub decreases-loop-k : goal.decreases-loop-k
-decreases-loop-k l = l.held - l.k
+invariant-loop-k l = (l.k ≤ l.held) × NumbersHeld l.c l.scans.bodies l.scans.columns l.first.0 l.k l.p l.initial.dots l.dots

@@ -11,7 +11,7 @@ loop-j-init c = gathers_none _ _ _ _ _ _
 pub offset_bounds-ids-p : goal.offset_bounds-ids-p
 offset_bounds-ids-p c =
     let v = c.loop-j in
-    let e = c.association_count.ensures in
+    let e = c.association_count-j-end.ensures in
     let l = c.loop-j-test.true in
     let i = c.id_at-id.ensures in
     let h = c.if-id-gt0.true in
@@ -21,7 +21,7 @@ offset_bounds-ids-p c =
 pub bounds-ids-p : goal.bounds-ids-p
 bounds-ids-p c =
     let v = c.loop-j in
-    let e = c.association_count.ensures in
+    let e = c.association_count-j-end.ensures in
     let l = c.loop-j-test.true in
     let i = c.id_at-id.ensures in
     let h = c.if-id-gt0.true in
@@ -31,7 +31,7 @@ bounds-ids-p c =
 pub offset_bounds-engines-p : goal.offset_bounds-engines-p
 offset_bounds-engines-p c =
     let v = c.loop-j in
-    let e = c.association_count.ensures in
+    let e = c.association_count-j-end.ensures in
     let l = c.loop-j-test.true in
     let i = c.id_at-id.ensures in
     let h = c.if-id-gt0.true in
@@ -41,7 +41,7 @@ offset_bounds-engines-p c =
 pub bounds-engines-p : goal.bounds-engines-p
 bounds-engines-p c =
     let v = c.loop-j in
-    let e = c.association_count.ensures in
+    let e = c.association_count-j-end.ensures in
     let l = c.loop-j-test.true in
     let i = c.id_at-id.ensures in
     let h = c.if-id-gt0.true in
@@ -51,24 +51,18 @@ bounds-engines-p c =
 pub overflow_add-p : goal.overflow_add-p
 overflow_add-p c =
     let v = c.loop-j in
-    let e = c.association_count.ensures in
+    let e = c.association_count-j-end.ensures in
     let l = c.loop-j-test.true in
     let i = c.id_at-id.ensures in
     let h = c.if-id-gt0.true in
     let r = gathers_room _ _ _ _ _ _ c.requires v.invariant (omega arith) (omega arith) in
     omega (arith, v.invariant.ids.long)
 
-pub overflow_add-j : goal.overflow_add-j
-overflow_add-j c = omega (arith, c.loop-j-test.true)
-
-pub loop-j-smaller : goal.loop-j-smaller
-loop-j-smaller c = omega (arith, c.loop-j-test.true, c.association_count.ensures)
-
 pub loop-j-preserved : goal.loop-j-preserved
 loop-j-preserved c =
     let a = c.args in
     let v = c.loop-j in
-    let e = c.association_count.ensures in
+    let e = c.association_count-j-end.ensures in
     let l = c.loop-j-test.true in
     let few : v.j < associations_in (body a.kind a.s.now) = omega arith in
     let i = c.id_at-id.ensures in
@@ -77,11 +71,5 @@ loop-j-preserved c =
       | else-id-gt0 w ↦ gathers_clutter _ _ _ _ _ _ c.requires v.invariant few i (omega (arith, w.if-id-gt0.false)) w.ids-is w.engines-is w.p-is
     ]
 
-pub shape_of-ids : goal.shape_of-ids
-shape_of-ids c = c.loop-j.invariant.ids.long
-
-pub shape_of-engines : goal.shape_of-engines
-shape_of-engines c = c.loop-j.invariant.engines.long
-
 pub returns : goal.returns
-returns c = let e = c.association_count.ensures in gathers_all _ _ _ _ _ _ c.requires c.loop-j.invariant (omega (arith, c.loop-j-test.false))
+returns c = let e = c.association_count-j-end.ensures in gathers_all _ _ _ _ _ _ c.requires c.loop-j.invariant (omega (arith, c.loop-j-test.false))

@@ -1,10 +1,6 @@
-use Prim.Native.Nat.{◌-◌}
-use Rattle.engine.specs.Body.{body, associations_in}
+use Rattle.engine.specs.Body.{body}
 use Rattle.fgo_state.proofs.GatheringScan.{Gathers}
 use Rattle.fgo_state.proofs.gather.gather_scan.Given as goal
 
 abbrev pub invariant-loop-j : goal.invariant-loop-j
-invariant-loop-j l = Gathers l.columns l.n.0 (body l.kind l.s) l.o l.j l.p l.initial.ids l.initial.engines l.ids l.engines
-
-abbrev pub decreases-loop-j : goal.decreases-loop-j
-decreases-loop-j l = associations_in (body l.kind l.s) - l.j
+invariant-loop-j l = Gathers l.scans.columns l.n.0 (body l.kind l.s) l.o l.j l.p l.initial.ids l.initial.engines l.ids l.engines

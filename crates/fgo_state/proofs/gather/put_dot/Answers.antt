@@ -18,6 +18,6 @@ returns c =
     let f = frame_in b in
     let h = c.requires.0 in
     let o : c.observation-d.result ≡ get_or f.observations (association_in b a.j).index.0 no_observation =
-    c.observation-d.ensures.1 h ∙ ap (λ (x : Association). get_or f.observations x.index.0 no_observation) (c.association-a.ensures.1 h) in
+    c.observation-d.ensures.1 h ∙ ap (λ (x : Association). get_or f.observations x.index.0 no_observation) (c.association.ensures.1 h) in
     let t : c.seconds-t.result ≡ seconds_of f.time = c.seconds-t.ensures ∙ ap seconds_of (to_z-of_z {w = w64} (record { sfits = c.time_of.type_inv }) ∙ c.time_of.ensures.1 h) in
-    c.put_numbers.ensures ∙ rw (o, t, c.position_variance.ensures)
+    c.put.ensures ∙ rw (o, t, c.position_variance.ensures)

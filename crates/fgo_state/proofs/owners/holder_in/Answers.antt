@@ -5,11 +5,15 @@ use mathlib.Core.Path.{◌≡◌, refl, sym, ap, ◌∙◌}
 use mathlib.Core.List.{List, foldr}
 use lib.ListN.{get_or}
 use borrow.Author.Tests.{eq-eqb, ne_eqb}
+use Rattle.std.specs.Ordering.{ord_max, nat_cmp}
 use Rattle.fgo_state.specs.Gathering.{holder_of}
 use Rattle.fgo_spec.proofs.Rows.{rows_step, rows_end}
 use Rattle.fgo_state.proofs.owners.holder_in.Invariants.{holding, greatest}
 use Rattle.fgo_state.proofs.owners.holder_in.Goals as goal
-use Rattle.fgo_state.proofs.owners.holder_in.Goals.{then-engines-i+then-most-ids, then-engines-i+else-most-ids, else-engines-i}
+use Rattle.fgo_state.proofs.owners.holder_in.Goals.{then-engines-i, else-engines-i}
+
+greater : (a b : ℕ) → ord_max nat_cmp a b ≡ max a b
+greater a b = grind arith
 
 max_assoc : (a b c : ℕ) → max (max a b) c ≡ max a (max b c)
 max_assoc a b c = omega arith
@@ -30,30 +34,6 @@ pub loop-i-init : goal.loop-i-init
 unfolding holder_of
 loop-i-init c = omega arith
 
-pub offset_bounds-engines-i : goal.offset_bounds-engines-i
-offset_bounds-engines-i c = omega arith
-
-pub bounds-engines-i : goal.bounds-engines-i
-bounds-engines-i c = omega arith
-
-pub offset_bounds-ids-i : goal.offset_bounds-ids-i
-offset_bounds-ids-i c = omega arith
-
-pub bounds-ids-i : goal.bounds-ids-i
-bounds-ids-i c = omega arith
-
-pub offset_bounds-ids-i-then-most-ids : goal.offset_bounds-ids-i-then-most-ids
-offset_bounds-ids-i-then-most-ids c = omega arith
-
-pub bounds-ids-i-then-most-ids : goal.bounds-ids-i-then-most-ids
-bounds-ids-i-then-most-ids c = omega arith
-
-pub overflow_add-i : goal.overflow_add-i
-overflow_add-i c = omega arith
-
-pub loop-i-smaller : goal.loop-i-smaller
-loop-i-smaller c = omega arith
-
 pub loop-i-preserved : goal.loop-i-preserved
 loop-i-preserved c =
     let f = c.args in
@@ -62,8 +42,7 @@ loop-i-preserved c =
     let no = holds_not f.e.0 f.ids.now f.engines.now v.i in
     turn f.e.0 f.ids.now f.engines.now v.i f.b v.most _ _ c.loop-i-test.true v.invariant
     (elim c.if-engines-i.branch [
-      | then-engines-i+then-most-ids w ↦ omega (arith, yes w.if-engines-i.true, w.if-most-ids.true, w.most-is)
-      | then-engines-i+else-most-ids w ↦ omega (arith, yes w.if-engines-i.true, w.if-most-ids.false, w.most-is)
+      | then-engines-i w ↦ omega (arith, yes w.if-engines-i.true, w.max-most.ensures, greater v.most (get_or f.ids.now v.i 0), w.most-is)
       | else-engines-i w ↦ omega (arith, no w.if-engines-i.false, w.most-is)
     ])
 

@@ -19,6 +19,3 @@ module _ (e : ℕ) (ids engines : List ℕ) where
 
 abbrev pub invariant-loop-i : goal.invariant-loop-i
 invariant-loop-i l = max l.most (greatest l.e.0 l.ids l.engines l.i l.b) ≡ holder_of l.e.0 l.ids l.engines l.a l.b
-
-abbrev pub decreases-loop-i : goal.decreases-loop-i
-decreases-loop-i l = l.b - l.i

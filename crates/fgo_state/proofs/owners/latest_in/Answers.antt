@@ -1,6 +1,6 @@
-use Prim.Native.Nat.{ℕ, zero, suc, ◌-◌, ◌≤◌, ◌<◌}
+use Prim.Native.Nat.{ℕ, zero, suc, ◌+◌, ◌-◌, ◌≤◌, ◌<◌}
 use native.Mathlib.Omega.{arith}
-use mathlib.Core.Path.{◌≡◌, refl, sym, ap, ◌∙◌}
+use mathlib.Core.Path.{◌≡◌, sym, ap, ◌∙◌}
 use mathlib.Core.List.{List}
 use lib.ListN.{get_or}
 use Rattle.fgo_spec.specs.Owning.{or_else}
@@ -25,38 +25,15 @@ module _ (e : ℕ) (ids engines starts : List ℕ) where
     last-next : x ≤ 0 → latest_of e ids engines starts k ≡ latest_of e ids engines starts (k - 1)
     last-next h = step_by ∙ or_none_lem x h _
 
-pub loop-k-init : goal.loop-k-init
-loop-k-init c = (omega arith, refl)
-
-pub overflow_sub-k : goal.overflow_sub-k
-overflow_sub-k c = omega arith
-
-pub offset_bounds-starts-k : goal.offset_bounds-starts-k
-offset_bounds-starts-k c = omega (arith, c.requires.few)
-
-pub bounds-starts-k : goal.bounds-starts-k
-bounds-starts-k c = omega (arith, c.requires.few)
-
-pub offset_bounds-starts-k-in-loop-k : goal.offset_bounds-starts-k-in-loop-k
-offset_bounds-starts-k-in-loop-k c = omega (arith, c.requires.few)
-
-pub bounds-starts-k-in-loop-k : goal.bounds-starts-k-in-loop-k
-bounds-starts-k-in-loop-k c = omega (arith, c.requires.few)
-
-pub holder_in-x-requires : goal.holder_in-x-requires
-holder_in-x-requires c = c.requires.most c.loop-k.k c.loop-k.invariant.0
-
 pub returns-then-x-gt0 : goal.returns-then-x-gt0
-returns-then-x-gt0 c = last-here _ _ _ _ c.loop-k.k _ c.loop-k-test.true c.holder_in-x.ensures c.if-x-gt0.true ∙ c.loop-k.invariant.1
-
-pub overflow_sub-k-in-loop-k : goal.overflow_sub-k-in-loop-k
-overflow_sub-k-in-loop-k c = omega arith
-
-pub loop-k-smaller : goal.loop-k-smaller
-loop-k-smaller c = omega arith
+returns-then-x-gt0 c =
+    let e : c.loop-k.k - 1 + 1 ≡ c.loop-k.k = omega (arith, c.loop-k-test.true) in
+    last-here _ _ _ _ c.loop-k.k _ c.loop-k-test.true (rw e at c.holder_in-x.ensures) c.if-x-gt0.true ∙ c.loop-k.invariant.1
 
 pub loop-k-preserved : goal.loop-k-preserved
-loop-k-preserved c = (omega arith, sym (last-next _ _ _ _ c.loop-k.k _ c.loop-k-test.true c.holder_in-x.ensures c.if-x-gt0.false) ∙ c.loop-k.invariant.1)
+loop-k-preserved c =
+    let e : c.loop-k.k - 1 + 1 ≡ c.loop-k.k = omega (arith, c.loop-k-test.true) in
+    (omega arith, sym (last-next _ _ _ _ c.loop-k.k _ c.loop-k-test.true (rw e at c.holder_in-x.ensures) c.if-x-gt0.false) ∙ c.loop-k.invariant.1)
 
 pub returns : goal.returns
 unfolding latest_of

@@ -5,6 +5,3 @@ use Rattle.fgo_state.proofs.owners.latest_in.Given as goal
 
 abbrev pub invariant-loop-k : goal.invariant-loop-k
 invariant-loop-k l = (l.k ≤ l.held) × (latest_of l.e.0 l.ids l.engines l.starts l.k ≡ latest_of l.e.0 l.ids l.engines l.starts l.held)
-
-abbrev pub decreases-loop-k : goal.decreases-loop-k
-decreases-loop-k l = l.k

@@ -1,5 +1,4 @@
 use Prim.Native.Nat.{ℕ, ◌+◌, ◌-◌, ◌≤◌, ◌<◌}
-use native.Mathlib.Nat.{sub-zero}
 use native.Mathlib.Omega.{arith}
 use mathlib.Core.Path.{◌≡◌, refl, sym, ap, ◌∙◌}
 use mathlib.Core.List.{List}
@@ -21,23 +20,8 @@ module _ (owners : List ℕ) (e owned k : ℕ) where
   unfolding find
   ended h = ap (λ l. or_none (find e l)) (rows_end (owner_entry owners) k owned k h)
 
-pub loop-k-init : goal.loop-k-init
-loop-k-init c = rw (sub-zero c.args.owned)
-
-pub engine_at-requires : goal.engine_at-requires
-engine_at-requires c = omega arith
-
-pub owner_at-requires : goal.owner_at-requires
-owner_at-requires c = omega arith
-
 pub returns-then-engine_at-e : goal.returns-then-engine_at-e
 returns-then-engine_at-e c = c.owner_at.ensures ∙ sym (ap or_none c.loop-k.invariant ∙ found c.args.owners.now _ c.args.owned c.loop-k.k (omega arith) (sym c.if-engine_at-e.true ∙ c.engine_at.ensures))
-
-pub overflow_add-k : goal.overflow_add-k
-overflow_add-k c = omega arith
-
-pub loop-k-smaller : goal.loop-k-smaller
-loop-k-smaller c = omega arith
 
 pub loop-k-preserved : goal.loop-k-preserved
 loop-k-preserved c = c.loop-k.invariant ∙ past c.args.owners.now _ c.args.owned c.loop-k.k (omega arith) (λ z. c.if-engine_at-e.false (c.engine_at.ensures ∙ sym z))

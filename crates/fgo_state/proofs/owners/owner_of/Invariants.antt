@@ -7,6 +7,3 @@ use Rattle.fgo_state.proofs.owners.owner_of.Given as goal
 
 abbrev pub invariant-loop-k : goal.invariant-loop-k
 invariant-loop-k l = find l.e.0 (owners_in l.owners l.owned) ≡ find l.e.0 (rows (owner_entry l.owners) l.k (l.owned - l.k))
-
-abbrev pub decreases-loop-k : goal.decreases-loop-k
-decreases-loop-k l = l.owned - l.k

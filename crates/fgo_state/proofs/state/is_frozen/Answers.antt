@@ -1,26 +1,13 @@
-use native.Mathlib.Nat.{sub-zero}
 use native.Mathlib.Omega.{arith}
 use mathlib.Core.Path.{refl, sym, ◌∙◌}
 use borrow.Author.Tests.{eq-eqb, ne_eqb}
 use Rattle.fgo_spec.proofs.Rows.{any_here, any_next, any-end}
 use Rattle.fgo_state.proofs.state.is_frozen.Goals as goal
 
-pub loop-k-init : goal.loop-k-init
-loop-k-init c = rw (sub-zero c.args.frozen)
-
-pub part_id-requires : goal.part_id-requires
-part_id-requires c = omega arith
-
 pub returns-then-part_id-id : goal.returns-then-part_id-id
 returns-then-part_id-id c =
     let k = c.loop-k.k in
     sym (c.loop-k.invariant ∙ any_here _ _ k c.args.frozen k (omega arith) (eq-eqb _ _ (sym c.if-part_id-id.true ∙ c.part_id.ensures)))
-
-pub overflow_add-k : goal.overflow_add-k
-overflow_add-k c = omega arith
-
-pub loop-k-smaller : goal.loop-k-smaller
-loop-k-smaller c = omega arith
 
 pub loop-k-preserved : goal.loop-k-preserved
 loop-k-preserved c =

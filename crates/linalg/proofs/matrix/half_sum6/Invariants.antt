@@ -1,4 +1,3 @@
-use Prim.Native.Nat.{◌-◌}
 use Rattle.linalg.specs.Matrix as Matrix
 use Rattle.linalg.proofs.Fill.{Filled}
 use mathlib.Core.List.{List}
@@ -12,6 +11,3 @@ cell a t k = f64.mul f64.half (f64.add (Matrix.at f64 a k) (Matrix.at f64 t k))
 
 abbrev pub invariant-loop-n : goal.invariant-loop-n
 invariant-loop-n l = Filled (cell l.a l.t) 36 l.out l.n
-
-abbrev pub decreases-loop-n : goal.decreases-loop-n
-decreases-loop-n l = 36 - l.n

@@ -1,4 +1,3 @@
-use Prim.Native.Nat.{◌-◌}
 use Rattle.scalar.specs.F64.{f64}
 use Rattle.linalg.proofs.Fill.{ByRows}
 use Rattle.linalg.specs.Matrix.{entry}
@@ -13,6 +12,3 @@ cell a b i j = dot f64 (λ k. entry f64 a i k) (λ k. entry f64 b k j)
 
 abbrev pub invariant-loop-i : goal.invariant-loop-i
 invariant-loop-i l = ByRows f64 (cell l.a l.b) (λ i j. entry f64 l.initial.out i j) l.out l.i
-
-abbrev pub decreases-loop-i : goal.decreases-loop-i
-decreases-loop-i l = 6 - l.i

@@ -1,5 +1,4 @@
 use mathlib.Core.Path.{refl, ap, ◌∙◌}
-use Prim.Native.Nat.{◌-◌}
 use Rattle.scalar.specs.F64.{f64}
 use Rattle.linalg.proofs.Fill.{begun, next, done}
 use Rattle.linalg.specs.Grown.{tabulate}

@@ -1,5 +1,4 @@
 use mathlib.Core.Path.{refl}
-use Prim.Native.Nat.{◌-◌}
 use native.Mathlib.Omega.{arith}
 use Rattle.linalg.specs.Grown.{tabulate}
 use Rattle.linalg.specs.Matrix as Matrix

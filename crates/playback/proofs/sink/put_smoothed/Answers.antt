@@ -1,34 +1,23 @@
-use mathlib.Core.Path.{sym, subst}
-use lib.Seq.{length-take-le}
-use Rattle.buffers.specs.declared.Answer.{Answer}
-use Rattle.print.specs.Printed.{Shown}
+use mathlib.Core.Path.{◌≡◌, ap}
+use Rattle.std.proofs.Common.{rules}
 use Rattle.smoother.specs.Promise.{window}
 use Rattle.playback.proofs.Serving.{smooths-refusal, smooths-held, smooths-frame}
 use Rattle.playback.proofs.sink.put_smoothed.Goals as goal
+use Rattle.buffers.specs.Answer.{Held, Frame, answer_in}
 
-pub slice_bounds-smooth_one-end : goal.slice_bounds-smooth_one-end
-slice_bounds-smooth_one-end c =
+pub returns-in-Err : goal.returns-in-Err
+returns-in-Err c =
     let a = c.args in
-    let s = subst (λ (t : Answer). Shown t a.fw.now a.fx.now) c.in-Frame.is c.requires.1 in
-    sym (length-take-le _ _ s.words)
+    smooths-refusal a.state (window a.window.now a.values.now) a.fw.now a.fx.now (ap answer_in c.in-Err.is) c.requires.0 c.put_refused-end.ensures
 
-pub slice_bounds-smooth_one-end-in-Frame : goal.slice_bounds-smooth_one-end-in-Frame
-slice_bounds-smooth_one-end-in-Frame c =
+pub returns-in-Ok-None : goal.returns-in-Ok-None
+returns-in-Ok-None c =
     let a = c.args in
-    let s = subst (λ (t : Answer). Shown t a.fw.now a.fx.now) c.in-Frame.is c.requires.1 in
-    sym (length-take-le _ _ s.numbers)
+    let e : answer_in a.answer ≡ Held = search rules in
+    smooths-held a.state (window a.window.now a.values.now) a.fw.now a.fx.now a.out.now e
 
-pub returns-in-Refused : goal.returns-in-Refused
-returns-in-Refused c =
+pub returns-in-Ok-Some : goal.returns-in-Ok-Some
+returns-in-Ok-Some c =
     let a = c.args in
-    smooths-refusal a.state (window a.window.now a.values.now) a.fw.now a.fx.now c.in-Refused.is c.requires.0 c.put_refused-end.ensures
-
-pub returns-in-Held : goal.returns-in-Held
-returns-in-Held c =
-    let a = c.args in
-    smooths-held a.state (window a.window.now a.values.now) a.fw.now a.fx.now a.out.now c.in-Held.is
-
-pub returns-in-Frame : goal.returns-in-Frame
-returns-in-Frame c =
-    let a = c.args in
-    smooths-frame a.state (window a.window.now a.values.now) a.fw.now a.fx.now c.in-Frame.is c.smooth_one.ensures
+    let e : answer_in a.answer ≡ Frame c.in-Ok-Some.f.words c.in-Ok-Some.f.numbers = search rules in
+    smooths-frame a.state (window a.window.now a.values.now) a.fw.now a.fx.now e c.smooth_one.ensures

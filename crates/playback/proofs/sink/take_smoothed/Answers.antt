@@ -4,7 +4,7 @@ use Rattle.playback.proofs.Serving.{tells}
 use Rattle.playback.proofs.sink.take_smoothed.Goals as goal
 
 pub put_full-end-requires : goal.put_full-end-requires
-put_full-end-requires c = shown (λ f. f) state_in c.take-t.ensures.ends
+put_full-end-requires c = shown (λ f. f) state_in c.take-answer.ensures.ends
 
 pub returns : goal.returns
-returns c = tells c.take-t.ensures c.requires c.put_full-end.ensures
+returns c = tells c.take-answer.ensures c.requires c.put_full-end.ensures

@@ -6,25 +6,25 @@ use Rattle.playback.proofs.steps.take_all.Goals as goal
 pub loop-p-init : goal.loop-p-init
 loop-p-init g c = (carries_none c.requires.in_bounds.2, taking_none _ _)
 
-pub take_one-t-requires : goal.take_one-t-requires
-take_one-t-requires g c = carries_room c.loop-p.invariant.0 c.requires.in_bounds.1
+pub take_one-answer-requires : goal.take_one-answer-requires
+take_one-answer-requires g c = carries_room c.loop-p.invariant.0 c.requires.in_bounds.1
 
 pub print_step-p-requires : goal.print_step-p-requires
 print_step-p-requires g c =
     let h = c.loop-p.invariant.0 in
-    let t = c.take_one-t.ensures.steps in
+    let t = c.take_one-answer.ensures.steps in
     record { in_bounds = (carries_text h c.requires.in_bounds.0, t.shown, t.counted); serves = h.serves }
 
 pub loop-p-smaller : goal.loop-p-smaller
 loop-p-smaller g c =
     let some : 0 < c.loop-p.p.refiner.held = omega (arith, c.loop-p-test.true) in
-    taking-less _ _ c.requires.led c.loop-p.invariant.1 some c.take_one-t.ensures.fewer c.print_step-p.ensures.0
+    taking-less _ _ c.requires.led c.loop-p.invariant.1 some c.take_one-answer.ensures.fewer c.print_step-p.ensures.0
 
 pub loop-p-preserved : goal.loop-p-preserved
 loop-p-preserved g c =
     let some : 0 < c.loop-p.p.refiner.held = omega (arith, c.loop-p-test.true) in
     let h = c.loop-p.invariant in
-    let t = c.take_one-t.ensures in
+    let t = c.take_one-answer.ensures in
     let q = c.print_step-p.ensures in (
       carries_on h.0 c.fw-1.given c.fx-1.given c.window-1.given c.values-1.given c.out-1.given q.1,
       taking-one _ _ c.requires.led h.1 some t.fewer q.0 t.steps.leads,

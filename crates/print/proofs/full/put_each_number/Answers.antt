@@ -1,4 +1,3 @@
-use Prim.Native.Nat.{◌-◌}
 use native.Mathlib.Omega.{arith}
 use Rattle.print.proofs.Putting.{put_none, put_next, put_all}
 use Rattle.print.proofs.full.put_each_number.Goals as goal
@@ -6,14 +5,11 @@ use Rattle.print.proofs.full.put_each_number.Goals as goal
 pub loop-i-init : goal.loop-i-init
 loop-i-init c = put_none
 
-pub loop-i-smaller : goal.loop-i-smaller
-loop-i-smaller c = omega arith
-
 pub loop-i-preserved : goal.loop-i-preserved
-loop-i-preserved c = put_next c.loop-i.invariant c.loop-i-test.true c.put_bits-at.ensures
+loop-i-preserved c = put_next c.loop-i.invariant (omega arith) c.put_bits-at.ensures
 
 pub shape_of-out : goal.shape_of-out
 shape_of-out c = c.loop-i.invariant.long
 
 pub returns : goal.returns
-returns c = put_all c.loop-i.invariant c.loop-i-test.false
+returns c = put_all c.loop-i.invariant (omega arith)

@@ -4,4 +4,4 @@ use Rattle.print.proofs.lines.put_refused.Goals as goal
 
 pub returns : goal.returns
 unfolding refused_line
-returns c = puts_more c.put_text-a.ensures (puts_more c.put_decimal-b.ensures c.put_text.ensures)
+returns c = rw (← c.from.ensures, ← c.from-2.ensures) (puts_more c.put_text-a.ensures (puts_more c.put_decimal-b.ensures c.put_text.ensures))

@@ -10,8 +10,8 @@ pub returns : goal.returns
 unfolding short_form
 returns c =
     let w = c.args.words.now in
-    let t = c.track_count-tracks.ensures in
-    let a = c.association_count-associations.ensures in
+    let t = c.of-counts.ensures.tracks in
+    let a = c.of-counts.ensures.associations in
     let lines : ℕ → ℕ → List ℕ = λ k m. texts (λ j. assoc_line w (HEAD + TRACK * k + LINK * j)) m in
     puts_more c.put_head-a.ensures
     (puts_more (puts_same (ap (texts (track_line w c.args.x.now)) t) c.put_tracks-b.ensures)

@@ -1,10 +1,6 @@
 use Rattle.print.specs.Text.{track_line}
-use Prim.Native.Nat.{◌-◌}
 use Rattle.print.proofs.Putting.{Put}
 use Rattle.print.proofs.short.put_tracks.Given as goal
 
 abbrev pub invariant-loop-i : goal.invariant-loop-i
 invariant-loop-i l = Put (track_line l.words l.x) l.many l.n l.initial.out l.i l.out l.at
-
-abbrev pub decreases-loop-i : goal.decreases-loop-i
-decreases-loop-i l = l.many - l.i

@@ -1,26 +1,16 @@
-use Rattle.std.proofs.Common.{lt_trans, lt_of_le_of_lt, arith, lit<}
-use lib.Count.{leading_le}
+use Rattle.std.proofs.Common.{lt_trans, lit<}
 use Rattle.scalar.proofs.Positive.{shift}
 use Rattle.scalar.proofs.Logarithm.{pattern_lt, pattern_no_nan, brought, above, not_above}
 use Rattle.scalar.proofs.log.ln_digits.Goals as goal
 
-pub overflow_cast-shift : goal.overflow_cast-shift
-overflow_cast-shift c = record { fits = lt_of_le_of_lt (leading_le 64 c.args.q) (lit< tt) }
-
 pub overflow_sub-shift : goal.overflow_sub-shift
 overflow_sub-shift c = (shift c.args.q c.requires.0 c.requires.1).zeros
-
-pub overflow_shl-digits : goal.overflow_shl-digits
-overflow_shl-digits c = omega (arith, (shift c.args.q c.requires.0 c.requires.1).under)
 
 pub overflow_add-m : goal.overflow_add-m
 overflow_add-m c = record { fits = lt_trans (pattern_lt _ _ (shift c.args.q c.requires.0 c.requires.1)) (lit< tt) }
 
 pub float_from_bits-m : goal.float_from_bits-m
 float_from_bits-m c = pattern_no_nan _ _ (shift c.args.q c.requires.0 c.requires.1)
-
-pub overflow_sub-k : goal.overflow_sub-k
-overflow_sub-k c = omega (arith, (shift c.args.q c.requires.0 c.requires.1).under)
 
 pub returns-then-m : goal.returns-then-m
 returns-then-m c = rw (brought c.args.q c.args.y _ c.requires.0 c.requires.1 (shift c.args.q c.requires.0 c.requires.1), above _ _ c.if-m.true) c.ln_near.ensures

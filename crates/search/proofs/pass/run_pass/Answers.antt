@@ -1,19 +1,30 @@
-use Rattle.search.specs.Pass.{scene_of}
+use Rattle.search.specs.Lent.{scene_in}
+use mathlib.Core.Path.{ap, ◌∙◌}
+use lib.ListN.{take}
+use Rattle.search.specs.Pass.{visit}
 use Rattle.search.proofs.IdsAscend.{present_listed}
-use Rattle.search.proofs.Passes.{pass_is}
+use Rattle.search.proofs.Passes.{pass_is, pass_leaves}
 use Rattle.search.proofs.pass.run_pass.Goals as goal
 
-pub move_all-requires : goal.move_all-requires
-move_all-requires c =
-    let s = c.args in
-    let b = c.begin_pass-n.ensures in
-    (c.requires.0, present_listed s.hall.detections s.ids.now c.begin_pass-n.result _ b.0, b.3, b.2)
+pub sweep_pairs-t-requires : goal.sweep_pairs-t-requires
+sweep_pairs-t-requires c =
+    let b = c.begin_pass.ensures in
+    (present_listed c.args.scene.now.detections c.args.ids.now _ _ b.listed, b.due, b.swept)
+
+pub visit_tracks-visited-requires : goal.visit_tracks-visited-requires
+visit_tracks-visited-requires c =
+    let b = c.begin_pass.ensures in
+    (present_listed c.args.scene.now.detections c.args.ids.now _ _ b.listed, b.due, c.sweep_pairs-t.ensures.swept)
 
 pub returns : goal.returns
 returns c =
     let s = c.args in
-    let e = scene_of s.hall s.starts.now s.dots.now s.tracks.now s.filters.now in
-    let b = c.begin_pass-n.ensures in
-    let m = c.move_all.ensures in
-    let w = m.fact s.ids.now b.1 in
-    (pass_is e s.ids.now s.t0 c.begin_pass-n.result _ b.0.is c.begin.ensures w.0, record { left = w.1; rows_long = b.1.long; due_long = b.3.long; kept = m.logs_kept })
+    let e = scene_in s.scene.now in
+    let b = c.begin_pass.ensures in
+    let l = c.begin_pass.new.list in
+    let w = c.sweep_pairs-t.ensures.swept_all s.ids.now b.rows in
+    let v = c.visit_tracks-visited.ensures in
+    record {
+      passed = pass_is e s.ids.now s.t0 l.count _ b.listed.is c.begin.ensures (v.visited ∙ ap (visit e (take l.count l.table)) w.0);
+      left = pass_leaves (present_listed s.scene.now.detections s.ids.now _ _ b.listed) w.1 v.visits v.grows;
+    }

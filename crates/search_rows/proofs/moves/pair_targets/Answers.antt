@@ -7,9 +7,6 @@ returns-then-cut-n c = simp (c.in-Swap.is, le-leb _ _ c.if-cut-n.true)
 pub returns-then-a-keeper : goal.returns-then-a-keeper
 returns-then-a-keeper c = simp (c.in-Merge.is, eq-eqb _ _ c.if-a-keeper.true) (λ i. record { a = record { 0 = c.keeper_target.ensures i }; b = record { 0 = c.other_target.ensures i } })
 
-pub returns-in-Stay : goal.returns-in-Stay
-returns-in-Stay c = rw c.in-Stay.is
-
 pub returns-else-cut-n : goal.returns-else-cut-n
 returns-else-cut-n c = simp (c.in-Swap.is, lt-leb _ _ c.if-cut-n.false)
 

@@ -1,6 +1,5 @@
 use Rattle.search_rows.proofs.Segments.{over_none, over_turn, over_skip}
 use mathlib.Core.Path.{◌≡◌, sym, ◌∙◌}
-use Prim.Native.Nat.{◌-◌}
 use native.Mathlib.Omega.{arith}
 use mathlib.Core.Bool.{false}
 use lib.Dec.{eqb}
@@ -12,30 +11,6 @@ use Rattle.search_rows.proofs.moves.rename_scan.Goals.{then-x-a, else-x-a+then-x
 
 pub loop-i-init : goal.loop-i-init
 loop-i-init c = (omega arith, omega arith, omega arith, omega arith, sym (over_none (retarget c.args.a.0 c.args.b.0 c.args.t) c.args.from c.args.ids.now))
-
-pub offset_bounds-ids-i : goal.offset_bounds-ids-i
-offset_bounds-ids-i c = omega arith
-
-pub bounds-ids-i : goal.bounds-ids-i
-bounds-ids-i c = omega arith
-
-pub offset_bounds-ids-i-then-x-a : goal.offset_bounds-ids-i-then-x-a
-offset_bounds-ids-i-then-x-a c = omega arith
-
-pub bounds-ids-i-then-x-a : goal.bounds-ids-i-then-x-a
-bounds-ids-i-then-x-a c = omega arith
-
-pub offset_bounds-ids-i-then-x-b : goal.offset_bounds-ids-i-then-x-b
-offset_bounds-ids-i-then-x-b c = omega arith
-
-pub bounds-ids-i-then-x-b : goal.bounds-ids-i-then-x-b
-bounds-ids-i-then-x-b c = omega arith
-
-pub overflow_add-i : goal.overflow_add-i
-overflow_add-i c = omega arith
-
-pub loop-i-smaller : goal.loop-i-smaller
-loop-i-smaller c = omega arith
 
 pub loop-i-preserved : goal.loop-i-preserved
 loop-i-preserved c =

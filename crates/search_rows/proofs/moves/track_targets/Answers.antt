@@ -7,9 +7,6 @@ returns-then-cut-n c = simp (c.in-Split.is, le-leb _ _ c.if-cut-n.true)
 pub returns-then-scan-n : goal.returns-then-scan-n
 returns-then-scan-n c = simp (c.in-Drop.is, eq-eqb _ _ c.if-scan-n.true)
 
-pub returns-in-Stay : goal.returns-in-Stay
-returns-in-Stay c = rw c.in-Stay.is
-
 pub returns-else-cut-n : goal.returns-else-cut-n
 returns-else-cut-n c = simp (c.in-Split.is, lt-leb _ _ c.if-cut-n.false)
 

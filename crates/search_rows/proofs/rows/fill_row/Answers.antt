@@ -1,6 +1,6 @@
 use mathlib.Core.Path.{◌≡◌, refl, sym, ap, ◌∙◌}
 use mathlib.Core.List.{List}
-use Prim.Native.Nat.{ℕ, suc, ◌+◌, ◌-◌, ◌<◌}
+use Prim.Native.Nat.{ℕ, suc, ◌+◌, ◌<◌}
 use native.Mathlib.Numerals.{add-one}
 use native.Mathlib.Omega.{arith}
 use lib.ListN.{get_or}
@@ -20,38 +20,14 @@ slot_is starts ids x k v h e =
 pub loop-k-init : goal.loop-k-init
 loop-k-init c = record { within = omega arith; new = row-length c.args.starts.now c.args.ids.now c.args.x.0; old = c.requires.2; is = refl }
 
-pub offset_bounds-starts-k : goal.offset_bounds-starts-k
-offset_bounds-starts-k c = omega arith
-
-pub bounds-starts-k : goal.bounds-starts-k
-bounds-starts-k c = omega arith
-
-pub overflow_add-k : goal.overflow_add-k
-overflow_add-k c = omega arith
-
-pub offset_bounds-starts-k-in-loop-k : goal.offset_bounds-starts-k-in-loop-k
-offset_bounds-starts-k-in-loop-k c = omega arith
-
-pub bounds-starts-k-in-loop-k : goal.bounds-starts-k-in-loop-k
-bounds-starts-k-in-loop-k c = omega arith
-
 pub slot_in-requires : goal.slot_in-requires
 slot_in-requires c =
     let p = c.requires in
     let k = c.loop-k.k in
-    (rw (add-one k) (starts_within p.0 (suc k) (omega arith)), p.1)
-
-pub offset_bounds-row-k : goal.offset_bounds-row-k
-offset_bounds-row-k c = omega arith
+    (rw (add-one k) (p.0.rises k (omega arith)), rw (add-one k) (starts_within p.0 (suc k) (omega arith)), p.1)
 
 pub bounds-row-k : goal.bounds-row-k
 bounds-row-k c = omega (arith, filled_length c.loop-k.invariant)
-
-pub overflow_add-k-in-loop-k : goal.overflow_add-k-in-loop-k
-overflow_add-k-in-loop-k c = omega arith
-
-pub loop-k-smaller : goal.loop-k-smaller
-loop-k-smaller c = omega arith
 
 pub loop-k-preserved : goal.loop-k-preserved
 loop-k-preserved c =

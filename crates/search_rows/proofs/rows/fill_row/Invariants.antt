@@ -1,4 +1,3 @@
-use Prim.Native.Nat.{◌-◌}
 use Rattle.bounds.specs.Bounds.{SCANS}
 use Rattle.search_rows.specs.Rows.{row_of}
 use Rattle.search_rows.proofs.Filled.{Filling}
@@ -6,6 +5,3 @@ use Rattle.search_rows.proofs.rows.fill_row.Given as goal
 
 abbrev pub invariant-loop-k : goal.invariant-loop-k
 invariant-loop-k l = Filling SCANS (row_of l.starts l.ids l.x.0) l.initial.row l.row l.k
-
-abbrev pub decreases-loop-k : goal.decreases-loop-k
-decreases-loop-k l = SCANS - l.k

@@ -1,6 +1,6 @@
 use mathlib.Core.Path.{◌≡◌, refl, ap, ◌∙◌, subst}
 use mathlib.Core.List.{List}
-use Prim.Native.Nat.{ℕ, ◌-◌}
+use Prim.Native.Nat.{ℕ}
 use native.Mathlib.Omega.{arith}
 use lib.ListN.{length, get_or}
 use Rattle.search_rows.specs.Rows.{Tabled}
@@ -9,12 +9,6 @@ use Rattle.search_rows.proofs.rows.fill_rows.Goals as goal
 
 pub loop-i-init : goal.loop-i-init
 loop-i-init c = (omega arith, refl, tabled_start c.args.starts.now c.args.ids.now c.args.table.now c.args.rows.now (omega arith))
-
-pub offset_bounds-table-i : goal.offset_bounds-table-i
-offset_bounds-table-i c = omega arith
-
-pub bounds-table-i : goal.bounds-table-i
-bounds-table-i c = omega arith
 
 pub fill_row-requires : goal.fill_row-requires
 fill_row-requires c = (c.requires.1, c.requires.2, c.loop-i.invariant.1)
@@ -30,12 +24,6 @@ put_entry-requires c =
       λ k h. omega (arith, ap (λ (r : List ℕ). get_or r k 0) e, row_within s.starts.now s.ids.now x c.requires.1 k h),
       o.invariant.2.long,
     )
-
-pub overflow_add-i : goal.overflow_add-i
-overflow_add-i c = omega arith
-
-pub loop-i-smaller : goal.loop-i-smaller
-loop-i-smaller c = omega arith
 
 pub loop-i-preserved : goal.loop-i-preserved
 loop-i-preserved c =

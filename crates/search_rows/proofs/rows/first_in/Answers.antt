@@ -1,56 +1,25 @@
-use mathlib.Core.Path.{◌≡◌}
-use mathlib.Core.List.{List}
-use Prim.Native.Nat.{ℕ, suc, ◌+◌, ◌-◌, ◌≤◌, ◌<◌}
+use Rattle.std.proofs.Common.{◌≡◌, ℕ, ◌+◌, ◌<◌, ◌≤◌, List, [], ◌∷◌, sym, ap, refl, ◌∙◌, rules, tests}
+use Rattle.std.proofs.lemmas.Iterator.{YieldsList-from_slice, IsFirst-from_position, index_from_first}
+use Rattle.std.specs.Option.{unwrap_or}
 use native.Mathlib.Numerals.{add-one}
-use native.Mathlib.Omega.{arith}
-use lib.ListN.{length, get_or, drop, drop_of_length-le}
-use lib.Seq.{drop-cons}
 use borrow.Author.Tests.{lt-ltb, le-ltb}
 use Rattle.search_rows.specs.Rows.{first_in}
 use Rattle.search_rows.proofs.rows.first_in.Goals as goal
 
--- what the entry at k says of the row from k on
-here : (r : List ℕ) (k : ℕ) → k < length r → 0 < get_or r k 0 → first_in (drop k r) ≡ 0
+nothing : first_in [] ≡ 0
 unfolding first_in
-here r k h g = rw (drop-cons r k 0 h, lt-ltb 0 (get_or r k 0) g)
+nothing = refl
 
-past : (r : List ℕ) (k : ℕ) → k < length r → get_or r k 0 ≤ 0 → first_in (drop k r) ≡ suc (first_in (drop (k + 1) r))
+here : (x : ℕ) (r : List ℕ) → 0 < x → first_in (x ∷ r) ≡ 0
 unfolding first_in
-past r k h g = rw (drop-cons r k 0 h, le-ltb 0 (get_or r k 0) g, add-one k)
+here x r h = rw (lt-ltb 0 x h)
 
-ends : (r : List ℕ) (k : ℕ) → length r ≤ k → first_in (drop k r) ≡ 0
+past : (x : ℕ) (r : List ℕ) → x ≤ 0 → first_in (x ∷ r) ≡ first_in r + 1
 unfolding first_in
-ends r k h = rw (drop_of_length-le r {i = k} h)
-
-pub loop-k-init : goal.loop-k-init
-loop-k-init c = (omega arith, omega arith, omega arith)
-
-pub offset_bounds-row-k : goal.offset_bounds-row-k
-offset_bounds-row-k c = omega arith
-
-pub bounds-row-k : goal.bounds-row-k
-bounds-row-k c = omega arith
-
-pub returns-then-row-k-gt0 : goal.returns-then-row-k-gt0
-returns-then-row-k-gt0 c = let r = c.args.row.now in
-    let o = c.loop-k in
-    let e = here r o.k (omega arith) c.if-row-k-gt0.true in
-    omega (arith, o.invariant.2)
-
-pub overflow_add-k : goal.overflow_add-k
-overflow_add-k c = omega arith
-
-pub loop-k-smaller : goal.loop-k-smaller
-loop-k-smaller c = omega arith
-
-pub loop-k-preserved : goal.loop-k-preserved
-loop-k-preserved c = let r = c.args.row.now in
-    let o = c.loop-k in
-    let e = past r o.k (omega arith) c.if-row-k-gt0.false in
-    (omega arith, omega arith, omega (arith, o.invariant.2))
+past x r h = rw (le-ltb 0 x h, add-one)
 
 pub returns : goal.returns
-returns c = let r = c.args.row.now in
-    let o = c.loop-k in
-    let e = ends r o.k (omega arith) in
-    omega (arith, o.invariant.2)
+returns c =
+    let r = c.args.row.now in
+    let first = IsFirst-from_position _ _ _ (λ x. 0 < x) (λ x. x ≤ 0) c.position.ensures.ran (YieldsList-from_slice r cc) (λ x q k. search (rules, tests)) (λ x q k. search (rules, tests)) in
+    c.unwrap_or.ensures ∙ ap (unwrap_or c.position.result) (sym c.requires) ∙ sym (index_from_first first_in (λ x. 0 < x) (λ x. x ≤ 0) nothing here past r c.position.result first)

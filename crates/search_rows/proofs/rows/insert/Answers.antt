@@ -32,4 +32,4 @@ returns c = let s = c.args in
       | then-p-n+else-l-p w ↦ (λ h e. w.if-l-p.false e)
       | else-p-n w ↦ (λ h e. absurd (omega (arith, w.if-p-n.false)))
     ])
-    m.l_len m.l_unchanged m.l_after
+    m.long m.before_stays m.moved_up

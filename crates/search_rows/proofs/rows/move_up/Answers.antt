@@ -1,40 +1,26 @@
-use mathlib.Core.Path.{◌≡◌}
-use native.Mathlib.Numerals.{add-one}
+use mathlib.Core.Path.{◌≡◌, ap, ◌∙◌}
+use mathlib.Core.List.{◌++◌, append_assoc}
+use Prim.Native.Nat.{ℕ, ◌+◌, ◌-◌}
 use native.Mathlib.Omega.{arith}
-use Rattle.search_rows.proofs.Ascending.{Opening, opening-start, opening-step}
+use lib.ListN.{length, take, drop}
+use lib.Seq.{length-take-le, take-append-le, take-take}
+use Rattle.fgo_spec.specs.Lists.{segment}
+use Rattle.search_rows.proofs.Segments.{length-segment, splice_at}
 use Rattle.search_rows.proofs.rows.move_up.Goals as goal
 
-pub loop-j-init : goal.loop-j-init
-loop-j-init c = (omega arith, opening-start c.args.n c.args.l.now (omega arith) (omega arith))
-
-pub overflow_sub-y : goal.overflow_sub-y
-overflow_sub-y c = omega arith
-
-pub offset_bounds-l-j : goal.offset_bounds-l-j
-offset_bounds-l-j c = omega arith
-
-pub bounds-l-j : goal.bounds-l-j
-bounds-l-j c = omega arith
-
-pub offset_bounds-l-j-in-loop-j : goal.offset_bounds-l-j-in-loop-j
-offset_bounds-l-j-in-loop-j c = omega arith
-
-pub bounds-l-j-in-loop-j : goal.bounds-l-j-in-loop-j
-bounds-l-j-in-loop-j c = omega arith
-
-pub overflow_sub-j : goal.overflow_sub-j
-overflow_sub-j c = omega arith
-
-pub loop-j-smaller : goal.loop-j-smaller
-loop-j-smaller c = omega arith
-
-pub loop-j-preserved : goal.loop-j-preserved
-loop-j-preserved c = let o = c.loop-j in
-    (omega arith, opening-step c.args.n c.args.l.now o.l o.j (omega arith) o.invariant.1)
-
 pub returns : goal.returns
-returns c = let o = c.loop-j in
+returns c =
     let s = c.args in
-    let e : o.j ≡ s.p = omega arith in
-    let w : Opening s.n s.l.now o.l s.p = rw e at o.invariant.1 in
-    record { l_len = w.size; l_unchanged = w.low; l_after = rw (add-one s.p, add-one s.n) w.high }
+    let p = s.p in
+    let n = s.n in
+    let l = s.l.now in
+    let e = segment p n l in
+    let b : p + 1 + (n - p) ≡ n + 1 = omega arith in
+    let is : c.copy_within.new.self ≡ take (p + 1) l ++ (e ++ drop (n + 1) l) =
+    c.copy_within.ensures.after ∙ append_assoc (take (p + 1) l) e (drop (p + 1 + (n - p)) l) ∙ ap (λ (k : ℕ). take (p + 1) l ++ (e ++ drop k l)) b in
+    let long : length e ≡ n + 1 - (p + 1) = length-segment p n l (omega arith) ∙ omega arith in
+    record {
+      long = c.copy_within.ensures.len ∙ c.requires.2;
+      before_stays = ap (take p) is ∙ take-append-le p (take (p + 1) l) (e ++ drop (n + 1) l) (omega (arith, length-take-le (p + 1) l (omega arith))) ∙ take-take p (p + 1) l (omega arith);
+      moved_up = ap (segment (p + 1) (n + 1)) is ∙ splice_at (p + 1) (n + 1) e l (omega arith) (omega arith) long;
+    }

@@ -1,6 +1,6 @@
 use mathlib.Core.Path.{◌≡◌, refl, sym, ap, ◌∙◌}
 use mathlib.Core.List.{List, ◌++◌, append_assoc}
-use Prim.Native.Nat.{ℕ, ◌+◌, ◌-◌, ◌*◌, ◌<◌}
+use Prim.Native.Nat.{ℕ, ◌+◌, ◌*◌, ◌<◌}
 use native.Mathlib.Numerals.{add-one}
 use native.Mathlib.Omega.{arith}
 use lib.ListN.{length, get_or, take, drop, set}
@@ -17,32 +17,11 @@ paste_turn : {A : Type 0} (d : List A) (at : ℕ) (s : List A) (j : ℕ) (z : A)
 paste_turn d at s j z r i v h g e k q =
     (λ m. set (e m) (k m) (q m)) ∙ paste-suc d at s j z h g ∙ ap (paste d at s) (sym (add-one j))
 
-pub overflow_mul-at : goal.overflow_mul-at
-overflow_mul-at c = omega arith
-
 pub loop-k-init : goal.loop-k-init
 loop-k-init c = (omega arith, omega arith, omega arith, omega arith, paste-zero c.args.rows.now (ROW * c.args.i) (entry_of c.args.row.now))
 
-pub offset_bounds-row-k : goal.offset_bounds-row-k
-offset_bounds-row-k c = omega arith
-
-pub bounds-row-k : goal.bounds-row-k
-bounds-row-k c = omega arith
-
 pub overflow_cast-rows : goal.overflow_cast-rows
 overflow_cast-rows c = omega (arith, c.requires.2 c.loop-k.k c.loop-k-test.true)
-
-pub overflow_add-rows : goal.overflow_add-rows
-overflow_add-rows c = omega arith
-
-pub bounds-rows-at : goal.bounds-rows-at
-bounds-rows-at c = omega arith
-
-pub overflow_add-k : goal.overflow_add-k
-overflow_add-k c = omega arith
-
-pub loop-k-smaller : goal.loop-k-smaller
-loop-k-smaller c = omega arith
 
 pub loop-k-preserved : goal.loop-k-preserved
 loop-k-preserved c = let s = c.args in
@@ -57,32 +36,11 @@ loop-k-preserved c = let s = c.args in
       paste_turn s.rows.now at (entry_of r) o.k 0 o.rows (at + o.k) (get_or r o.k 0) (omega arith) (omega (arith, entry_length r z)) o.invariant.4 refl (sym (entry-at r z o.k (omega arith))),
     )
 
-pub first_in-requires : goal.first_in-requires
-first_in-requires c = omega arith
-
 pub overflow_cast-rows-2 : goal.overflow_cast-rows-2
 overflow_cast-rows-2 c = omega (arith, c.first_in.ensures, first-within c.args.row.now)
 
-pub overflow_add-rows-2 : goal.overflow_add-rows-2
-overflow_add-rows-2 c = omega arith
-
-pub bounds-rows-at-2 : goal.bounds-rows-at-2
-bounds-rows-at-2 c = omega arith
-
-pub end_of-requires : goal.end_of-requires
-end_of-requires c = omega arith
-
 pub overflow_cast-rows-3 : goal.overflow_cast-rows-3
 overflow_cast-rows-3 c = omega (arith, c.end_of.ensures, end_by c.args.row.now)
-
-pub overflow_add-rows-3 : goal.overflow_add-rows-3
-overflow_add-rows-3 c = omega arith
-
-pub overflow_add-rows-4 : goal.overflow_add-rows-4
-overflow_add-rows-4 c = omega arith
-
-pub bounds-rows-at-3 : goal.bounds-rows-at-3
-bounds-rows-at-3 c = omega arith
 
 pub returns : goal.returns
 returns c = let s = c.args in

@@ -1,5 +1,5 @@
 use mathlib.Core.Path.{◌≡◌}
-use Prim.Native.Nat.{◌+◌, ◌-◌, ◌≤◌}
+use Prim.Native.Nat.{◌+◌, ◌≤◌}
 use lib.ListN.{length}
 use lib.Seq.{paste}
 use Rattle.bounds.specs.Bounds.{SCANS, ROW, ROWS}
@@ -8,6 +8,3 @@ use Rattle.search_rows.proofs.rows.put_entry.Given as goal
 
 abbrev pub invariant-loop-k : goal.invariant-loop-k
 invariant-loop-k l = (l.k ≤ SCANS) × (l.at + ROW ≤ ROWS) × (length l.row ≡ SCANS) × (length l.initial.rows ≡ ROWS) × (l.rows ≡ paste l.initial.rows l.at (entry_of l.row) l.k)
-
-abbrev pub decreases-loop-k : goal.decreases-loop-k
-decreases-loop-k l = SCANS - l.k

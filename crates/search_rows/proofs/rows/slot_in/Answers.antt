@@ -1,57 +1,36 @@
-use mathlib.Core.Path.{◌≡◌, refl, sym, ◌∙◌}
-use mathlib.Core.List.{List}
-use Prim.Native.Nat.{ℕ, suc, ◌+◌, ◌-◌, ◌≤◌, ◌<◌}
-use native.Mathlib.Numerals.{add-one}
-use native.Mathlib.Omega.{arith}
-use lib.ListN.{length, get_or}
+use Rattle.std.proofs.Common.{◌≡◌, ℕ, zero, suc, ◌+◌, ◌<◌, ◌≤◌, List, [], ◌∷◌, length, get_or, refl, ◌∙◌, arith, rules, tests}
+use Rattle.std.proofs.lemmas.Iterator.{YieldsList-from_slice, IsFirst-from_position}
+use Rattle.std.proofs.lemmas.Option.{MatchOption-at_none}
+use Rattle.std.proofs.option.Match.{if_some}
 use borrow.Author.Tests.{eq-eqb, ne_eqb}
 use Rattle.fgo_spec.specs.Lists.{segment}
 use Rattle.search_rows.specs.Rows.{slot_in}
-use Rattle.search_rows.proofs.Segments.{segment_none, segment-cons}
 use Rattle.search_rows.proofs.rows.slot_in.Goals as goal
 
--- what the entry at i says of the part from i on
-here : (x i b : ℕ) (l : List ℕ) → i < b → b ≤ length l → x ≡ get_or l i 0 → slot_in x i (segment i b l) ≡ suc i
+-- the first place of x is i
+stands : (x a i : ℕ) (l : List ℕ) → i < length l → x ≡ get_or l i 0 → ((k : ℕ) → k < i → x ≡ get_or l k 0 → ⊥) → a + i + 1 ≡ slot_in x a l
 unfolding slot_in
-here x i b l h g e = rw (segment-cons i b l 0 h g, eq-eqb x (get_or l i 0) e)
+stands x a i [] h e n = absurd (omega arith)
+stands x a zero (y ∷ l) h e n = rw (eq-eqb x y e) (omega arith)
+stands x a (suc i) (y ∷ l) h e n = rw (ne_eqb x y (n 0 (omega arith))) (let q : a + suc i + 1 ≡ suc a + i + 1 = omega arith in q ∙ stands x (suc a) i l (omega arith) e (λ k g. n (suc k) (omega arith)))
 
-past : (x i b : ℕ) (l : List ℕ) → i < b → b ≤ length l → (x ≡ get_or l i 0 → ⊥) → slot_in x i (segment i b l) ≡ slot_in x (i + 1) (segment (i + 1) b l)
+-- x has no place
+lacks : (x a : ℕ) (l : List ℕ) → ((k : ℕ) → k < length l → x ≡ get_or l k 0 → ⊥) → 0 ≡ slot_in x a l
 unfolding slot_in
-past x i b l h g e = rw (segment-cons i b l 0 h g, ne_eqb x (get_or l i 0) e, add-one i)
+lacks x a [] n = refl
+lacks x a (y ∷ l) n = rw (ne_eqb x y (n 0 (omega arith))) (lacks x (suc a) l (λ k g. n (suc k) (omega arith)))
 
-ends : (x i b : ℕ) (l : List ℕ) → b ≤ i → slot_in x i (segment i b l) ≡ 0
-unfolding slot_in
-ends x i b l h = rw (segment_none i b l h)
+pub returns-in-Some : goal.returns-in-Some
+returns-in-Some c =
+    let s = c.args in
+    let x = s.x.0 in
+    let first = if_some _ _ _ c.in-Some.is (IsFirst-from_position _ _ _ (λ y. x ≡ y) (λ y. x ≡ y → ⊥) c.position.ensures.ran (YieldsList-from_slice _ c.iter.ensures.rest) (λ y q k. search (rules, tests)) (λ y q k. search (rules, tests))) in
+    stands x s.a c.in-Some.i (segment s.a s.b s.ids.now) first.0 (first.1 0) (λ k h. first.2 k 0 (omega arith) h)
 
-pub loop-i-init : goal.loop-i-init
-loop-i-init c = (omega arith, omega arith, refl)
-
-pub offset_bounds-ids-i : goal.offset_bounds-ids-i
-offset_bounds-ids-i c = omega arith
-
-pub bounds-ids-i : goal.bounds-ids-i
-bounds-ids-i c = omega arith
-
-pub overflow_add-result : goal.overflow_add-result
-overflow_add-result c = omega arith
-
-pub returns-then-x-ids : goal.returns-then-x-ids
-returns-then-x-ids c = let s = c.args in
-    let o = c.loop-i in
-    add-one o.i ∙ sym (here s.x.0 o.i s.b s.ids.now (omega arith) (omega arith) c.if-x-ids.true) ∙ sym o.invariant.2
-
-pub overflow_add-i : goal.overflow_add-i
-overflow_add-i c = omega arith
-
-pub loop-i-smaller : goal.loop-i-smaller
-loop-i-smaller c = omega arith
-
-pub loop-i-preserved : goal.loop-i-preserved
-loop-i-preserved c = let s = c.args in
-    let o = c.loop-i in
-    (omega arith, omega arith, o.invariant.2 ∙ past s.x.0 o.i s.b s.ids.now (omega arith) (omega arith) c.if-x-ids.false)
-
-pub returns : goal.returns
-returns c = let s = c.args in
-    let o = c.loop-i in
-    sym (ends s.x.0 o.i s.b s.ids.now c.loop-i-test.false) ∙ sym o.invariant.2
+pub returns-in-None : goal.returns-in-None
+returns-in-None c =
+    let s = c.args in
+    let x = s.x.0 in
+    let none : (k d : ℕ) → 0 ≤ k → k < length (segment s.a s.b s.ids.now) → x ≡ get_or (segment s.a s.b s.ids.now) k d → ⊥ =
+    MatchOption-at_none _ _ c.in-None.is (IsFirst-from_position _ _ _ (λ y. x ≡ y) (λ y. x ≡ y → ⊥) c.position.ensures.ran (YieldsList-from_slice _ c.iter.ensures.rest) (λ y q k. search (rules, tests)) (λ y q k. search (rules, tests))) in
+    lacks x s.a (segment s.a s.b s.ids.now) (λ k h. none k 0 (omega arith) h)

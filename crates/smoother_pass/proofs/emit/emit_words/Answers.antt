@@ -1,13 +1,13 @@
-use mathlib.Core.Path.{ap, ◌∙◌}
-use native.Mathlib.Omega.{arith}
-use lib.ListN.{length}
+use Rattle.std.proofs.Common.{◌∙◌}
 use Rattle.buffers.specs.Buffers.{over}
 use Rattle.smoother_frame.specs.Frame.{smoothed_as}
+use Rattle.smoother_pass.specs.Pass.{smoothed_flag}
 use Rattle.smoother_pass.proofs.Writing.{flagged}
 use Rattle.smoother_pass.proofs.emit.emit_words.Goals as goal
 
-pub returns : goal.returns
-returns c =
+pub returns-clause-written : goal.returns-clause-written
+returns-clause-written c =
+    let g = c.args in
     let f = c.smoothed_flag in
-    let o = c.args.words.now in
-    (ap length c.frame_words-w.ensures.0, c.put_smoothed.ensures ∙ (λ i. smoothed_as (c.put_words.ensures i) f.result) ∙ flagged c.frame_words-w.result.now o f.result (omega (arith, c.frame_words-w.ensures.1)) ∙ (λ i. over 0 (smoothed_as (c.frame_words-w.ensures.0 i) (f.ensures i)) o), omega (arith, c.frame_words-w.ensures.1))
+    let w = c.words.ensures.value in
+    c.put_smoothed.ensures ∙ (λ i. smoothed_as ((c.put.ensures ∙ (λ j. over 0 (w j) g.words.now)) i) (f.ensures i)) ∙ flagged g.frame.now.words g.words.now (smoothed_flag g.c) c.words.ensures.counted.long

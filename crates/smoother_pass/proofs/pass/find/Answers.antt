@@ -21,14 +21,14 @@ ended : (id : ℕ) (w : List ℕ) (k : ℕ) → k ≤ 0 → last_at id w k ≡ n
 unfolding last_at
 ended id w k h = let n : k ≡ 0 = omega arith in rw n
 
-pub loop-k-init : goal.loop-k-init
-loop-k-init c = (omega arith, ap (last_at c.args.id.0 c.args.w.now) c.track_count-k.ensures)
+pub loop-i-init : goal.loop-i-init
+loop-i-init c = ap (last_at c.args.id.0 c.args.frame.now.words) c.counts-i.ensures.tracks
 
-pub returns-then-x-id : goal.returns-then-x-id
-returns-then-x-id c = sym (step _ _ c.loop-k.k (omega arith) true (eq-eqb _ _ (sym c.track_id-x.ensures ∙ c.if-x-id.true))) ∙ c.loop-k.invariant.1
+pub returns-then-track_id-id : goal.returns-then-track_id-id
+returns-then-track_id-id c = sym (step _ _ c.loop-i.i c.loop-i-test.true true (eq-eqb _ _ (sym c.track_id.ensures ∙ c.if-track_id-id.true))) ∙ c.loop-i.invariant
 
-pub loop-k-preserved : goal.loop-k-preserved
-loop-k-preserved c = (omega arith, sym (step _ _ c.loop-k.k (omega arith) false (ne_eqb _ _ (λ e. c.if-x-id.false (c.track_id-x.ensures ∙ e)))) ∙ c.loop-k.invariant.1)
+pub loop-i-preserved : goal.loop-i-preserved
+loop-i-preserved c = sym (step _ _ c.loop-i.i c.loop-i-test.true false (ne_eqb _ _ (λ e. c.if-track_id-id.false (c.track_id.ensures ∙ e)))) ∙ c.loop-i.invariant
 
 pub returns : goal.returns
-returns c = sym (ended _ _ c.loop-k.k c.loop-k-test.false) ∙ c.loop-k.invariant.1
+returns c = sym (ended _ _ c.loop-i.i c.loop-i-test.false) ∙ c.loop-i.invariant

@@ -1,11 +1,7 @@
-use Prim.Native.Nat.{◌≤◌}
-use mathlib.Core.Path.{◌≡◌}
+use Rattle.std.proofs.Common.{◌≡◌}
 use Rattle.smoother_frame.specs.Frame.{track_count}
 use Rattle.smoother_pass.specs.Pass.{last_at}
 use Rattle.smoother_pass.proofs.pass.find.Given as goal
 
-abbrev pub invariant-loop-k : goal.invariant-loop-k
-invariant-loop-k l = (l.k ≤ track_count l.w) × (last_at l.id.0 l.w l.k ≡ last_at l.id.0 l.w (track_count l.w))
-
-abbrev pub decreases-loop-k : goal.decreases-loop-k
-decreases-loop-k l = l.k
+abbrev pub invariant-loop-i : goal.invariant-loop-i
+invariant-loop-i l = last_at l.id.0 l.frame.words l.i ≡ last_at l.id.0 l.frame.words (track_count l.frame.words)

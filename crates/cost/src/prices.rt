@@ -1,0 +1,15 @@
+// What prices windows.
+ghost use Rattle.std.specs.Prelude.{◌^◌, ◌<◌};
+
+use bounds::DOTS;
+use engine::config::FgoConfig;
+use engine::types::ScanIndex;
+
+// The settings, the number of the oldest scan held, which is far from where a word ends, and the dots.
+#[derive(Drop)]
+pub struct Prices<'a> {
+    pub config: FgoConfig,
+    pub first: ScanIndex,
+    pub dots: &'a [f64; DOTS],
+    pub ghost early: { first.0 < 2 ^ 33 },
+}

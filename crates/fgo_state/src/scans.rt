@@ -1,0 +1,184 @@
+// The held scans in lent memory: the bodies, and beside each body a column of its length and the refined ids of its associations.
+ghost use Rattle.std.specs.Prelude.{◌≡◌, ◌+◌, ◌-◌, ◌*◌, ◌<◌, ◌≤◌, length};
+ghost use Rattle.bounds.specs.Bounds.{SCANS, ACCEPTED, ASSOCIATIONS, BODY, COLUMN};
+ghost use Rattle.engine.specs.Body.{associations_in, rows};
+ghost use Rattle.buffers.specs.Buffers.{over};
+ghost use Rattle.fgo_spec.specs.Lists.{has};
+ghost use Rattle.fgo_spec.specs.Rule.{Bytes};
+ghost use Rattle.fgo_spec.specs.Windows.{window_count};
+ghost use Rattle.fgo_state.specs.Memory.{no_scans, Typed, slot_at, head_at, head_for, length_in, kind_in, bytes_at, body_at, id_at, scans_in, in_window, column_words};
+ghost use Rattle.fgo_state.specs.Gathering.{count_in};
+
+use bounds::{ASSOCIATIONS, BODIES, BODY, COLUMN, COLUMNS, SCANS};
+use buffers::put;
+use engine::body;
+use engine::types::{BodyKind, RefinedId, ScanIndex};
+
+// As it is: arrays of bytes and words, which are the published format of the lent memory.
+#[derive(Drop)]
+pub struct Scans {
+    pub bodies: [u8; BODIES],
+    pub columns: [u64; COLUMNS],
+}
+
+pub fn slot_of(n: ScanIndex) -> usize
+    ensures { (result ≡ slot_at n.0) × (result < SCANS) }
+{
+    (n.0 % SCANS as u64) as usize
+}
+
+// The head for a body of a kind and a length: there is one kind, and no mark of it.
+fn head_for(kind: BodyKind, length: usize) -> u64
+    ensures { result ≡ head_for kind length }
+{
+    match kind {
+        BodyKind::Narrow => length as u64,
+    }
+}
+
+// The length that a head says; 0 where it says more than a body can have.
+fn length_in(head: u64) -> usize
+    ensures { (result ≡ length_in head) × (result ≤ BODY) }
+{
+    if head <= BODY as u64 {
+        head as usize
+    } else {
+        0
+    }
+}
+
+// A slice of bytes is one of bytes.
+fn are_bytes(l: &[u8]) -> usize
+    ensures { Bytes l.now }
+{
+    l.len()
+}
+
+impl Scans {
+    // Memory that was never used.
+    pub fn new() -> Scans
+        ensures { result ≡ no_scans }
+    {
+        Scans {
+            bodies: [0; BODIES],
+            columns: [0; COLUMNS],
+        }
+    }
+
+    // What the types of the arrays say of them: a call of it tells the check so, where the scans are part of what is lent.
+    pub fn typed(&self)
+        ensures { Typed self.now }
+    {
+        are_bytes(&self.bodies);
+        let _columns = &self.columns[..];
+    }
+
+    // ---- a held scan
+
+    // The head of its column, which says the length and the kind of its body.
+    fn head_at(&self, n: ScanIndex) -> u64
+        ensures { result ≡ head_at self.now.columns n.0 }
+    {
+        self.columns[COLUMN * slot_of(n)]
+    }
+
+    // The kind of its body.
+    pub fn kind_of(&self, n: ScanIndex) -> BodyKind
+        ensures { result ≡ kind_in (head_at self.now.columns n.0) }
+    {
+        BodyKind::Narrow
+    }
+
+    // The bytes of its body.
+    pub fn body_in(&self, n: ScanIndex) -> &[u8]
+        ensures { result.now ≡ bytes_at self.now.bodies self.now.columns n.0 }
+    {
+        let a = BODY * slot_of(n);
+        let e = a + length_in(self.head_at(n));
+        &self.bodies[a..e]
+    }
+
+    // The refined id of its association j; 0 past the last that there is room for.
+    pub fn id_at(&self, n: ScanIndex, j: usize) -> RefinedId
+        ensures { result.0 ≡ id_at self.now.columns n.0 j }
+    {
+        if j < ASSOCIATIONS {
+            return RefinedId(self.columns[COLUMN * slot_of(n) + (1 + j)]);
+        }
+        RefinedId(0)
+    }
+
+    // How many associations it has.
+    pub fn count_of(&self, n: ScanIndex) -> usize
+        ensures { result ≡ associations_in (body_at self.now.bodies self.now.columns n.0) }
+    {
+        body::association_count(self.kind_of(n), self.body_in(n))
+    }
+
+    // Whether a refined id stands in its column, from association i to before association e.
+    // As it is: a loop and no `contains`, since the ids of a column lie apart, a stride from each other.
+    pub fn stands_in(&self, n: ScanIndex, i: usize, e: usize, id: RefinedId) -> bool
+        ensures { result ≡ has id.0 (rows (id_at self.now.columns n.0) i (e - i)) }
+    {
+        for j in i..e {
+            if self.id_at(n, j).0 == id.0 {
+                return true;
+            }
+        }
+        false
+    }
+
+    // How many of its first m associations lie in windows.
+    fn count_in(&self, n: ScanIndex, m: usize) -> usize
+        ensures { (result ≡ count_in self.now.columns n.0 m) × (result ≤ m) }
+    {
+        let mut w: usize = 0;
+        for j in 0..m {
+            if 0 < self.id_at(n, j).0 {
+                w += 1;
+            }
+        }
+        w
+    }
+
+    // A scan held in its slot: its body, and the ids of its associations.
+    pub fn put(&mut self, n: ScanIndex, kind: BodyKind, s: &[u8], ids: &[u64])
+        requires { (length s.now ≤ BODY) × (length ids.now ≤ ASSOCIATIONS) }
+        ensures bodies { self.new.bodies ≡ over (BODY * slot_at n.0) s.now self.old.bodies }
+        ensures columns { self.new.columns ≡ over (COLUMN * slot_at n.0) (column_words kind (length s.now) ids.now) self.old.columns }
+    {
+        put(&mut self.bodies, BODY * slot_of(n), s);
+        let o = COLUMN * slot_of(n);
+        put(&mut self.columns, o, &[head_for(kind, s.len())]);
+        put(&mut self.columns, o + 1, ids);
+    }
+
+    // ---- all that are held, from the number `first` on; the numbers must be those of accepted scans
+
+    // Whether a refined id stands in the column of a held scan.
+    pub fn windows_in(&self, first: ScanIndex, held: usize, id: RefinedId) -> bool
+        requires { first.0 + held ≤ ACCEPTED + 1 }
+        ensures { result ≡ in_window id.0 (scans_in self.now.bodies self.now.columns first.0 held) }
+    {
+        for i in 0..held {
+            let n = ScanIndex(first.0 + i as u64);
+            if self.stands_in(n, 0, self.count_of(n), id) {
+                return true;
+            }
+        }
+        false
+    }
+
+    // Detections in windows, of SCANS held scans at most.
+    pub fn window_count(&self, first: ScanIndex, held: usize) -> usize
+        requires { (held ≤ SCANS) × (first.0 + held ≤ ACCEPTED + 1) }
+        ensures { result ≡ window_count (scans_in self.now.bodies self.now.columns first.0 held) }
+    {
+        let mut w: usize = 0;
+        for i in 0..held {
+            let n = ScanIndex(first.0 + i as u64);
+            w += self.count_in(n, self.count_of(n));
+        }
+        w
+    }
+}
