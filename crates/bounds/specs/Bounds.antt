@@ -178,18 +178,6 @@ DOTS = DETECTIONS * DOT
 abbrev pub KEPT : ℕ
 KEPT = 256
 
--- The numbers of a logarithm that is kept: a variance, and the logarithm that it adds.
-abbrev pub LOG : ℕ
-LOG = 2
-
--- Those of all that are kept.
-abbrev pub LOGS : ℕ
-LOGS = KEPT * LOG
-
--- The numbers of a fold that is lent: those of its filter, and the NLLs so far.
-abbrev pub FOLD : ℕ
-FOLD = KF + 1
-
 -- The bytes of a row: a place for each scan, its first scan and its end.
 abbrev pub ROW : ℕ
 ROW = SCANS + 2

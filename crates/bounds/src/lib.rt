@@ -142,15 +142,6 @@ pub const DOTS: usize = DETECTIONS * DOT;
 // Logarithms that are kept at most.
 pub const KEPT: usize = 256;
 
-// The numbers of a logarithm that is kept: a variance, and the logarithm that it adds.
-pub const LOG: usize = 2;
-
-// Those of all that are kept.
-pub const LOGS: usize = KEPT * LOG;
-
-// The numbers of a fold that is lent: those of its filter, and the NLLs so far.
-pub const FOLD: usize = KF + 1;
-
 // The bytes of a row: a place for each scan, its first scan and its end.
 pub const ROW: usize = SCANS + 2;
 

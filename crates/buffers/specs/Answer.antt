@@ -66,10 +66,10 @@ abbrev pub roomy : ℕ → ℕ → Bool
 roomy words numbers = leb WORDS words && leb NUMBERS numbers
 
 -- that of an answer
-abbrev pub number_of : Answer → Option ℕ
-number_of (Refused n) = some n
-number_of Held = none
-number_of (Frame w n) = none
+abbrev pub refusal_of : Answer → Option ℕ
+refusal_of (Refused n) = some n
+refusal_of Held = none
+refusal_of (Frame w n) = none
 
 -- by a refusal, 0 for none, that comes before: it leaves the state s; else a is the reply, and the state after it
 abbrev pub checked : {E S : Type 0} → ℕ → S → Reply E × S → Reply E × S
@@ -110,7 +110,8 @@ Unchanged (gives e) r m r' m' = Unit {0}
 
 -- A call that is given the value r, the memory m and the buffers ws and ns, and is due the reply and the state a: what it answers, and what it leaves.
 module _ {E S R M : Type 0} (written : E → Written) (state_of : R → M → S) where
-  pub record Ends (a : Reply E × S) (r : R) (m : M) (ws : List ℕ) (ns : List Float) (answer : Answer) (r' : R) (m' : M) (ws' : List ℕ) (ns' : List Float) : Type 0 where
+  pub record Ends (a : Reply E × S) (r : R) (m : M) (ws : List ℕ) (ns : List Float)
+    (answer : Answer) (r' : R) (m' : M) (ws' : List ℕ) (ns' : List Float) : Type 0 where
     pub answered : answer ≡ answer_of written a.0
     pub state : state_of r' m' ≡ a.1
     pub words : ws' ≡ words_after written a.0 ws

@@ -160,10 +160,6 @@ module _ {w x : ℕ} {ws : List ℕ} {ns : List Float} (s : Stands w x ws ns) wh
           (λ i. record { words = p i; numbers = q i }) ∙ sym (ap (λ (t : Answer). kept_after t ws ns f) e),
         )
 
--- any other answer leaves it
-pub kept_as : {a b : Answer} (ws : List ℕ) (ns : List Float) (f : Written) → a ≡ b → kept_after b ws ns f ≡ f → f ≡ kept_after a ws ns f
-kept_as ws ns f e h = sym (ap (λ (t : Answer). kept_after t ws ns f) e ∙ h)
-
 -- ---- the calls
 
 module _ (r : FixedLagRefiner) (m : Memory) (ws : List ℕ) (ns : List Float) (f : List ℕ) where

@@ -2,7 +2,9 @@
 ghost use Rattle.std.specs.Prelude.{◌≡◌, ◌+◌, ◌≤◌, length, get_or};
 ghost use Rattle.engine.specs.Frame.{associated_of, class_of, cost_of, no_track, no_observation, no_association};
 ghost use Rattle.bounds.specs.Bounds.{ENGINE, OBSERVATION, ASSOCIATION};
-ghost use Rattle.engine.specs.Body.{layout_of, track_count, sensor_count, observation_count, association_count, sensors_from, observations_from, associations_from, refusal, frame_of, track_at, observation_at, association_at, time_read, sensor_read, track_read, observation_read, association_read};
+ghost use Rattle.engine.specs.Body.{layout_of, track_count, sensor_count, observation_count, association_count};
+ghost use Rattle.engine.specs.Body.{sensors_from, observations_from, associations_from, refusal};
+ghost use Rattle.engine.specs.Body.{frame_of, track_at, observation_at, association_at, time_read, sensor_read, track_read, observation_read, association_read};
 
 use crate::little;
 use crate::types::{

@@ -5,7 +5,8 @@ ghost use Rattle.std.specs.Prelude.{◌≡◌, cond, eqb, ◌+◌, ◌*◌, ◌�
 ghost use Rattle.bounds.specs.Bounds.{SENSORS, OBSERVATIONS, ENGINE, OBSERVATION, ASSOCIATION};
 ghost use Rattle.refusals.specs.Refusals.{refused};
 ghost use Rattle.engine.specs.Little.{little};
-ghost use Rattle.engine.specs.Body.{layout_of, all, code_ok, present_ok, time_ok, zeros_ok, track_ok, association_ok, observation_ok, index_ok, size, head_ok, refusal};
+ghost use Rattle.engine.specs.Body.{layout_of, all, code_ok, present_ok, time_ok, zeros_ok, track_ok};
+ghost use Rattle.engine.specs.Body.{association_ok, observation_ok, index_ok, size, head_ok, refusal};
 
 use bounds::{
     ASSOCIATION, ASSOCIATIONS, ENGINE, ENGINES, OBSERVATION, OBSERVATIONS, SENSORS, TIME,

@@ -81,9 +81,6 @@ module _ (bodies columns : List ℕ) (s : Body) (ids : List ℕ) (n count : ℕ)
   pub bodies_kept : length bodies' ≡ BODIES
   bodies_kept = length_over (BODY * slot_at n) s.bytes bodies bodies-fit ∙ bodies_long
 
-  pub columns-kept : length columns' ≡ COLUMNS
-  columns-kept = length_over (COLUMN * slot_at n) words columns columns-fit ∙ columns_long
-
   -- the slots of other scans
   module _ (m : ℕ) (apart : slot_at m ≡ slot_at n → ⊥) where
     column-other : (j : ℕ) → j < COLUMN → get_or columns' (COLUMN * slot_at m + j) 0 ≡ get_or columns (COLUMN * slot_at m + j) 0

@@ -15,7 +15,7 @@ use Rattle.fgo_spec.specs.Emitting.{Listed, report, listing, track_words, track_
 use Rattle.fgo_spec.proofs.Counting.{keep_append, count-le}
 use Rattle.buffers.specs.Buffers.{over}
 use Rattle.fgo_part.specs.Parts.{prefix_in, entry_in, table_in, part_last_ns}
-use Rattle.fgo_emit.specs.Writing.{report_in, PutTrack, PutTracks}
+use Rattle.fgo_emit.specs.Writing.{report_in, PutTrack}
 use Rattle.engine.proofs.Laid.{length-flat}
 use Rattle.engine.proofs.Passing.{length-rows}
 use Rattle.fgo_spec.proofs.Rows.{rows_more}
@@ -111,8 +111,3 @@ module _ (c : FgoConfig) (time : ℤ) (tracks : List ℕ) (filters : List Float)
         words = written_same HEAD ws p.words (ap (flat_map track_words) e) ew;
         numbers = written_same 0 ns p.numbers (ap (flat_map track_numbers) e) en;
       }
-
-  pub puts_all : {k n i : ℕ} {ws' : List ℕ} {ns' : List Float} → Puts c time tracks filters k i ws ns ws' ns' → k ≡ n → PutTracks (listing c time (table_in tracks filters n)) i ws ns ws' ns'
-  puts_all p e =
-      rw (sym e)
-      (record { count = p.count; words = p.words.written; numbers = p.numbers.written })

@@ -103,6 +103,7 @@ fn track_numbers(c: FgoConfig, time: i64, id: RefinedId, p: Prefix) -> [f64; STA
 }
 
 // Frozen part k as listed track i.
+// As it is: words and numbers at a stride, which are the published format of an emitted frame.
 fn put_track(
     c: FgoConfig,
     time: i64,

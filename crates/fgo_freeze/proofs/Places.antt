@@ -1,7 +1,7 @@
 -- The place of an id in the table of frozen parts. Assumes nothing.
 use Prim.Native.Nat.{ℕ, ◌+◌, ◌-◌, ◌≤◌, ◌<◌}
 use mathlib.Core.Path.{◌≡◌, refl}
-use native.Mathlib.Nat.{add-zero, zero-add}
+use native.Mathlib.Nat.{add-zero}
 use native.Mathlib.Omega.{arith}
 use borrow.Author.Tests.{lt-ltb, le-ltb}
 use Rattle.engine.specs.Body.{rows}
@@ -11,9 +11,6 @@ use Rattle.fgo_spec.proofs.Rows.{rows_step, rows_end}
 -- ---- a loop that stands at place k of n
 
 module _ (x : ℕ) (g : ℕ → ℕ) where
-  pub place-first : (n : ℕ) → place_in x (rows g 0 n) ≡ 0 + place_in x (rows g 0 (n - 0))
-  place-first n = let z : n - 0 ≡ n = omega arith in rw (z, zero-add)
-
   module _ (k n : ℕ) where
     pub place_here : k < n → x ≤ g k → k + place_in x (rows g k (n - k)) ≡ k
     unfolding place_in

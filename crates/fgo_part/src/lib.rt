@@ -7,7 +7,8 @@ ghost use Rattle.std.specs.Prelude.{◌≡◌, ◌+◌, ◌*◌, ◌<◌};
 ghost use Rattle.bounds.specs.Bounds.{FROZEN, PART, HEIGHTS, FILTER};
 ghost use Rattle.fgo_spec.specs.Lists.{segment};
 ghost use Rattle.fgo_spec.specs.Emitting.{class_word};
-ghost use Rattle.fgo_part.specs.Parts.{class_in, part_id, part_last_frame, part_last_ns, part_count, part_class, part_height_count, part_kf, part_heights_at, prefix_in, prefix_of, no_parts, Copied, Put};
+ghost use Rattle.fgo_part.specs.Parts.{class_in, part_id, part_last_frame, part_last_ns, part_count, part_class, part_height_count};
+ghost use Rattle.fgo_part.specs.Parts.{part_kf, part_heights_at, prefix_in, prefix_of, no_parts, Copied, Put};
 
 use bounds::{FILTER, FILTERS, HEIGHTS, KF, PART, PARTS};
 use buffers::put;

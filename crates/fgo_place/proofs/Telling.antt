@@ -53,9 +53,6 @@ module _ (ids engines starts : List ℕ) (held : ℕ) where
           one_more_lem k owners owners' h (ap length is' ∙ owning_long owners k e x room ∙ h.long) (λ i n. ap (λ o. owner_entry o i) is' ∙ owning_else owners k e x room i n)
           (ap (λ o. owner_entry o k) is' ∙ owning_at owners k e x room ∙ (λ t. (engine t, sym (ap (λ (z : ℕ). or_else z (owner_at owners k)) (sym holder) ∙ or_some x l (owner_at owners k)) t)))
 
-    pub none_told : length before ≡ OWNERS → Telling 0 before
-    none_told l = record { long = l; done = λ i q. absurd (omega arith); left = λ i q. refl }
-
     pub all_told : (n k : ℕ) (owners : List ℕ) → n ≤ k → Telling k owners → owners_in owners n ≡ held_latest ids engines starts held (owners_in before n)
     all_told n k owners l h =
         rows_same (owner_entry owners) (λ i. told (owner_entry before i)) 0 n (λ i a b. h.done i (omega arith))

@@ -7,7 +7,8 @@ ghost use Rattle.engine.specs.Body.{body as body_of, associations_in, body_refus
 ghost use Rattle.fgo_spec.specs.Rule.{loose_ok};
 ghost use Rattle.fgo_state.specs.Gathering.{StartsWithin};
 ghost use Rattle.fgo_state.specs.Sound.{bodies_ok, Passing};
-ghost use Rattle.fgo_rule.specs.Tests.{counts_ok, id_ok, column_in, columns_ok, id_before, part_ok, parts_ok, owned_all, distinct_at, entries_ok, owned_in, sound_in, Owning};
+ghost use Rattle.fgo_rule.specs.Tests.{counts_ok, id_ok, column_in, columns_ok, id_before, part_ok, parts_ok};
+ghost use Rattle.fgo_rule.specs.Tests.{owned_all, distinct_at, entries_ok, owned_in, sound_in, Owning};
 
 use bounds::{ACCEPTED, DETECTIONS, FROZEN, HEIGHTS, OWNED, OWNERS, PARTS, STARTS};
 use engine::body;

@@ -92,8 +92,9 @@ Rising (x ∷ y ∷ l) = (x < y) × Rising (y ∷ l)
 abbrev pub seen : List Emitted → Emitted → ℕ → List Detection
 seen past e x = window x 0 (scans_of past ++ (e.scan ∷ []))
 
--- a track that the frame e, emitted after the frames past, has to list: "position, speed and covariance are, bit for bit, 01's plain filter run afresh over exactly
--- the observations emitted so far under that id, this frame's included, then predicted to this frame's time, its count and height those of the same observations"
+-- a track that the frame e, emitted after the frames past, has to list: "position, speed and covariance are, bit for bit, 01's plain filter run afresh over
+-- exactly the observations emitted so far under that id, this frame's included, then predicted to this frame's time, its count and height those of the
+-- same observations"
 pub record ToList (c : FgoConfig) (past : List Emitted) (e : Emitted) (l : Listed) : Type 0 where
   pub id : 0 < l.id
   pub fresh : afresh c (time_of e) l.id (seen past e l.id) ≡ some l
@@ -153,8 +154,8 @@ pub record History (c : FgoConfig) (ops : List (Op Body)) : Type 0 where
   pub as_searched :
       (o : Op Body) (e : Emitted) → (run c (ops ++ (o ∷ []))).emitted ≡ (run c ops).emitted ++ (e ∷ []) →
       (rest : List Scan) × (settled c (run c ops).state o ≡ e.scan ∷ rest)
-  -- "each dot under one id only": an observation, by its frame and its place in it, that is emitted under an id (0 for none) is emitted under no other, whatever
-  -- comes later
+  -- "each dot under one id only": an observation, by its frame and its place in it, that is emitted under an id (0 for none) is emitted under no other,
+  -- whatever comes later
   pub dots : (more : List (Op Body)) (n i x y : ℕ) → Under (run c ops).emitted n i x → Under (run c (ops ++ more)).emitted n i y → x ≡ y
   -- the next id is above every id that an emitted or held scan has, and never goes down
   pub used : (x : ℕ) → 0 < x → Stands x (standing c ops) → x < (run c ops).state.next_id

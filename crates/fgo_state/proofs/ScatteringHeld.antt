@@ -16,7 +16,7 @@ use Rattle.fgo_spec.specs.Windows.{Scan, in_windows, window_count}
 use Rattle.fgo_spec.proofs.Windows.{detections_cons}
 use Rattle.fgo_spec.specs.Gathered.{spread}
 use Rattle.fgo_state.specs.Memory.{slot_at, length_in, kind_in, bytes_at, body_at, id_at, scan_in, scans_in}
-use Rattle.fgo_state.specs.Gathering.{count_in, HeldScans, ScatteredScan, spread_all, Scattered}
+use Rattle.fgo_state.specs.Gathering.{count_in, HeldScans, ScatteredScan, spread_all}
 use Rattle.fgo_spec.proofs.Rows.{rows_more, rows_same}
 use Rattle.fgo_state.proofs.Counts.{associations_few}
 use Rattle.fgo_state.proofs.Detections.{found_more}
@@ -133,11 +133,3 @@ module _ (bodies : List ℕ) (first : ℕ) (ids cs : List ℕ) {held : ℕ} (h :
           same = bodies-same;
           later = λ i a b j. kept-id w (first + i) (slots_apart first i k (omega arith) (omega arith) (λ y. omega arith)) j ∙ g.later i (omega arith) b j;
         }
-
-  pub scatters_held_all : {k p : ℕ} {cs' : List ℕ} → ScattersHeld bodies first held k p ids cs cs' → k ≡ held → Scattered bodies first held ids cs cs'
-  scatters_held_all {k} {p} {cs'} g z =
-      record {
-        scans = ap (scans_in bodies cs' first) (sym z) ∙ g.scans ∙ ap (λ (i : ℕ). spread_all (scans_in bodies cs first i) ids) z;
-        same = λ i l. g.same (first + i);
-        long = g.long;
-      }

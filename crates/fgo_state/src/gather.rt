@@ -5,7 +5,8 @@ ghost use Rattle.engine.specs.Frame.{engine_of};
 ghost use Rattle.engine.specs.Body.{body as body_of, body_refusal};
 ghost use Rattle.buffers.specs.Buffers.{over};
 ghost use Rattle.fgo_state.specs.Memory.{association_in};
-ghost use Rattle.fgo_state.specs.Gathering.{dots_of, dot_in, count_in, Scattered, found_in, found_of, HeldScans, GathersScan, GatheredScan, GatheredAll, ScatteredScan};
+ghost use Rattle.fgo_state.specs.Gathering.{dots_of, dot_in, count_in, Scattered, found_in, found_of};
+ghost use Rattle.fgo_state.specs.Gathering.{HeldScans, GathersScan, GatheredScan, GatheredAll, ScatteredScan};
 
 use crate::scans;
 use crate::scans::Scans;

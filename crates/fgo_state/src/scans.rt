@@ -6,7 +6,8 @@ ghost use Rattle.buffers.specs.Buffers.{over};
 ghost use Rattle.fgo_spec.specs.Lists.{has};
 ghost use Rattle.fgo_spec.specs.Rule.{Bytes};
 ghost use Rattle.fgo_spec.specs.Windows.{window_count};
-ghost use Rattle.fgo_state.specs.Memory.{no_scans, Typed, slot_at, head_at, head_for, length_in, kind_in, bytes_at, body_at, id_at, scans_in, in_window, column_words};
+ghost use Rattle.fgo_state.specs.Memory.{no_scans, Typed, slot_at, head_at, head_for, length_in, kind_in};
+ghost use Rattle.fgo_state.specs.Memory.{bytes_at, body_at, id_at, scans_in, in_window, column_words};
 ghost use Rattle.fgo_state.specs.Gathering.{count_in};
 
 use bounds::{ASSOCIATIONS, BODIES, BODY, COLUMN, COLUMNS, SCANS};

@@ -11,7 +11,7 @@ use lib.Dec.{T}
 use lib.Ieee.{nan}
 use lib.Signed.{le_z, ◌≤ℤ◌}
 use Rattle.bounds.specs.Bounds.{TRACK, LINK, STATE}
-use Rattle.buffers.specs.Answer.{Op, pushed, taken, Written, number_of}
+use Rattle.buffers.specs.Answer.{Op, pushed, taken, Written, refusal_of}
 use Rattle.buffers.specs.Run.{accepted_by}
 use Rattle.scalar.specs.Scalar.{word}
 use Rattle.engine.specs.declared.config.FgoConfig.{FgoConfig}
@@ -213,8 +213,8 @@ bodies_say : (ks : List Call) → map frame_in (accepted (λ b. b) ks) ≡ accep
 unfolding accepted flat_map
 bodies_say [] = refl
 bodies_say (k ∷ ks) =
-    map-append frame_in (accepted_by (λ b. b) k.sent (number_of k.answer)) (accepted (λ b. b) ks)
-    ∙ (λ i. one k.sent (number_of k.answer) i ++ bodies_say ks i)
+    map-append frame_in (accepted_by (λ b. b) k.sent (refusal_of k.answer)) (accepted (λ b. b) ks)
+    ∙ (λ i. one k.sent (refusal_of k.answer) i ++ bodies_say ks i)
   where
     one : (o : Op Body) (n : Option ℕ) → map frame_in (accepted_by (λ b. b) o n) ≡ accepted_by frame_in o n
     one (pushed b) none = refl

@@ -9,7 +9,7 @@ use lib.ListN.{length, drop}
 use lib.Seq.{take-append_seam}
 use lib.Ieee.{Float}
 use Rattle.buffers.specs.Buffers.{over}
-use Rattle.buffers.specs.Answer.{Op, pushed, taken, Reply, refused, waits, gives, refusal_in, Written, number_of, checked, answer_of, words_after, numbers_after, Unchanged, Ends, Refused}
+use Rattle.buffers.specs.Answer.{Op, pushed, taken, Reply, refused, waits, gives, refusal_in, Written, refusal_of, checked, answer_of, words_after, numbers_after, Unchanged, Ends, Refused}
 use Rattle.buffers.specs.Run.{Run, emitted_by, accepted_by, step, run_from}
 use Rattle.buffers.proofs.Running.{run_snoc}
 use Rattle.fgo_spec.specs.Lists.{cons_if, keep}
@@ -33,11 +33,11 @@ more false o = []
 
 module _ {E : Type 0} (written : E → Written) where
   pub refused_of : (a : Reply E) (n : ℕ) → answer_of written a ≡ Refused n → a ≡ refused n
-  refused_of (refused k) n e = ap refused (some-injective k n (ap number_of e))
-  refused_of waits n e = absurd (none-ne-some n (ap number_of e))
-  refused_of (gives g) n e = absurd (none-ne-some n (ap number_of e))
+  refused_of (refused k) n e = ap refused (some-injective k n (ap refusal_of e))
+  refused_of waits n e = absurd (none-ne-some n (ap refusal_of e))
+  refused_of (gives g) n e = absurd (none-ne-some n (ap refusal_of e))
 
-  number_is : (a : Reply E) → number_of (answer_of written a) ≡ refusal_in a
+  number_is : (a : Reply E) → refusal_of (answer_of written a) ≡ refusal_in a
   number_is (refused n) = refl
   number_is waits = refl
   number_is (gives e) = refl
@@ -180,8 +180,8 @@ module _ {A F E S R M : Type 0} (frame : A → F) (reply : S → Op A → Reply 
           let d = z.ends ops r m a k h e in
           (λ i. written_by (said i) (d.words i) (d.numbers i)) ∙ written-due written due k.words k.numbers
 
-      accepted-one : accepted_by frame k.sent (number_of k.answer) ≡ accepted_by frame k.sent (refusal_in due)
-      accepted-one = ap (accepted_by frame k.sent) (ap number_of said ∙ number_is written due)
+      accepted-one : accepted_by frame k.sent (refusal_of k.answer) ≡ accepted_by frame k.sent (refusal_in due)
+      accepted-one = ap (accepted_by frame k.sent) (ap refusal_of said ∙ number_is written due)
 
     -- ---- all of them
 
@@ -224,7 +224,7 @@ module _ {A F E S R M : Type 0} (frame : A → F) (reply : S → Op A → Reply 
       accepted-added : (ran (ops ++ operations ks)).accepted ≡ (ran ops).accepted ++ accepted frame ks
       unfolding accepted
       accepted-added =
-          added (λ r. r.accepted) (λ k. accepted_by frame k.sent (number_of k.answer))
+          added (λ r. r.accepted) (λ k. accepted_by frame k.sent (refusal_of k.answer))
           (λ ops r m k a h e.
           ap (λ r. r.accepted) (run_more ops (enough k) k.sent)
           ∙ ap (λ l. (ran ops).accepted ++ l) (sym (accepted-one ops r m a k h e)))

@@ -1,7 +1,7 @@
 -- Calls of a refiner or of a smoother, one after another, with any buffers: what is handed on, what a caller sees, and what it is due. Definitions only.
 use Rattle.std.specs.Prelude.{ℕ, suc, ◌≡◌, Bool, true, false, cond, length, take, Float}
 use mathlib.Core.List.{List, [], ◌∷◌, ◌++◌, map, flat_map}
-use Rattle.buffers.specs.Answer.{Op, taken, Reply, Written, roomy, number_of, checked, answer_of, words_after, numbers_after, Answer, Refused, Held, Frame}
+use Rattle.buffers.specs.Answer.{Op, taken, Reply, Written, roomy, refusal_of, checked, answer_of, words_after, numbers_after, Answer, Refused, Held, Frame}
 use Rattle.buffers.specs.Run.{Run, accepted_by, run_from}
 use Rattle.fgo_spec.specs.Lists.{keep}
 use Rattle.fgo_spec.specs.Rule.{All}
@@ -52,7 +52,7 @@ module _ {A R M : Type 0} where
 
   -- the frames that the calls accepted, in order
   unfoldable pub accepted : {F : Type 0} → (A → F) → List (Call A R M) → List F
-  accepted frame ks = flat_map (λ k. accepted_by frame k.sent (number_of k.answer)) ks
+  accepted frame ks = flat_map (λ k. accepted_by frame k.sent (refusal_of k.answer)) ks
 
   -- what the calls wrote, in order
   unfoldable pub wrote : List (Call A R M) → List Written

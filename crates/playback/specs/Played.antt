@@ -45,7 +45,8 @@ Leads more r m r' m' =
     legal r.config ≡ true → (ops : List (Op Body)) → Refined.Reached r.config ops r m → Refined.Reached r.config (ops ++ more) r' m'
 
 -- a push or a take that leads on, and whose answer can be told
-pub record Steps (more : List (Op Body)) (r : FixedLagRefiner) (m : Memory) (o : Answer) (u : FixedLagRefiner) (m' : Memory) (fw : List ℕ) (fx : List Float) : Type 0 where
+pub record Steps (more : List (Op Body)) (r : FixedLagRefiner) (m : Memory)
+  (o : Answer) (u : FixedLagRefiner) (m' : Memory) (fw : List ℕ) (fx : List Float) : Type 0 where
   pub leads : Leads more r m u m'
   pub shown : Shown o fw fx
   pub counted : Counted o fw

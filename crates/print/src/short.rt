@@ -20,6 +20,7 @@ fn put_head(out: &mut [u8], n: usize, words: &[u64]) -> usize
 }
 
 // The position bits of track i.
+// As it is: numbers at a stride, which are the published format of an emitted frame.
 fn put_position(out: &mut [u8], n: usize, x: &[f64], i: usize) -> usize
     requires { i < TRACKS }
     ensures { Puts (position x.now i) n out.old out.new result }

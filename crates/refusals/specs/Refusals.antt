@@ -1,7 +1,8 @@
 -- The numbers of the refusals. Definitions only.
 use Rattle.std.specs.Prelude.{ℕ, Result, Ok, Err}
 use Rattle.refusals.specs.declared.Refusal.{Refusal}
-use Rattle.refusals.specs.declared.Refusal.TheVariants.{Setting, Window, State, Output, Frame, Coordinate, Index, Count, Detections, Owners, Size, Bodies, Empty}
+use Rattle.refusals.specs.declared.Refusal.TheVariants.{Setting, Window, State, Output, Frame, Coordinate, Index}
+use Rattle.refusals.specs.declared.Refusal.TheVariants.{Count, Detections, Owners, Size, Bodies, Empty}
 
 -- a refusal's number
 abbrev pub number_of : Refusal → ℕ

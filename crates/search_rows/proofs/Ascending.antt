@@ -7,7 +7,7 @@ use native.Mathlib.Nat.{not-suc-le-zero, le_of_suc-le-suc}
 use native.Mathlib.Numerals.{add-one}
 use native.Mathlib.Omega.{arith}
 use lib.ListN.{length, get_or, take, drop, set, length-set}
-use lib.Seq.{length-take-le, take-take, take-set-le, take-set-lt, drop-set-lt, get_or-set_same, get_or-take, set_split}
+use lib.Seq.{length-take-le, take-take, take-set-lt, get_or-take, set_split}
 use lib.Dec.{ltb}
 use borrow.Author.Tests.{lt-ltb, le-ltb, ltb-true, ltb-false}
 use Rattle.bounds.specs.Bounds.{DETECTIONS}
@@ -16,48 +16,7 @@ use Rattle.fgo_spec.proofs.Counting.{eq_compare, lt_compare, gt_compare}
 use Rattle.search_rows.specs.Rows.{present_in, Begins}
 use Rattle.search_rows.proofs.Segments.{segment_none, segment-cons, segment_cut}
 
--- ---- the entries from j up to n have moved up by one place
-
-pub record Opening (n : ℕ) (a₀ a : List ℕ) (j : ℕ) : Type 0 where
-  pub room : n < DETECTIONS
-  pub size₀ : length a₀ ≡ DETECTIONS
-  pub size : length a ≡ DETECTIONS
-  pub within : j ≤ n
-  pub low : take j a ≡ take j a₀
-  pub high : segment (suc j) (suc n) a ≡ segment j n a₀
-
-pub opening-start : (n : ℕ) (a : List ℕ) → n < DETECTIONS → length a ≡ DETECTIONS → Opening n a a n
-opening-start n a h e =
-    record { room = h; size₀ = e; size = e; within = omega arith; low = refl; high = segment_none (suc n) (suc n) a (omega arith) ∙ sym (segment_none n n a (omega arith)) }
-
-opening-suc : (n : ℕ) (a₀ a : List ℕ) (i : ℕ) → Opening n a₀ a (suc i) → Opening n a₀ (set a (suc i) (get_or a i 0)) i
-opening-suc n a₀ a i o =
-    let y = get_or a i 0 in
-    let b = set a (suc i) y in
-    let ws = o.within in
-    let size : length b ≡ DETECTIONS = length-set a (suc i) y ∙ o.size in
-    let old : y ≡ get_or a₀ i 0 = sym (get_or-take (suc i) a i 0 (omega arith)) ∙ ap (λ (l : List ℕ). get_or l i 0) o.low ∙ get_or-take (suc i) a₀ i 0 (omega arith) in
-    record {
-      room = o.room;
-      size₀ = o.size₀;
-      size = size;
-      within = omega arith;
-      low =
-          take-set-le i a (suc i) y (omega arith)
-          ∙ sym (take-take i (suc i) a (omega arith))
-          ∙ ap (take i) o.low
-          ∙ take-take i (suc i) a₀ (omega arith);
-      high =
-          segment-cons (suc i) (suc n) b 0 (omega arith) (omega (arith, o.room))
-          ∙ (λ m. (get_or-set_same a (suc i) y 0 (omega (arith, o.room, o.size)) ∙ old) m ∷ (ap (take (suc n - suc (suc i))) (drop-set-lt (suc (suc i)) a (suc i) y (omega arith)) ∙ o.high) m)
-          ∙ sym (segment-cons i n a₀ 0 (omega arith) (omega (arith, o.room, o.size₀)));
-    }
-
-pub opening-step : (n : ℕ) (a₀ a : List ℕ) (j : ℕ) → 0 < j → Opening n a₀ a j → Opening n a₀ (set a j (get_or a (j - 1) 0)) (j - 1)
-opening-step n a₀ a zero h o = absurd (not-suc-le-zero h)
-opening-step n a₀ a (suc i) h o = let q : suc i - 1 ≡ i = omega arith in rw q (opening-suc n a₀ a i o)
-
--- a number written into the place that is free then
+-- a number written into the place p, from which on the entries up to n have moved up by one place
 laid : (n p x : ℕ) (a₀ a : List ℕ) → p ≤ n → n < DETECTIONS → length a ≡ DETECTIONS → take p a ≡ take p a₀ → segment (p + 1) (n + 1) a ≡ segment p n a₀ →
     take (n + 1) (set a p x) ≡ take p (take n a₀) ++ (x ∷ drop p (take n a₀))
 laid n p x a₀ a h g e low high =

@@ -3,7 +3,8 @@ ghost use Rattle.std.specs.Prelude.{◌≡◌, ◌^◌, ◌≤◌, ◌<◌, leng
 ghost use Rattle.bounds.specs.Bounds.{DETECTIONS, SCANS};
 ghost use Rattle.fgo_spec.specs.Searching.{best_gain, better, pair_gain, track_gain};
 ghost use Rattle.search_rows.specs.Rows.{Starts};
-ghost use Rattle.search_rows.specs.Moves.{retarget, keeper_target, other_target, pair_targets, track_targets, map_over, pair_ids, track_ids, one_more, begun, pair_counters, pair_tally, track_counters, next_id_after, track_tally};
+ghost use Rattle.search_rows.specs.Moves.{retarget, keeper_target, other_target, pair_targets, track_targets, map_over, pair_ids, track_ids};
+ghost use Rattle.search_rows.specs.Moves.{one_more, begun, pair_counters, pair_tally, track_counters, next_id_after, track_tally};
 
 use bounds::{DETECTIONS, SCANS, STARTS};
 use engine::types::{RefinedId, ScanIndex};

@@ -68,6 +68,7 @@ fn slot_in(x: RefinedId, a: usize, b: usize, ids: &[u64; DETECTIONS]) -> usize
 }
 
 // The row of x. It asks for starts that rise to DETECTIONS at most.
+// As it is: bytes by a stride, since the rows of a search are read for each pair and fit a cache so.
 pub fn fill_row<'a>(
     x: RefinedId,
     starts: &'a [usize; STARTS],

@@ -3,7 +3,8 @@ use Rattle.std.specs.Prelude.{ℕ, ◌≡◌, cond, ◌&&◌, List, length, Floa
 use Rattle.refusals.specs.declared.Refusal.{Refusal}
 use Rattle.refusals.specs.Refusals.{number_of}
 use Rattle.buffers.specs.declared.FrameSize.{FrameSize}
-use Rattle.buffers.specs.Answer.{Opening, opened, unopened, Op, Reply, gives, Written, roomy, checked, answer_of, Small, Ends, answer_in, Answer, Refused, Frame}
+use Rattle.buffers.specs.Answer.{Opening, opened, unopened, Op, Reply, gives, Written, roomy}
+use Rattle.buffers.specs.Answer.{checked, answer_of, Small, Ends, answer_in, Answer, Refused, Frame}
 use Rattle.buffers.specs.Buffers.{over}
 use Rattle.smoother_window.specs.declared.FixedLagSmoother.{FixedLagSmoother}
 use Rattle.smoother_window.specs.Config.{bounded}
@@ -59,7 +60,8 @@ due s w o ws ns = checked (later_refusal s w (length ws) (length ns)) (state_in 
 
 -- A call of o that is given the struct s, the window w and the output buffers ws and ns gives p and leaves w', ws' and ns': answer, state and output. Of a
 -- window only what it stands for is promised, unless the call is refused; and all buffers keep their lengths.
-pub record Promised (o : Op Written) (s : FixedLagSmoother) (w : Window) (ws : List ℕ) (ns : List Float) (p : Pushed) (w' : Window) (ws' : List ℕ) (ns' : List Float) : Type 0 where
+pub record Promised (o : Op Written) (s : FixedLagSmoother) (w : Window) (ws : List ℕ) (ns : List Float)
+  (p : Pushed) (w' : Window) (ws' : List ℕ) (ns' : List Float) : Type 0 where
   pub ends : Ends (λ f. f) state_in (due s w o ws ns) s w ws ns p.answer p.state w' ws' ns'
   pub window_words : length w'.words ≡ length w.words
   pub window_numbers : length w'.numbers ≡ length w.numbers

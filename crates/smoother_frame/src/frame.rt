@@ -4,7 +4,8 @@ ghost use Rattle.std.specs.List.{list_all};
 ghost use Rattle.bounds.specs.Bounds.{TRACKS};
 ghost use Rattle.engine.specs.Body.{all};
 ghost use Rattle.scalar.specs.Scalar.{seconds_of};
-ghost use Rattle.smoother_frame.specs.Frame.{frame, time, track_count, association_count, sensor_count, id_word, costs_from, words_long, numbers_long, track_ok, association_ok, sensor_ok, rows_ok, well_formed, Counts, CountsOf};
+ghost use Rattle.smoother_frame.specs.Frame.{frame, time, track_count, association_count, sensor_count, id_word, costs_from, words_long};
+ghost use Rattle.smoother_frame.specs.Frame.{numbers_long, track_ok, association_ok, sensor_ok, rows_ok, well_formed, Counts, CountsOf};
 
 use crate::counts::FrameCounts;
 use crate::head;

@@ -1,8 +1,7 @@
 -- Document 01, "smoother.rs": the backward pass over held frames. Definitions only.
 use Rattle.std.specs.Prelude.{ℕ, zero, suc, ◌+◌, ◌*◌, cond, List, [], ◌∷◌, ◌++◌, map, take, drop, ltb, eqb, ℤ, Float}
+use Rattle.std.specs.Prelude.{Option as Maybe, Some, None}
 use Rattle.std.proofs.Math.Option.{Option, none, some}
-use Rattle.std.specs.declared.option.Option.{Option as Answer}
-use Rattle.std.specs.declared.option.Option.TheVariants.{Some, None}
 use Rattle.std.specs.Float.{binary64}
 use Rattle.std.specs.Float.Ieee.{sub}
 use Rattle.bounds.specs.Bounds.{VECTOR, COVARIANCE, STATE}
@@ -108,11 +107,11 @@ abbrev pub estimate_of : TrackState → Estimate Float
 estimate_of t = estimate t.x t.p
 
 -- the state that running back gave; nothing where a Cholesky failed
-abbrev pub ran_back : Answer TrackState → Option (Estimate Float)
+abbrev pub ran_back : Maybe TrackState → Option (Estimate Float)
 ran_back (Some t) = some (estimate_of t)
 ran_back None = none
 
 -- where an id stands among the tracks of a frame; nothing where it does not
-abbrev pub found_at : Answer ℕ → Option ℕ
+abbrev pub found_at : Maybe ℕ → Option ℕ
 found_at (Some i) = some i
 found_at None = none

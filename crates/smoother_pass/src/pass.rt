@@ -37,6 +37,7 @@ fn find(frame: &Frame<'_>, id: RefinedId) -> Option<usize>
 }
 
 // The state of track i.
+// As it is: numbers at a stride, which are the published format of an emitted frame.
 fn state_of(frame: &Frame<'_>, i: usize) -> TrackState
     requires { i < track_count frame.now.words }
     ensures { estimate_of result ≡ state_at frame.now.numbers i }

@@ -1,5 +1,5 @@
--- The Kalman filter of the textbooks, at constant velocity along n axes. The state x has 2n numbers, the positions and after them the speeds. From a state x with
--- the covariance P, an observation z that comes dt later leads to x' and P' by
+-- The Kalman filter of the textbooks, at constant velocity along n axes. The state x has 2n numbers, the positions and after them the speeds. From a state x
+-- with the covariance P, an observation z that comes dt later leads to x' and P' by
 --     x⁻ = F x,  P⁻ = F P Fᵀ + Q,  S = H P⁻ Hᵀ + R,  K = P⁻ Hᵀ S⁻¹,  ν = z − H x⁻,  x' = x⁻ + K ν,  P' = (I − K H) P⁻.
 -- Vectors and matrices are functions of row and column; equations between them hold of the entries below their sizes. Definitions only.
 use Rattle.std.specs.Prelude.{◌≡◌, true, List, [], ◌∷◌, ℕ, ◌+◌, ◌<◌, length, get_or}
