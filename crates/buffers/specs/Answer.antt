@@ -111,7 +111,7 @@ Unchanged (gives e) r m r' m' = Unit {0}
 -- A call that is given the value r, the memory m and the buffers ws and ns, and is due the reply and the state a: what it answers, and what it leaves.
 module _ {E S R M : Type 0} (written : E → Written) (state_of : R → M → S) where
   pub record Ends (a : Reply E × S) (r : R) (m : M) (ws : List ℕ) (ns : List Float)
-    (answer : Answer) (r' : R) (m' : M) (ws' : List ℕ) (ns' : List Float) : Type 0 where
+      (answer : Answer) (r' : R) (m' : M) (ws' : List ℕ) (ns' : List Float) : Type 0 where
     pub answered : answer ≡ answer_of written a.0
     pub state : state_of r' m' ≡ a.1
     pub words : ws' ≡ words_after written a.0 ws

@@ -1,316 +1,175 @@
-// What a caller keeps by value, and the calls one by one.
-//
-// calls_refiner and calls_smoother say what the arrays hold; of words and numbers as much is lent as the caller says.
-ghost use Rattle.std.specs.Prelude.{◌≡◌, List, [], ℕ, ◌≤◌, length, Float};
+// All that a caller keeps, and the calls one by one.
+ghost use Rattle.std.specs.Prelude.{◌≡◌, ◌≤◌, length};
 ghost use Rattle.bounds.specs.Bounds.{TEXT};
-ghost use Rattle.fgo_state.specs.declared.state.Memory.{Memory as Lent};
-ghost use Rattle.smoother.specs.Promise as Smoothing;
+ghost use Rattle.print.specs.Text.{Ready};
 ghost use Rattle.calls_input.specs.declared.Call.TheVariants as calls;
 ghost use Rattle.calls_input.specs.Input.{Sane};
-ghost use Rattle.calls_refiner.specs.Refining.{Kept};
-ghost use Rattle.calls_smoother.specs.Smoothing.{Laid, Fits, Framed};
-ghost use Rattle.calls.specs.Calling.{desk, Lends, first, lending, lending_window, CallsRefiner, CallsSmoother, Does};
+ghost use Rattle.calls_cells.specs.Lent.{last_frame, Lends, Lent};
+ghost use Rattle.calls_refiner.specs.Refining.{Refines};
+ghost use Rattle.calls_smoother.specs.Smoothing.{Smooths};
+ghost use Rattle.calls.specs.Calling.{First, Does, digest_text};
 
-use bounds::{NUMBERS, REFINER, SMOOTHER, WORDS};
+use bounds::{REFINER, SMOOTHER};
 use buffers::FrameSize;
+use calls_cells::lent::{LastFrame, Output};
 use calls_cells::{cells, hashing};
 use calls_input::{Call, RefinerCall, SmootherCall};
-use calls_smoother::Room;
-use fgo_state::state::{FixedLagRefiner, Memory};
+use calls_refiner::LentRefiner;
+use calls_smoother::window::{LentSmoother, LentWindow};
+use fgo_state::state::Memory;
 use print::lines;
-use smoother_window::FixedLagSmoother;
+use smoother_window::size::WindowSize;
 
-// The refiner, the smoother, how many words and numbers of the output buffers are lent, what of a window is lent, and how long the frame is that the refiner
-// gave last.
-#[derive(Clone, Copy)]
-pub struct Caller {
-    pub refiner: FixedLagRefiner,
-    pub smoother: FixedLagSmoother,
-    pub words: usize,
-    pub numbers: usize,
-    pub room: Room,
-    pub last: FrameSize,
+// The refiner, whose frames the smoother is pushed, and the smoother.
+#[derive(Drop)]
+pub struct Stages {
+    pub refiner: LentRefiner,
+    pub smoother: LentSmoother,
 }
 
-// A caller after a call, and where what it prints ends.
-#[derive(Clone, Copy)]
-pub struct Called {
-    pub caller: Caller,
-    pub end: usize,
+// All that a caller keeps: these, and the output buffers.
+#[derive(Drop)]
+pub struct Desk {
+    pub stages: Stages,
+    pub output: Output,
 }
 
-// Before the first call all is zero, no window is lent, and output buffers as long as a frame may be.
-pub fn begin() -> Caller
-    ensures { result ≡ first }
-{
-    let refiner = cells::refiner_of(&[0; REFINER]);
-    let smoother = cells::smoother_of(&[0; SMOOTHER]);
-    let room = Room {
-        words: 0,
-        numbers: 0,
-        said: false,
-    };
-    let last = FrameSize {
-        words: 0,
-        numbers: 0,
-    };
-    Caller {
-        refiner,
-        smoother,
-        words: WORDS,
-        numbers: NUMBERS,
-        room,
-        last,
+impl Desk {
+    // Before the first call all is zero, no window is lent, and output buffers as long as a frame may be.
+    pub fn new() -> Desk
+        ensures { First result }
+    {
+        let refiner = LentRefiner {
+            state: cells::refiner_of(&[0; REFINER]),
+            memory: Memory::new(),
+            last: LastFrame::new(),
+        };
+        let smoother = LentSmoother {
+            state: cells::smoother_of(&[0; SMOOTHER]),
+            window: LentWindow::new(),
+        };
+        Desk {
+            stages: Stages { refiner, smoother },
+            output: Output::new(),
+        }
     }
 }
 
-// A call of the refiner.
+// A call of the refiner, to which so much of the output buffers is lent.
+// As it is: a function of its own cuts the buffers, since of a struct's field it is known what a call leaves there where it is lent whole, and not where a part
+// of it is lent beside a part of another.
 fn call_refiner(
-    d: Caller,
+    refiner: &mut LentRefiner,
     call: RefinerCall,
     s: &[u8],
-    memory: &mut Memory,
+    lent: FrameSize,
     words: &mut [u64],
     numbers: &mut [f64],
-    kept_words: &mut [u64],
-    kept_numbers: &mut [f64],
     out: &mut [u8],
-) -> Called
-    requires lends { Lends d words.old numbers.old × Kept d.last kept_words.old kept_numbers.old }
+) -> usize
+    requires lends { Lends lent words.old numbers.old }
     requires sane { Sane (calls.Refiner call) s.now × (TEXT ≤ length out.old) }
-    ensures kept { Kept result.caller.last kept_words.new kept_numbers.new }
-    ensures calls_refiner { (w : Smoothing.Window) → CallsRefiner
-        (desk d memory.old w
-        words.old numbers.old kept_words.old kept_numbers.old)
-        (desk result.caller memory.new w
-        words.new numbers.new kept_words.new kept_numbers.new)
-        result.end out.new call s.now }
+    ensures { Lent (λ ws ns ws' ns'. Refines refiner.old ws ns refiner.new ws' ns' result out.new call s.now)
+        lent words.old numbers.old words.new numbers.new }
 {
-    let w = d.words;
-    let x = d.numbers;
-    let t = calls_refiner::call(
-        d.refiner,
-        d.last,
+    calls_refiner::call(
+        refiner,
         call,
         s,
-        memory,
-        &mut words[..w],
-        &mut numbers[..x],
-        kept_words,
-        kept_numbers,
+        &mut words[..lent.words],
+        &mut numbers[..lent.numbers],
         out,
-    );
-    let refiner = t.refiner;
-    let last = t.last;
-    let smoother = d.smoother;
-    let room = d.room;
-    let caller = Caller {
-        refiner,
-        smoother,
-        words: w,
-        numbers: x,
-        room,
-        last,
-    };
-    Called { caller, end: t.end }
+    )
 }
 
-// A call of the smoother.
+// A call of the smoother; so for it.
 fn call_smoother(
-    d: Caller,
+    stages: &mut Stages,
     call: SmootherCall,
     s: &[u8],
-    kept_words: &[u64],
-    kept_numbers: &[f64],
-    window: &mut [u64],
-    values: &mut [f64],
+    lent: FrameSize,
     words: &mut [u64],
     numbers: &mut [f64],
-    frame_words: &mut [u64],
-    frame_numbers: &mut [f64],
     out: &mut [u8],
-) -> Called
-    requires lends { Lends d words.old numbers.old × Kept d.last kept_words.now kept_numbers.now × Fits d.room }
-    requires laid { Laid window.old values.old × Framed frame_words.old frame_numbers.old }
+) -> usize
+    requires lends { Lends lent words.old numbers.old }
     requires sane { Sane (calls.Smoother call) s.now × (TEXT ≤ length out.old) }
-    ensures fits { Fits result.caller.room }
-    ensures calls_smoother { (m : Lent) → CallsSmoother
-        (desk d m (Smoothing.window window.old values.old)
-        words.old numbers.old kept_words.now kept_numbers.now)
-        (desk result.caller m (Smoothing.window window.new values.new)
-        words.new numbers.new kept_words.now kept_numbers.now)
-        result.end out.new call s.now }
+    ensures refiner { stages.new.refiner ≡ stages.old.refiner }
+    ensures smooths { Lent (λ ws ns ws' ns'. Smooths stages.old.smoother ws ns stages.new.smoother ws' ns' result out.new
+        call s.now (last_frame stages.old.refiner.last)) lent words.old numbers.old words.new numbers.new }
 {
-    let w = d.words;
-    let x = d.numbers;
-    let t = calls_smoother::call(
-        d.smoother,
-        d.room,
-        d.last,
+    calls_smoother::call(
+        &mut stages.smoother,
         call,
         s,
-        kept_words,
-        kept_numbers,
-        window,
-        values,
-        &mut words[..w],
-        &mut numbers[..x],
-        frame_words,
-        frame_numbers,
+        &stages.refiner.last,
+        &mut words[..lent.words],
+        &mut numbers[..lent.numbers],
         out,
-    );
-    let smoother = t.smoother;
-    let room = t.room;
-    let refiner = d.refiner;
-    let last = d.last;
-    let caller = Caller {
-        refiner,
-        smoother,
-        words: w,
-        numbers: x,
-        room,
-        last,
-    };
-    Called { caller, end: t.end }
-}
-
-// Output buffers of other lengths are lent.
-fn lend(d: Caller, words: usize, numbers: usize) -> Called
-    ensures { (result.caller ≡ lending words numbers d) × (result.end ≡ 0) }
-{
-    let refiner = d.refiner;
-    let smoother = d.smoother;
-    let room = d.room;
-    let last = d.last;
-    let caller = Caller {
-        refiner,
-        smoother,
-        words,
-        numbers,
-        room,
-        last,
-    };
-    Called { caller, end: 0 }
-}
-
-// A window of another length is lent.
-fn lend_window(d: Caller, words: usize, numbers: usize) -> Called
-    ensures { (result.caller ≡ lending_window words numbers d) × (result.end ≡ 0) }
-{
-    let refiner = d.refiner;
-    let smoother = d.smoother;
-    let last = d.last;
-    let room = Room {
-        words,
-        numbers,
-        said: true,
-    };
-    let caller = Caller {
-        refiner,
-        smoother,
-        words: d.words,
-        numbers: d.numbers,
-        room,
-        last,
-    };
-    Called { caller, end: 0 }
+    )
 }
 
 // The digest.
-fn tell_digest(
-    d: Caller,
-    memory: &Memory,
-    window: &[u64],
-    values: &[f64],
-    words: &[u64],
-    numbers: &[f64],
-    out: &mut [u8],
-) -> Called
+fn tell_digest(d: &Desk, out: &mut [u8]) -> usize
     requires { TEXT ≤ length out.old }
-    ensures { (kw : List ℕ) (kn : List Float) → Does
-        (desk d memory.now
-        (Smoothing.window window.now values.now)
-        words.now numbers.now kw kn)
-        (desk result.caller memory.now
-        (Smoothing.window window.now values.now)
-        words.now numbers.now kw kn)
-        result.end out.new calls.Digest [] }
+    ensures { Ready (digest_text d.now) out.new result }
 {
-    let a = hashing::hash_refiner(&d.refiner, memory);
-    let b = hashing::hash_smoother(d.smoother, window, values);
-    let c = hashing::hash_output(words, numbers);
-    let end = lines::put_digest(out, a, b, c);
-    Called { caller: d, end }
+    let refiner = &d.stages.refiner;
+    let smoother = &d.stages.smoother;
+    let m = &refiner.memory;
+    let a = hashing::hash_refiner(
+        refiner.state,
+        &m.scans.bodies,
+        &m.scans.columns,
+        &m.owners,
+        &m.parts.tracks,
+        &m.parts.filters,
+    );
+    let b = hashing::hash_smoother(
+        smoother.state,
+        &smoother.window.words,
+        &smoother.window.values,
+    );
+    let c = hashing::hash_output(&d.output.words, &d.output.numbers);
+    lines::put_digest(out, a, b, c)
 }
 
-// A call, with what follows it.
-pub fn call(
-    d: Caller,
-    call: Call,
-    s: &[u8],
-    memory: &mut Memory,
-    window: &mut [u64],
-    values: &mut [f64],
-    words: &mut [u64],
-    numbers: &mut [f64],
-    kept_words: &mut [u64],
-    kept_numbers: &mut [f64],
-    frame_words: &mut [u64],
-    frame_numbers: &mut [f64],
-    out: &mut [u8],
-) -> Called
-    requires lends { Lends d words.old numbers.old × Kept d.last kept_words.old kept_numbers.old × Fits d.room }
-    requires laid { Laid window.old values.old × Framed frame_words.old frame_numbers.old }
-    requires sane { Sane call s.now × (TEXT ≤ length out.old) }
-    ensures lent { Lends result.caller words.new numbers.new
-        × Kept result.caller.last kept_words.new kept_numbers.new × Fits result.caller.room }
-    ensures does { Does
-        (desk d memory.old
-        (Smoothing.window window.old values.old)
-        words.old numbers.old kept_words.old kept_numbers.old)
-        (desk result.caller memory.new
-        (Smoothing.window window.new values.new)
-        words.new numbers.new kept_words.new kept_numbers.new)
-        result.end out.new call s.now }
+// A call, with what follows it: what it prints is put at the start of out, and it gives where that ends.
+#[tactic(auto, using(print::proofs::Fitting::ready, print::proofs::Fitting::bad_few))]
+pub fn call(d: &mut Desk, call: Call, s: &[u8], out: &mut [u8]) -> usize
+    requires { Sane call s.now × (TEXT ≤ length out.old) }
+    ensures { Does d.old d.new result out.new call s.now }
 {
+    let lent = d.output.lent;
     match call {
         Call::Refiner(c) => call_refiner(
-            d,
+            &mut d.stages.refiner,
             c,
             s,
-            memory,
-            words,
-            numbers,
-            kept_words,
-            kept_numbers,
+            lent,
+            &mut d.output.words,
+            &mut d.output.numbers,
             out,
         ),
         Call::Smoother(c) => call_smoother(
-            d,
+            &mut d.stages,
             c,
             s,
-            kept_words,
-            kept_numbers,
-            window,
-            values,
-            words,
-            numbers,
-            frame_words,
-            frame_numbers,
+            lent,
+            &mut d.output.words,
+            &mut d.output.numbers,
             out,
         ),
-        Call::Lend {
-            words: w,
-            numbers: x,
-        } => lend(d, w, x),
-        Call::LendWindow {
-            words: w,
-            numbers: x,
-        } => lend_window(d, w, x),
-        Call::Digest => tell_digest(d, memory, window, values, words, numbers, out),
-        Call::Bad => {
-            let end = lines::put_bad(out);
-            Called { caller: d, end }
+        Call::Lend { words, numbers } => {
+            d.output.lend(FrameSize { words, numbers });
+            0
         }
+        Call::LendWindow { words, numbers } => {
+            let window = &mut d.stages.smoother.window;
+            window.lend(WindowSize { words, numbers });
+            0
+        }
+        Call::Digest => tell_digest(d, out),
+        Call::Bad => lines::put_bad(out),
     }
 }

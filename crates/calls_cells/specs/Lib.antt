@@ -1,2 +1,4 @@
 pub mod Cells
 pub mod Hashing
+pub mod Lent
+pub mod Opening

@@ -1,11 +1,12 @@
 // The hashes of what a caller keeps: fields first, then the arrays.
 ghost use Rattle.std.specs.Prelude.{◌≡◌};
+ghost use Rattle.fgo_state.specs.Memory.{memory};
 ghost use Rattle.smoother.specs.Promise as Smoothing;
 ghost use Rattle.digest.specs.Digest.{BASIS};
 ghost use Rattle.calls_cells.specs.Hashing.{refiner_hash, smoother_hash, buffers_hash};
 
 use crate::cells;
-use fgo_state::state::{FixedLagRefiner, Memory};
+use fgo_state::state::FixedLagRefiner;
 use smoother_window::FixedLagSmoother;
 
 // Two buffers, after a hash.
@@ -16,22 +17,30 @@ fn hash_buffers<'a>(h: u64, words: &'a [u64], numbers: &'a [f64]) -> u64
 }
 
 // The output buffers.
-pub fn hash_output<'a>(words: &'a [u64], numbers: &'a [f64]) -> u64
+pub fn hash_output(words: &[u64], numbers: &[f64]) -> u64
     ensures { result ≡ buffers_hash BASIS words.now numbers.now }
 {
     hash_buffers(digest::begin(), words, numbers)
 }
 
 // A refiner with its memory.
-pub fn hash_refiner(r: &FixedLagRefiner, memory: &Memory) -> u64
-    ensures { result ≡ refiner_hash r.now memory.now }
+// As it is: five lists and no `Memory`, since a digest is of lists of any length.
+pub fn hash_refiner(
+    r: FixedLagRefiner,
+    bodies: &[u8],
+    columns: &[u64],
+    owners: &[u64],
+    tracks: &[u64],
+    filters: &[f64],
+) -> u64
+    ensures { result ≡ refiner_hash r (memory bodies.now columns.now owners.now tracks.now filters.now) }
 {
-    let fields = cells::refiner_fields(*r);
+    let fields = cells::refiner_fields(r);
     let a = digest::hash_words(digest::begin(), &fields);
-    let b = digest::hash_bytes(a, &memory.scans.bodies);
-    let c = digest::hash_words(b, &memory.scans.columns);
-    let d = digest::hash_words(c, &memory.owners);
-    hash_buffers(d, &memory.parts.tracks, &memory.parts.filters)
+    let b = digest::hash_bytes(a, bodies);
+    let c = digest::hash_words(b, columns);
+    let d = digest::hash_words(c, owners);
+    hash_buffers(d, tracks, filters)
 }
 
 // A smoother with its window.

@@ -10,6 +10,10 @@ use borrow.Author.Tests.{leb-true, le-leb, eqb-true}
 use Rattle.bounds.specs.Bounds.{SETTING, SETTINGS, WINDOW, VALUES, CALL, LENT_WORDS, LENT_NUMBERS}
 use Rattle.engine.specs.Little.{little}
 use Rattle.engine.proofs.Every.{both}
+use Rattle.std.specs.Prelude.{Result, Ok, Err}
+use Rattle.calls_input.specs.declared.cells.NoPlace.{NoPlace}
+use Rattle.calls_input.specs.declared.cells.RefinerPlace.{RefinerPlace}
+use Rattle.calls_input.specs.declared.cells.SmootherPlace.{SmootherPlace}
 use Rattle.calls_input.specs.declared.Call.{Call}
 use Rattle.calls_input.specs.declared.Call.TheVariants.{Bad}
 use Rattle.calls_input.specs.declared.Next.{Next}
@@ -18,8 +22,12 @@ use Rattle.calls_input.specs.Input.{
   sized,
   within,
   cell_in,
+  refiner_place,
   refiner_has,
+  refiner_write,
+  smoother_place,
   smoother_has,
+  smoother_write,
   lending,
   lending_window,
   pushing,
@@ -78,11 +86,19 @@ module _ (f : List ℕ) where
 
   refiner-fine : Fine (writing_refiner f) f
   unfolding writing_refiner
-  refiner-fine = sized-fine (SETTING * 3) (λ e. pick (refiner_has (cell_in f)) (λ h. record { sane = h }) bad)
+  refiner-fine = sized-fine (SETTING * 3) (λ e. by (refiner_place (number f 0)))
+    where
+      by : (r : Result RefinerPlace NoPlace) → Fine (refiner_write f r) f
+      by (Ok p) = pick (refiner_has (cell_in f p)) (λ h. record { sane = h }) bad
+      by (Err e) = bad
 
   smoother-fine : Fine (writing_smoother f) f
   unfolding writing_smoother
-  smoother-fine = sized-fine (SETTING * 3) (λ e. pick (smoother_has (cell_in f)) (λ h. record { sane = h }) bad)
+  smoother-fine = sized-fine (SETTING * 3) (λ e. by (smoother_place (number f 0)))
+    where
+      by : (r : Result SmootherPlace NoPlace) → Fine (smoother_write f r) f
+      by (Ok p) = pick (smoother_has (cell_in f p)) (λ h. record { sane = h }) bad
+      by (Err e) = bad
 
   -- the call of a code
   call-fine : (code : ℕ) → Fine (call_by code f) f

@@ -1,9 +1,14 @@
 -- The list of calls on standard input, as README's table has it: what each call is. Definitions only.
-use Rattle.std.specs.Prelude.{ℕ, ◌+◌, ◌*◌, ◌≤◌, ◌≡◌, Bool, true, cond, ◌&&◌, List, length, take, drop, leb, ltb, eqb}
+use Rattle.std.specs.Prelude.{ℕ, ◌+◌, ◌*◌, ◌≤◌, ◌≡◌, Bool, true, cond, ◌&&◌, List, length, take, drop, leb, ltb, eqb, Result, Ok, Err}
 use Rattle.bounds.specs.Bounds.{SETTING, SETTINGS, BODIES, COLUMNS, OWNERS, PARTS, FILTERS, WINDOW, VALUES}
 use Rattle.bounds.specs.Bounds.{CALL, LENT_WORDS, LENT_NUMBERS, REFINER, SMOOTHER}
 use Rattle.engine.specs.Little.{little}
-use Rattle.calls_input.specs.declared.Cell.{Cell}
+use Rattle.calls_input.specs.declared.cells.Cell.{Cell}
+use Rattle.calls_input.specs.declared.cells.NoPlace.{NoPlace}
+use Rattle.calls_input.specs.declared.cells.RefinerPlace.{RefinerPlace}
+use Rattle.calls_input.specs.declared.cells.RefinerPlace.TheVariants as places
+use Rattle.calls_input.specs.declared.cells.SmootherPlace.{SmootherPlace}
+use Rattle.calls_input.specs.declared.cells.SmootherPlace.TheVariants as windows
 use Rattle.calls_input.specs.declared.RefinerCall.TheVariants as refiner
 use Rattle.calls_input.specs.declared.SmootherCall.TheVariants as smoother
 use Rattle.calls_input.specs.declared.Call.{Call}
@@ -12,23 +17,50 @@ use Rattle.calls_input.specs.declared.Next.{Next}
 
 -- ---- cells
 
--- how many a place of what the refiner's caller keeps has: its fields, then the five arrays
-abbrev pub refiner_cells : ℕ → ℕ
-refiner_cells place =
-    cond (eqb place 0) REFINER
-    (cond (eqb place 1) BODIES
-    (cond (eqb place 2) COLUMNS (cond (eqb place 3) OWNERS (cond (eqb place 4) PARTS (cond (eqb place 5) FILTERS 0)))))
+-- the places of what the refiner's caller keeps: its fields, then the five arrays
+abbrev pub refiner_place : ℕ → Result RefinerPlace NoPlace
+refiner_place n =
+    cond (eqb n 0) (Ok places.Fields)
+    (cond (eqb n 1) (Ok places.Bodies)
+    (cond (eqb n 2) (Ok places.Columns)
+    (cond (eqb n 3) (Ok places.Owners)
+    (cond (eqb n 4) (Ok places.Parts)
+    (cond (eqb n 5) (Ok places.Filters) (Err (record {})))))))
 
--- it has this one, and a byte of bodies is at most 255
-abbrev pub refiner_has : Cell → Bool
-refiner_has c = ltb c.index (refiner_cells c.place) && cond (eqb c.place 1) (leb c.value 255) true
+-- how many cells each has
+abbrev pub refiner_cells : RefinerPlace → ℕ
+refiner_cells places.Fields = REFINER
+refiner_cells places.Bodies = BODIES
+refiner_cells places.Columns = COLUMNS
+refiner_cells places.Owners = OWNERS
+refiner_cells places.Parts = PARTS
+refiner_cells places.Filters = FILTERS
 
--- how many a place of what the smoother's caller keeps has: its fields, then the window's words and numbers
-abbrev pub smoother_cells : ℕ → ℕ
-smoother_cells place = cond (eqb place 0) SMOOTHER (cond (eqb place 1) WINDOW (cond (eqb place 2) VALUES 0))
+-- the caller has this cell, and a byte of bodies is at most 255
+abbrev pub refiner_has : Cell RefinerPlace → Bool
+refiner_has c = ltb c.index (refiner_cells c.place) && by c.place
+  where
+    by : RefinerPlace → Bool
+    by places.Fields = true
+    by places.Bodies = leb c.value 255
+    by places.Columns = true
+    by places.Owners = true
+    by places.Parts = true
+    by places.Filters = true
 
--- it has this one
-abbrev pub smoother_has : Cell → Bool
+-- the places of what the smoother's caller keeps: its fields, then the window's words and numbers
+abbrev pub smoother_place : ℕ → Result SmootherPlace NoPlace
+smoother_place n =
+    cond (eqb n 0) (Ok windows.Fields) (cond (eqb n 1) (Ok windows.Window) (cond (eqb n 2) (Ok windows.Values) (Err (record {}))))
+
+-- how many cells each has
+abbrev pub smoother_cells : SmootherPlace → ℕ
+smoother_cells windows.Fields = SMOOTHER
+smoother_cells windows.Window = WINDOW
+smoother_cells windows.Values = VALUES
+
+-- the caller has this cell
+abbrev pub smoother_has : Cell SmootherPlace → Bool
 smoother_has c = ltb c.index (smoother_cells c.place)
 
 -- ---- what follows a call
@@ -46,9 +78,19 @@ module _ (f : List ℕ) where
   abbrev pub within : ℕ → ℕ → Bool
   within words numbers = leb (number 0) words && leb (number 1) numbers
 
-  -- a cell
-  abbrev pub cell_in : Cell
-  cell_in = record { place = number 0; index = number 1; value = number 2 }
+  -- the cell of a place
+  abbrev pub cell_in : {P : Type 0} → P → Cell P
+  cell_in place = record { place = place; index = number 1; value = number 2 }
+
+  -- the cell of a place is written, where the caller has it
+  abbrev pub refiner_write : Result RefinerPlace NoPlace → Call
+  refiner_write (Ok p) = cond (refiner_has (cell_in p)) (Refiner (refiner.Write (cell_in p))) Bad
+  refiner_write (Err e) = Bad
+
+  -- the same, of the smoother's
+  abbrev pub smoother_write : Result SmootherPlace NoPlace → Call
+  smoother_write (Ok p) = cond (smoother_has (cell_in p)) (Smoother (smoother.Write (cell_in p))) Bad
+  smoother_write (Err e) = Bad
 
   -- 6: "u64 words, u64 numbers; at most 4,096 and 8,192"
   unfoldable pub lending : Call
@@ -67,11 +109,11 @@ module _ (f : List ℕ) where
 
   -- 7: "u64 place, u64 index, u64 value"
   unfoldable pub writing_refiner : Call
-  writing_refiner = sized (SETTING * 3) (cond (refiner_has cell_in) (Refiner (refiner.Write cell_in)) Bad)
+  writing_refiner = sized (SETTING * 3) (refiner_write (refiner_place (number 0)))
 
   -- 17: "u64 place, u64 index, u64 value"
   unfoldable pub writing_smoother : Call
-  writing_smoother = sized (SETTING * 3) (cond (smoother_has cell_in) (Smoother (smoother.Write cell_in)) Bad)
+  writing_smoother = sized (SETTING * 3) (smoother_write (smoother_place (number 0)))
 
 -- the call of a code, and what follows it
 unfoldable pub call_by : ℕ → List ℕ → Call

@@ -2,25 +2,16 @@
 // A call that is not as README's table has it is a bad one.
 #![tactic(auto)]
 
+pub mod cells;
+
 ghost use Rattle.std.specs.Prelude.{◌≡◌, ◌+◌, ◌*◌, ◌≤◌, length};
 ghost use Rattle.bounds.specs.Bounds.{SETTING};
-ghost use Rattle.calls_input.specs.Input.{number, within, cell_in, refiner_cells, refiner_has, smoother_cells};
+ghost use Rattle.calls_input.specs.Input.{number, within, cell_in};
 ghost use Rattle.calls_input.specs.Input.{sized, lending, lending_window, pushing, writing_refiner, writing_smoother, call_by, bad_at, next_at};
 
-use bounds::{
-    BODIES, CALL, COLUMNS, FILTERS, LENT_NUMBERS, LENT_WORDS, OWNERS, PARTS, REFINER, SETTING,
-    SETTINGS, SMOOTHER, VALUES, WINDOW,
-};
+use bounds::{CALL, LENT_NUMBERS, LENT_WORDS, SETTING, SETTINGS, VALUES, WINDOW};
+use cells::{Cell, RefinerPlace, SmootherPlace, refiner_has, smoother_has};
 use engine::little;
-
-// One cell of what a caller keeps, and what is written there.
-// As it is: the place is a number, which the list of calls gives and README's table has.
-#[derive(Clone, Copy)]
-pub struct Cell {
-    pub place: usize,
-    pub index: usize,
-    pub value: u64,
-}
 
 // A call of the refiner.
 #[derive(Clone, Copy)]
@@ -29,7 +20,7 @@ pub enum RefinerCall {
     Push,
     Take,
     Counters,
-    Write(Cell),
+    Write(Cell<RefinerPlace>),
 }
 
 // A call of the smoother: it is pushed the frame that the refiner gave last, or one of so many words and numbers.
@@ -39,7 +30,7 @@ pub enum SmootherCall {
     PushLast,
     Push { words: usize, numbers: usize },
     Take,
-    Write(Cell),
+    Write(Cell<SmootherPlace>),
 }
 
 // A call: of refiner or smoother; or from now on output buffers, or a window, of these lengths are lent.
@@ -82,58 +73,15 @@ fn is_within(s: &[u8], words: usize, numbers: usize) -> bool
     number_at(s, 1) <= numbers as u64
 }
 
-// A cell.
-fn cell_in(s: &[u8]) -> Cell
+// The cell of a place.
+fn cell_in<P>(s: &[u8], place: P) -> Cell<P>
     requires { SETTING * 3 ≤ length s.now }
-    ensures { result ≡ cell_in s.now }
+    ensures { result ≡ cell_in s.now place }
 {
-    let place = number_at(s, 0) as usize;
-    let index = number_at(s, 1) as usize;
-    let value = number_at(s, 2);
     Cell {
         place,
-        index,
-        value,
-    }
-}
-
-// How many cells a place of what the refiner's caller keeps has; none where there is no such place.
-fn refiner_cells(place: usize) -> usize
-    ensures { result ≡ refiner_cells place }
-{
-    match place {
-        0 => REFINER,
-        1 => BODIES,
-        2 => COLUMNS,
-        3 => OWNERS,
-        4 => PARTS,
-        5 => FILTERS,
-        _ => 0,
-    }
-}
-
-// It has this cell, and a byte of bodies is at most 255.
-fn refiner_has(cell: Cell) -> bool
-    ensures { result ≡ refiner_has cell }
-{
-    if refiner_cells(cell.place) <= cell.index {
-        return false;
-    }
-    if cell.place != 1 {
-        return true;
-    }
-    cell.value <= 255
-}
-
-// How many a place of what the smoother's caller keeps has.
-fn smoother_cells(place: usize) -> usize
-    ensures { result ≡ smoother_cells place }
-{
-    match place {
-        0 => SMOOTHER,
-        1 => WINDOW,
-        2 => VALUES,
-        _ => 0,
+        index: number_at(s, 1) as usize,
+        value: number_at(s, 2),
     }
 }
 
@@ -206,11 +154,16 @@ fn write_refiner(s: &[u8]) -> Call
     if s.len() != SETTING * 3 {
         return Call::Bad;
     }
-    let cell = cell_in(s);
-    if !refiner_has(cell) {
-        return Call::Bad;
+    match RefinerPlace::try_from(number_at(s, 0)) {
+        Ok(place) => {
+            let cell = cell_in(s, place);
+            if !refiner_has(cell) {
+                return Call::Bad;
+            }
+            Call::Refiner(RefinerCall::Write(cell))
+        }
+        Err(_) => Call::Bad,
     }
-    Call::Refiner(RefinerCall::Write(cell))
 }
 
 // A cell of the smoother's is written.
@@ -220,11 +173,16 @@ fn write_smoother(s: &[u8]) -> Call
     if s.len() != SETTING * 3 {
         return Call::Bad;
     }
-    let cell = cell_in(s);
-    if smoother_cells(cell.place) <= cell.index {
-        return Call::Bad;
+    match SmootherPlace::try_from(number_at(s, 0)) {
+        Ok(place) => {
+            let cell = cell_in(s, place);
+            if !smoother_has(cell) {
+                return Call::Bad;
+            }
+            Call::Smoother(SmootherCall::Write(cell))
+        }
+        Err(_) => Call::Bad,
     }
-    Call::Smoother(SmootherCall::Write(cell))
 }
 
 // The call of a code.

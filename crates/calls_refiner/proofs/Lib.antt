@@ -1,2 +1,1 @@
 mod Telling
-mod Writing

@@ -1,56 +1,48 @@
 // The calls of a smoother.
 //
-// Its window has as many words and numbers of window and values as are lent; words and numbers are the output buffers that are lent to it; at the front of
-// kept_words and kept_numbers stands the frame that the refiner gave last. A frame of the input is read into frame_words and frame_numbers. What a call prints
-// is put at the start of out.
+// Of its window as much is lent to it as the window says; words and numbers are the output buffers that are lent to it. What a call prints is put at the start
+// of out, and a call gives where that ends.
 #![tactic(auto)]
+
+pub mod window;
 
 ghost use Rattle.std.specs.Prelude.{◌≡◌, true, List, ℕ, ◌+◌, ◌*◌, ◌≤◌, ◌<◌, length, set, Float};
 ghost use Rattle.std.specs.Float.{binary64};
 ghost use Rattle.std.specs.Float.Ieee.{of_bits};
-ghost use Rattle.bounds.specs.Bounds.{SETTING, TEXT, SMOOTHER};
+ghost use Rattle.bounds.specs.Bounds.{SETTING, TEXT, SMOOTHER, WINDOW, VALUES, LENT_WORDS, LENT_NUMBERS};
 ghost use Rattle.buffers.specs.Answer.{answer_in, pushed, taken};
 ghost use Rattle.engine.specs.Body.{rows};
 ghost use Rattle.engine.specs.Little.{little};
-ghost use Rattle.smoother_frame.specs.Frame.{frame};
-ghost use Rattle.smoother.specs.Promise as Smoothing;
-ghost use Rattle.print.specs.Text.{Ready};
+ghost use Rattle.smoother_frame.specs.Frame.{frame as frame_of};
+ghost use Rattle.smoother.specs.Promise.{window as window_of, pushed_as, Promised};
+ghost use Rattle.print.specs.Text.{Ready, call_answer};
 ghost use Rattle.print.specs.Printed.{Shown};
 ghost use Rattle.calls_input.specs.declared.Call.TheVariants as calls;
 ghost use Rattle.calls_input.specs.Input.{smoother_has, Sane};
 ghost use Rattle.calls_cells.specs.Cells.{smoother_fields, smoother_of};
-ghost use Rattle.calls_refiner.specs.Refining.{Kept, kept_frame};
-ghost use Rattle.calls_smoother.specs.Smoothing.{Laid, Fits, Framed, settings_in, room_for, smoother_with, window_with, Told, Answers, Opens, Smooths};
+ghost use Rattle.calls_cells.specs.Lent.{last_frame};
+ghost use Rattle.calls_smoother.specs.declared.window.Room.TheVariants.{Asked};
+ghost use Rattle.calls_smoother.specs.Room.{Fits};
+ghost use Rattle.calls_smoother.specs.Smoothing.{settings_in, asked_by, room_for, frame_in, smoother_with, lent_of, rest_of, window_in, window_with};
+ghost use Rattle.calls_smoother.specs.Smoothing.{Answers, Opens, Smooths};
 
-use bounds::{LAG, SETTING, TRACKS};
+use bounds::{LAG, LENT_NUMBERS, LENT_WORDS, SETTING, TRACKS, VALUES, WINDOW};
 use buffers::{Answer, FrameSize};
 use calls_cells::cells;
-use calls_input::{Cell, SmootherCall};
+use calls_cells::lent::LastFrame;
+use calls_input::SmootherCall;
+use calls_input::cells::{Cell, SmootherPlace};
 use engine::little;
 use print::{answers, lines};
 use scalar::bits;
-use smoother_window::size::window_size;
+use smoother_window::size::{WindowSize, window_size};
 use smoother_window::{FixedLagSmoother, SmootherConfig};
-
-// How many words and numbers of a window are lent, and whether a call has said so.
-#[derive(Clone, Copy)]
-pub struct Room {
-    pub words: usize,
-    pub numbers: usize,
-    pub said: bool,
-}
-
-// A smoother after a call, the room that it has, and where what the call prints ends.
-#[derive(Clone, Copy)]
-pub struct Smoothed {
-    pub smoother: FixedLagSmoother,
-    pub room: Room,
-    pub end: usize,
-}
+use window::{LentSmoother, Room};
 
 // ---- opening
 
 // The settings that an opening asks for.
+#[tactic(auto, unfolding(crate::specs::Smoothing::settings_in))]
 fn settings_in(s: &[u8]) -> SmootherConfig
     requires { length s.now ≡ SETTING * 3 }
     ensures { result ≡ settings_in s.now }
@@ -65,276 +57,281 @@ fn settings_in(s: &[u8]) -> SmootherConfig
     }
 }
 
-// The window that an opening asks for is lent, unless a call has said another; none where lag or C are out of bounds.
+// The size of the window that lag and C ask for; none where they are out of bounds.
+#[tactic(auto, unfolding(smoother_window::specs::Config::bounded))]
+fn asked_size(c: SmootherConfig) -> WindowSize
+    ensures { (result ≡ asked_by c) × Fits (Asked result) }
+{
+    if LAG < c.lag_frames || c.max_tracks < 1 || TRACKS < c.max_tracks {
+        return WindowSize {
+            words: 0,
+            numbers: 0,
+        };
+    }
+    window_size(c.lag_frames, c.max_tracks)
+}
+
+// The window that an opening asks for is lent, unless a call has said another.
+#[tactic(auto, unfolding(crate::specs::Smoothing::room_for))]
 fn room_for(room: Room, c: SmootherConfig) -> Room
     requires { Fits room }
     ensures { (result ≡ room_for room c) × Fits result }
 {
-    if room.said {
-        return room;
-    }
-    if LAG < c.lag_frames {
-        return Room {
-            words: 0,
-            numbers: 0,
-            said: false,
-        };
-    }
-    if c.max_tracks < 1 || TRACKS < c.max_tracks {
-        return Room {
-            words: 0,
-            numbers: 0,
-            said: false,
-        };
-    }
-    let size = window_size(c.lag_frames, c.max_tracks);
-    Room {
-        words: size.words,
-        numbers: size.numbers,
-        said: false,
+    match room {
+        Room::Said(_) => room,
+        Room::Asked(_) => Room::Asked(asked_size(c)),
     }
 }
 
 // A smoother is opened; a refusal leaves the one there was. What smoother::open promises leaves the slot of the oldest of none open: it is 0, as there.
-fn open<'a, 'b>(
-    state: FixedLagSmoother,
-    room: Room,
-    s: &'a [u8],
-    window: &'a [u64],
-    values: &'a [f64],
-    out: &'b mut [u8],
-) -> Smoothed
-    requires { Laid window.now values.now × Fits room × (TEXT ≤ length out.old) × (length s.now ≡ SETTING * 3) }
-    ensures fits { Fits result.room }
-    ensures opens { (ws : List ℕ) (ns : List Float) → Opens state room (Smoothing.window window.now values.now) ws ns result
-        (Smoothing.window window.now values.now) ws ns out.new (settings_in s.now) }
+fn open(smoother: &mut LentSmoother, s: &[u8], out: &mut [u8]) -> usize
+    requires { (length s.now ≡ SETTING * 3) × (TEXT ≤ length out.old) }
+    ensures { (ws : List ℕ) (ns : List Float) → Opens smoother.old ws ns smoother.new ws ns result out.new (settings_in s.now) }
 {
     let config = settings_in(s);
-    let lent = room_for(room, config);
-    let w = lent.words;
-    let x = lent.numbers;
-    match smoother::open(config, &window[..w], &values[..x]) {
-        Err(refusal) => Smoothed {
-            smoother: state,
-            room: lent,
-            end: lines::put_refused(out, 0, refusal),
-        },
+    let window = &mut smoother.window;
+    window.room = room_for(window.room, config);
+    let size = window.room.size();
+    match smoother::open(
+        config,
+        &window.words[..size.words],
+        &window.values[..size.numbers],
+    ) {
+        Err(refusal) => lines::put_refused(out, 0, refusal),
         Ok(_) => {
-            let smoother = FixedLagSmoother {
+            smoother.state = FixedLagSmoother {
                 config,
                 first: 0,
                 held: 0,
             };
-            Smoothed {
-                smoother,
-                room: lent,
-                end: lines::put_opened(out),
-            }
+            lines::put_opened(out)
         }
     }
 }
 
 // ---- push and take
 
-// After a push or a take its answer is printed.
-fn tell<'a, 'b>(
-    smoother: FixedLagSmoother,
-    room: Room,
-    answer: Answer,
+// A frame, as its words and its numbers.
+#[derive(Clone, Copy)]
+struct FrameRef<'a> {
     words: &'a [u64],
     numbers: &'a [f64],
-    out: &'b mut [u8],
-) -> Smoothed
-    requires { Shown (answer_in answer) words.now numbers.now × (TEXT ≤ length out.old) }
-    ensures { Told room (Smoothing.pushed_as answer smoother) words.now numbers.now result out.new }
+}
+
+// A frame is pushed over so much of a window; the rest of it stays.
+// As it is: a function of its own, since of a struct's field it is known what a call leaves there where it is lent whole, and not where a part of it is lent
+// beside a part of another.
+fn push_over(
+    smoother: &mut FixedLagSmoother,
+    frame: &FrameRef<'_>,
+    size: WindowSize,
+    window: &mut [u64; WINDOW],
+    values: &mut [f64; VALUES],
+    words: &mut [u64],
+    numbers: &mut [f64],
+) -> Answer
+    requires { (size.words ≤ WINDOW) × (size.numbers ≤ VALUES) }
+    ensures promised { Promised (pushed (frame_of frame.now.words.now frame.now.numbers.now))
+        smoother.old (lent_of size (window_of window.old values.old)) words.old numbers.old
+        (pushed_as result smoother.new) (lent_of size (window_of window.new values.new)) words.new numbers.new }
+    ensures rest { rest_of size (window_of window.new values.new) ≡ rest_of size (window_of window.old values.old) }
 {
-    let end = answers::put_call(out, answer, words, numbers);
-    Smoothed {
+    smoother::push(
         smoother,
-        room,
-        end,
-    }
+        &mut window[..size.words],
+        &mut values[..size.numbers],
+        frame.words,
+        frame.numbers,
+        words,
+        numbers,
+    )
+}
+
+// After a push or a take its answer is printed.
+#[tactic(auto, using(print::proofs::Fitting::ready, print::proofs::Fitting::call_answer_few))]
+fn tell(answer: Answer, words: &[u64], numbers: &[f64], out: &mut [u8]) -> usize
+    requires { Shown (answer_in answer) words.now numbers.now × (TEXT ≤ length out.old) }
+    ensures { Ready (call_answer (answer_in answer) words.now numbers.now) out.new result }
+{
+    answers::put_call(out, answer, words, numbers)
 }
 
 // A frame is pushed.
-fn push<'a, 'b, 'c, 'd, 'e, 'f>(
-    state: FixedLagSmoother,
-    room: Room,
-    fw: &'a [u64],
-    fx: &'a [f64],
-    window: &'b mut [u64],
-    values: &'c mut [f64],
-    words: &'d mut [u64],
-    numbers: &'e mut [f64],
-    out: &'f mut [u8],
-) -> Smoothed
-    requires { Laid window.old values.old × Fits room × (TEXT ≤ length out.old) }
-    ensures fits { Fits result.room }
-    ensures answers { Answers state room (Smoothing.window window.old values.old)
-        words.old numbers.old result (Smoothing.window window.new values.new)
-        words.new numbers.new out.new
-        (pushed (frame fw.now fx.now)) }
+fn push(
+    smoother: &mut LentSmoother,
+    frame: &FrameRef<'_>,
+    words: &mut [u64],
+    numbers: &mut [f64],
+    out: &mut [u8],
+) -> usize
+    requires { TEXT ≤ length out.old }
+    ensures { Answers smoother.old words.old numbers.old smoother.new words.new numbers.new result out.new
+        (pushed (frame_of frame.now.words.now frame.now.numbers.now)) }
 {
-    let w = room.words;
-    let x = room.numbers;
-    let mut smoother = state;
-    let answer = smoother::push(
-        &mut smoother,
-        &mut window[..w],
-        &mut values[..x],
-        fw,
-        fx,
+    let size = smoother.window.room.size();
+    let answer = push_over(
+        &mut smoother.state,
+        frame,
+        size,
+        &mut smoother.window.words,
+        &mut smoother.window.values,
         words,
         numbers,
     );
-    tell(smoother, room, answer, words, numbers, out)
-}
-
-// As many words of the input as fill the list, from place n on.
-fn read_words(s: &[u8], n: usize, words: &mut [u64])
-    requires { n + SETTING * length words.old ≤ length s.now }
-    ensures { words.new ≡ rows (λ i. little SETTING s.now (n + SETTING * i)) 0 (length words.old) }
-{
-    for i in 0..words.len() {
-        words[i] = little::u64_at(s, n + SETTING * i);
-    }
-}
-
-// The same, read as numbers.
-fn read_numbers(s: &[u8], n: usize, numbers: &mut [f64])
-    requires { n + SETTING * length numbers.old ≤ length s.now }
-    ensures { numbers.new ≡ rows (λ i. of_bits binary64 (little SETTING s.now (n + SETTING * i))) 0 (length numbers.old) }
-{
-    for i in 0..numbers.len() {
-        numbers[i] = little::f64_at(s, n + SETTING * i);
-    }
+    tell(answer, words, numbers, out)
 }
 
 // The oldest frame is taken.
-fn take<'a, 'b, 'c, 'd>(
-    state: FixedLagSmoother,
-    room: Room,
-    window: &'a [u64],
-    values: &'a [f64],
-    words: &'b mut [u64],
-    numbers: &'c mut [f64],
-    out: &'d mut [u8],
-) -> Smoothed
-    requires { Laid window.now values.now × Fits room × (TEXT ≤ length out.old) }
-    ensures fits { Fits result.room }
-    ensures answers { Answers state room (Smoothing.window window.now values.now)
-        words.old numbers.old result (Smoothing.window window.now values.now)
-        words.new numbers.new out.new
-        taken }
+fn take(
+    smoother: &mut LentSmoother,
+    words: &mut [u64],
+    numbers: &mut [f64],
+    out: &mut [u8],
+) -> usize
+    requires { TEXT ≤ length out.old }
+    ensures { Answers smoother.old words.old numbers.old smoother.new words.new numbers.new result out.new taken }
 {
-    let w = room.words;
-    let x = room.numbers;
-    let mut smoother = state;
-    let answer = smoother::take(&mut smoother, &window[..w], &values[..x], words, numbers);
-    tell(smoother, room, answer, words, numbers, out)
+    let size = smoother.window.room.size();
+    let answer = smoother::take(
+        &mut smoother.state,
+        &smoother.window.words[..size.words],
+        &smoother.window.values[..size.numbers],
+        words,
+        numbers,
+    );
+    tell(answer, words, numbers, out)
+}
+
+// ---- a frame of the input
+
+// What eight bytes of the input say: a word, or the number of these bits.
+trait FromWord: Copy {
+    ghost of_word: { ℕ → Self };
+
+    fn from_word(word: u64) -> Self
+        ensures { result ≡ of_word word };
+}
+
+impl FromWord for u64 {
+    ghost of_word = { λ word. word };
+
+    fn from_word(word: u64) -> u64 {
+        word
+    }
+}
+
+impl FromWord for f64 {
+    ghost of_word = { of_bits binary64 };
+
+    fn from_word(word: u64) -> f64 {
+        bits::from_bits(word)
+    }
+}
+
+// As many words or numbers of the input as fill the list, from place n on.
+fn read<T: FromWord>(s: &[u8], n: usize, list: &mut [T])
+    requires { n + SETTING * length list.old ≤ length s.now }
+    ensures { list.new ≡ rows (λ i. T.of_word (little SETTING s.now (n + SETTING * i))) 0 (length list.old) }
+{
+    for (i, x) in list.iter_mut().enumerate() {
+        *x = T::from_word(little::u64_at(s, n + SETTING * i));
+    }
+}
+
+// A frame of the input is pushed: so many words, then so many numbers.
+fn push_read(
+    smoother: &mut LentSmoother,
+    size: FrameSize,
+    s: &[u8],
+    words: &mut [u64],
+    numbers: &mut [f64],
+    out: &mut [u8],
+) -> usize
+    requires size { (size.words ≤ LENT_WORDS) × (size.numbers ≤ LENT_NUMBERS) × (length s.now ≡ SETTING * (2 + size.words + size.numbers)) }
+    requires text { TEXT ≤ length out.old }
+    ensures { Answers smoother.old words.old numbers.old smoother.new words.new numbers.new result out.new
+        (pushed (frame_in s.now size.words size.numbers)) }
+{
+    let mut frame_words = [0u64; LENT_WORDS];
+    let mut frame_numbers = [0.0; LENT_NUMBERS];
+    read(s, SETTING * 2, &mut frame_words[..size.words]);
+    read(
+        s,
+        SETTING * (2 + size.words),
+        &mut frame_numbers[..size.numbers],
+    );
+    let frame = FrameRef {
+        words: &frame_words[..size.words],
+        numbers: &frame_numbers[..size.numbers],
+    };
+    push(smoother, &frame, words, numbers, out)
 }
 
 // ---- cells
 
 // One field of a smoother, written.
-fn write_field(state: FixedLagSmoother, index: usize, value: u64) -> FixedLagSmoother
+fn write_field(smoother: &mut FixedLagSmoother, index: usize, value: u64)
     requires { index < SMOOTHER }
-    ensures { result ≡ smoother_of (set (smoother_fields state) index value) }
+    ensures { smoother.new ≡ smoother_of (set (smoother_fields smoother.old) index value) }
 {
-    let mut fields = cells::smoother_fields(state);
+    let mut fields = cells::smoother_fields(*smoother);
     fields[index] = value;
-    cells::smoother_of(&fields)
+    *smoother = cells::smoother_of(&fields);
 }
 
 // A cell, written.
-fn write<'a, 'b>(
-    state: FixedLagSmoother,
-    cell: Cell,
-    window: &'a mut [u64],
-    values: &'b mut [f64],
-) -> FixedLagSmoother
-    requires { Laid window.old values.old × (smoother_has cell ≡ true) }
-    ensures value { result ≡ smoother_with cell state }
-    ensures values_after { Smoothing.window window.new values.new
-        ≡ window_with cell (Smoothing.window window.old values.old) }
+fn write(smoother: &mut LentSmoother, cell: Cell<SmootherPlace>)
+    requires { smoother_has cell ≡ true }
+    ensures smoother { smoother.new.state ≡ smoother_with cell smoother.old.state }
+    ensures room { smoother.new.window.room ≡ smoother.old.window.room }
+    ensures window { window_in smoother.new.window ≡ window_with cell (window_in smoother.old.window) }
 {
-    let i = cell.index;
-    let v = cell.value;
-    let place = cell.place;
-    match place {
-        0 => {
-            return write_field(state, i, v);
-        }
-        1 => {
-            window[i] = v;
-        }
-        _ => {
-            values[i] = bits::from_bits(v);
+    match cell.place {
+        SmootherPlace::Fields => write_field(&mut smoother.state, cell.index, cell.value),
+        SmootherPlace::Window => smoother.window.words[cell.index] = cell.value,
+        SmootherPlace::Values => {
+            smoother.window.values[cell.index] = bits::from_bits(cell.value)
         }
     }
-    state
 }
 
-// A call.
-pub fn call<'a, 'b, 'c, 'd, 'e, 'f, 'g, 'h>(
-    state: FixedLagSmoother,
-    room: Room,
-    last: FrameSize,
+// A call, with what follows it, the frame that the refiner gave last, and what is lent of the output buffers.
+pub fn call(
+    smoother: &mut LentSmoother,
     call: SmootherCall,
-    s: &'a [u8],
-    kept_words: &'a [u64],
-    kept_numbers: &'a [f64],
-    window: &'b mut [u64],
-    values: &'c mut [f64],
-    words: &'d mut [u64],
-    numbers: &'e mut [f64],
-    frame_words: &'f mut [u64],
-    frame_numbers: &'g mut [f64],
-    out: &'h mut [u8],
-) -> Smoothed
-    requires { Laid window.old values.old × Fits room × (TEXT ≤ length out.old) × Kept last kept_words.now kept_numbers.now
-        × Framed frame_words.old frame_numbers.old × Sane (calls.Smoother call) s.now }
-    ensures fits { Fits result.room }
-    ensures smooths { Smooths state room (Smoothing.window window.old values.old)
-        words.old numbers.old result (Smoothing.window window.new values.new)
-        words.new numbers.new out.new
-        call s.now (kept_frame last kept_words.now kept_numbers.now) }
+    s: &[u8],
+    last: &LastFrame,
+    words: &mut [u64],
+    numbers: &mut [f64],
+    out: &mut [u8],
+) -> usize
+    requires { Sane (calls.Smoother call) s.now × (TEXT ≤ length out.old) }
+    ensures { Smooths smoother.old words.old numbers.old smoother.new words.new numbers.new result out.new
+        call s.now (last_frame last.now) }
 {
     match call {
-        SmootherCall::Open => open(state, room, s, window, values, out),
+        SmootherCall::Open => open(smoother, s, out),
         SmootherCall::PushLast => {
-            let w = last.words;
-            let x = last.numbers;
-            push(
-                state,
-                room,
-                &kept_words[..w],
-                &kept_numbers[..x],
-                window,
-                values,
-                words,
-                numbers,
-                out,
-            )
+            let frame = FrameRef {
+                words: &last.words[..last.size.words],
+                numbers: &last.numbers[..last.size.numbers],
+            };
+            push(smoother, &frame, words, numbers, out)
         }
         SmootherCall::Push {
             words: w,
             numbers: x,
         } => {
-            let fw = &mut frame_words[..w];
-            let fx = &mut frame_numbers[..x];
-            read_words(s, SETTING * 2, fw);
-            read_numbers(s, SETTING * (2 + w), fx);
-            push(state, room, fw, fx, window, values, words, numbers, out)
+            let size = FrameSize {
+                words: w,
+                numbers: x,
+            };
+            push_read(smoother, size, s, words, numbers, out)
         }
-        SmootherCall::Take => take(state, room, window, values, words, numbers, out),
+        SmootherCall::Take => take(smoother, words, numbers, out),
         SmootherCall::Write(cell) => {
-            let smoother = write(state, cell, window, values);
-            Smoothed {
-                smoother,
-                room,
-                end: 0,
-            }
+            write(smoother, cell);
+            0
         }
     }
 }

@@ -10,7 +10,7 @@ use Rattle.std.proofs.lemmas.Slice.{take-put_mid_below}
 use Rattle.std.proofs.KnownBytes.{Consumes-trans}
 use Rattle.std.specs.Io.KnownBytes.{Consumes}
 use borrow.Rule.Slice.PartMut.{put_mid, post_of}
-use Rattle.std.specs.Prelude.{Some, None}
+use Rattle.std.specs.Prelude.{Some}
 use Rattle.console.specs.Input.{Within}
 
 pub read_within : (buf : List ℕ) {r : Option ℕ} {n : ℕ} → r ≡ Some n → Within r buf → (n ≤ length buf) × (n ≡ length (take n buf))

@@ -1,7 +1,7 @@
 // Standard input, read to its end, and text written to standard output. What cannot be read or written is said on standard error.
 #![tactic(auto)]
 
-ghost use Rattle.std.specs.Prelude.{◌≤◌, length};
+ghost use Rattle.std.specs.Prelude.{IsTrue};
 ghost use Rattle.console.specs.Input.{Within, Gives, Exhausts};
 
 use std::io;
@@ -61,18 +61,38 @@ pub fn read_all(rt: &(impl Input + Eprint), buf: &mut [u8]) -> Option<usize>
     read_from(rt, &mut rt.reader(), buf)
 }
 
-// The first n bytes, written to standard output; whether they were. Nothing is written where a write before has failed, so a failure is said once.
-pub fn write(rt: &(impl Print + Eprint), out: &[u8], n: usize, well: bool) -> bool
-    requires { n ≤ length out.now }
-{
-    if !well {
-        return false;
-    }
-    match rt.write_all(&out[..n]) {
+// ---- standard output
+
+// Bytes, written to standard output; whether they were. What fails is said.
+fn written(rt: &(impl Print + Eprint), text: &[u8]) -> bool {
+    match rt.write_all(text) {
         Ok(()) => true,
         Err(e) => {
             fail(rt, "standard output", e);
             false
+        }
+    }
+}
+
+// Standard output, which is open until a write fails, and then stays closed.
+#[derive(Drop)]
+pub struct Console {
+    open: bool,
+}
+
+impl Console {
+    pub fn new() -> Console
+        ensures { IsTrue result.open }
+    {
+        Console { open: true }
+    }
+
+    // A text, written, while it is open: so a failure is said once, and nothing is written after it.
+    pub fn write(&mut self, rt: &(impl Print + Eprint), text: &[u8])
+        ensures { IsTrue self.new.open → IsTrue self.old.open }
+    {
+        if self.open {
+            self.open = written(rt, text);
         }
     }
 }

@@ -61,7 +61,7 @@ pub fn dot_at(dots: &[f64; DOTS], i: usize) -> Dot
 pub fn skipped(scan: ScanIndex, last: ScanIndex) -> u64
     ensures { result ≡ gap scan.0 last.0 }
 {
-    if last.0 < scan.0 {
+    if last < scan {
         return scan.0 - last.0 - 1;
     }
     0

@@ -46,7 +46,7 @@ pub fn fold_from(
     ensures { result ≡ fold_among tracks.now filters.now count x.0 }
 {
     for n in 0..count {
-        if x.0 == fgo_part::part_id(tracks, n).0 {
+        if x == fgo_part::part_id(tracks, n) {
             return frozen_at(n, tracks, filters);
         }
     }

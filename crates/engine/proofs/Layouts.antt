@@ -1,17 +1,15 @@
 -- What holds of the layout of every kind of body, kind by kind. Assumes nothing.
-use Prim.Native.Nat.{ℕ, ◌^◌, ◌<◌, ◌≤◌}
+use Prim.Native.Nat.{ℕ, ◌^◌, ◌≤◌}
 use mathlib.Core.Path.{◌≡◌, refl}
 use mathlib.Core.List.{List}
 use native.Mathlib.Omega.{arith}
 use lib.ListN.{length, get_or}
-use mir.Syntax.{w8}
-use mir.Val.{Fits}
 use Rattle.bounds.specs.Bounds.{OBSERVATIONS, ASSOCIATIONS, HEADER, BODY}
 use Rattle.engine.specs.declared.types.Association.{Association}
 use Rattle.engine.specs.declared.types.BodyKind.{BodyKind}
 use Rattle.engine.specs.declared.types.BodyKind.TheVariants.{Narrow}
 use Rattle.engine.specs.Body.{Layout, layout_of, refusal, track_count, sensor_count, observation_count, association_count, association_at}
-use Rattle.engine.proofs.Bytes.{little-one, little_below}
+use Rattle.engine.proofs.Bytes.{little-one}
 use Rattle.engine.proofs.Passing.{sized-body, few_sensors}
 
 -- ---- how much a body has room for
@@ -39,25 +37,6 @@ pub fits_body : {k : Layout} → Within k → (s : List ℕ) → refusal k s ≡
 fits_body {k} w s h = let z = sized-body k s h in omega (arith, z.exact, z.tracks, z.observations, z.associations, few_sensors z)
 
 -- ---- reading
-
--- every count is small, whatever the bytes
-pub record Small (k : Layout) (s : List ℕ) : Type 0 where
-  pub head : k.head < 2 ^ 16
-  pub tracks : track_count k s < 2 ^ 16
-  pub sensors : sensor_count k s < 2 ^ 16
-  pub observations : observation_count k s < 2 ^ 16
-  pub associations : association_count k s < 2 ^ 16
-
-module _ (s : List ℕ) (bytes : (i : ℕ) → Fits w8 (get_or s i 0)) where
-  pub small : (b : BodyKind) → Small (layout_of b) s
-  small Narrow =
-      record {
-        head = omega arith;
-        tracks = omega (arith, (bytes 1).fits);
-        sensors = omega (arith, (bytes 4).fits);
-        observations = omega (arith, little_below 1 s 2 bytes);
-        associations = omega (arith, little_below 1 s 3 bytes);
-      }
 
 -- where each count stands
 pub sensors_at : (b : BodyKind) (s : List ℕ) {r : ℕ} → r ≡ get_or s 4 0 → r ≡ sensor_count (layout_of b) s

@@ -1,5 +1,6 @@
 pub mod Bytes
 pub mod Every
+pub mod Ids
 pub mod Passing
 pub mod Named
 pub mod Layouts

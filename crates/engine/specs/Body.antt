@@ -4,6 +4,7 @@ use Rattle.std.specs.Float.{binary64}
 use Rattle.std.specs.Float.Ieee.{of_bits}
 use Rattle.bounds.specs.Bounds.{TIME, ENGINES, SENSORS, OBSERVATIONS, ASSOCIATIONS, HEADER, ENGINE, SENSOR, OBSERVATION, ASSOCIATION}
 use Rattle.scalar.specs.Scalar.{finite, signed}
+use Rattle.engine.specs.declared.body.Body as lent
 use Rattle.engine.specs.declared.types.BodyKind.{BodyKind}
 use Rattle.engine.specs.declared.types.BodyKind.TheVariants.{Narrow}
 use Rattle.engine.specs.declared.types.EngineTrack.{EngineTrack}
@@ -55,6 +56,10 @@ pub record Body : Type 0 where
 -- the body of a kind that has some bytes
 abbrev pub body : BodyKind → List ℕ → Body
 body k s = record { kind = k; bytes = s }
+
+-- the body that a caller lends
+abbrev pub body_of : lent.Body → Body
+body_of b = body b.kind b.bytes.now
 
 -- the layout of a body
 abbrev pub layout : Body → Layout
@@ -233,13 +238,17 @@ frame_in b = frame_of (layout b) b.bytes
 abbrev pub body_refusal : Body → ℕ
 body_refusal b = refusal (layout b) b.bytes
 
--- how many engine tracks, sensors and associations it says
+-- how many engine tracks, sensors, observations and associations it says
 abbrev pub tracks_in : Body → ℕ
 tracks_in b = track_count (layout b) b.bytes
 
 -- sensors
 abbrev pub sensors_in : Body → ℕ
 sensors_in b = sensor_count (layout b) b.bytes
+
+-- observations
+abbrev pub observations_in : Body → ℕ
+observations_in b = observation_count (layout b) b.bytes
 
 -- associations
 abbrev pub associations_in : Body → ℕ

@@ -1,10 +1,10 @@
 // A frame's body: its header and its fields.
-ghost use Rattle.std.specs.Prelude.{◌≡◌, ◌+◌, ◌≤◌, length, get_or};
+ghost use Rattle.std.specs.Prelude.{◌≡◌, ◌+◌, ◌^◌, ◌<◌, ◌≤◌, length, get_or};
 ghost use Rattle.engine.specs.Frame.{associated_of, class_of, cost_of, no_track, no_observation, no_association};
 ghost use Rattle.bounds.specs.Bounds.{ENGINE, OBSERVATION, ASSOCIATION};
-ghost use Rattle.engine.specs.Body.{layout_of, track_count, sensor_count, observation_count, association_count};
-ghost use Rattle.engine.specs.Body.{sensors_from, observations_from, associations_from, refusal};
-ghost use Rattle.engine.specs.Body.{frame_of, track_at, observation_at, association_at, time_read, sensor_read, track_read, observation_read, association_read};
+ghost use Rattle.engine.specs.Body.{layout_of, body_of, tracks_in, sensors_in, observations_in, associations_in, sensors_from, observations_from};
+ghost use Rattle.engine.specs.Body.{associations_from, frame_in, body_refusal, track_at, observation_at, association_at, time_read, sensor_read};
+ghost use Rattle.engine.specs.Body.{track_read, observation_read, association_read};
 
 use crate::little;
 use crate::types::{
@@ -13,108 +13,19 @@ use crate::types::{
 };
 use bounds::{ASSOCIATION, ENGINE, HEADER, OBSERVATION, SENSOR};
 
-// ---- the header
+// A body, by its kind and its bytes, whatever they are.
+#[derive(Clone, Copy)]
+pub struct Body<'a> {
+    pub kind: BodyKind,
+    pub bytes: &'a [u8],
+}
 
 // A byte of the header as a count; 0 past the end.
 fn count_at(s: &[u8], o: usize) -> usize
-    ensures { result ≡ get_or s.now o 0 }
+    ensures value { result ≡ get_or s.now o 0 }
+    ensures small { result < 2 ^ 8 }
 {
     if o < s.len() { s[o] as usize } else { 0 }
-}
-
-// The bytes of the header.
-pub fn header_size(kind: BodyKind) -> usize
-    ensures { result ≡ (layout_of kind).head }
-{
-    match kind {
-        BodyKind::Narrow => HEADER,
-    }
-}
-
-pub fn track_count(kind: BodyKind, s: &[u8]) -> usize
-    ensures { result ≡ track_count (layout_of kind) s.now }
-{
-    match kind {
-        BodyKind::Narrow => count_at(s, 1),
-    }
-}
-
-pub fn sensor_count(kind: BodyKind, s: &[u8]) -> usize
-    ensures { result ≡ sensor_count (layout_of kind) s.now }
-{
-    match kind {
-        BodyKind::Narrow => count_at(s, 4),
-    }
-}
-
-pub fn observation_count(kind: BodyKind, s: &[u8]) -> usize
-    ensures { result ≡ observation_count (layout_of kind) s.now }
-{
-    match kind {
-        BodyKind::Narrow => count_at(s, 2),
-    }
-}
-
-pub fn association_count(kind: BodyKind, s: &[u8]) -> usize
-    ensures { result ≡ association_count (layout_of kind) s.now }
-{
-    match kind {
-        BodyKind::Narrow => count_at(s, 3),
-    }
-}
-
-fn sensors_from(kind: BodyKind, s: &[u8]) -> usize
-    ensures { result ≡ sensors_from (layout_of kind) s.now }
-{
-    header_size(kind) + ENGINE * track_count(kind, s)
-}
-
-pub fn observations_from(kind: BodyKind, s: &[u8]) -> usize
-    ensures { result ≡ observations_from (layout_of kind) s.now }
-{
-    sensors_from(kind, s) + SENSOR * sensor_count(kind, s)
-}
-
-pub fn associations_from(kind: BodyKind, s: &[u8]) -> usize
-    ensures { result ≡ associations_from (layout_of kind) s.now }
-{
-    observations_from(kind, s) + OBSERVATION * observation_count(kind, s)
-}
-
-// ---- the fields: each reader answers, on any bytes, the field where its bytes are all there, and else 0 or the value for none; for a body that passes this
-// is what the frame says
-
-pub fn mode(kind: BodyKind, s: &[u8]) -> TrackingMode
-    ensures { result ≡ (frame_of (layout_of kind) s.now).mode }
-{
-    if s.len() == 0 {
-        return TrackingMode::LidarOnly;
-    }
-    TrackingMode::from(s[0])
-}
-
-pub fn time_of(kind: BodyKind, s: &[u8]) -> i64
-    ensures { (result ≡ time_read (layout_of kind) s.now) × (refusal (layout_of kind) s.now ≡ 0 → result ≡ (frame_of (layout_of kind) s.now).time) }
-{
-    if s.len() < header_size(kind) {
-        return 0;
-    }
-    little::i64_at(s, 8)
-}
-
-// The id of sensor i; 0 past the last.
-pub fn sensor(kind: BodyKind, s: &[u8], i: usize) -> u64
-    ensures { (result ≡ sensor_read (layout_of kind) s.now i)
-        × (refusal (layout_of kind) s.now ≡ 0 → result ≡ get_or (frame_of (layout_of kind) s.now).sensors i 0) }
-{
-    if sensor_count(kind, s) <= i {
-        return 0;
-    }
-    let o = sensors_from(kind, s) + SENSOR * i;
-    if s.len() < o + SENSOR {
-        return 0;
-    }
-    little::u32_at(s, o)
 }
 
 fn class_of(b: u8, v: u32) -> Option<u32>
@@ -142,21 +53,6 @@ fn no_track() -> EngineTrack
     EngineTrack { id, class: None }
 }
 
-// Engine track i.
-pub fn track(kind: BodyKind, s: &[u8], i: usize) -> EngineTrack
-    ensures { (result ≡ track_read (layout_of kind) s.now i)
-        × (refusal (layout_of kind) s.now ≡ 0 → result ≡ get_or (frame_of (layout_of kind) s.now).tracks i no_track) }
-{
-    if track_count(kind, s) <= i {
-        return no_track();
-    }
-    let o = header_size(kind) + ENGINE * i;
-    if s.len() < o + ENGINE {
-        return no_track();
-    }
-    track_at(s, o)
-}
-
 fn observation_at(s: &[u8], o: usize) -> Observation
     requires { o + OBSERVATION ≤ length s.now }
     ensures { result ≡ observation_at s.now o }
@@ -178,22 +74,6 @@ fn no_observation() -> Observation
     }
 }
 
-// The observation at an index.
-pub fn observation(kind: BodyKind, s: &[u8], index: ObservationIndex) -> Observation
-    ensures { (result ≡ observation_read (layout_of kind) s.now index.0)
-        × (refusal (layout_of kind) s.now ≡ 0 → result ≡ get_or (frame_of (layout_of kind) s.now).observations index.0 no_observation) }
-{
-    let i = index.0;
-    if observation_count(kind, s) <= i {
-        return no_observation();
-    }
-    let o = observations_from(kind, s) + OBSERVATION * i;
-    if s.len() < o + OBSERVATION {
-        return no_observation();
-    }
-    observation_at(s, o)
-}
-
 fn associated_of(b: u8, v: u64) -> Option<EngineId>
     ensures { result ≡ associated_of b v }
 {
@@ -212,26 +92,6 @@ fn cost_of(b: u8, v: f64) -> Option<f64>
     }
 }
 
-fn association_at(kind: BodyKind, s: &[u8], o: usize) -> Association
-    requires { o + ASSOCIATION ≤ length s.now }
-    ensures { result ≡ association_at (layout_of kind).width s.now o }
-{
-    match kind {
-        BodyKind::Narrow => {
-            let index = ObservationIndex(s[o] as usize);
-            let track = associated_of(s[o + 1], little::u64_at(s, o + 8));
-            let outcome = Outcome::from(s[o + 2]);
-            let cost = cost_of(s[o + 3], little::f64_at(s, o + 16));
-            Association {
-                index,
-                track,
-                outcome,
-                cost,
-            }
-        }
-    }
-}
-
 fn no_association() -> Association
     ensures { result ≡ no_association }
 {
@@ -244,17 +104,174 @@ fn no_association() -> Association
     }
 }
 
-// Association j, in the frame's order.
-pub fn association(kind: BodyKind, s: &[u8], j: usize) -> Association
-    ensures { (result ≡ association_read (layout_of kind) s.now j)
-        × (refusal (layout_of kind) s.now ≡ 0 → result ≡ get_or (frame_of (layout_of kind) s.now).associations j no_association) }
-{
-    if association_count(kind, s) <= j {
-        return no_association();
+impl<'a> Body<'a> {
+    // The bytes of the header.
+    pub fn header_size(&self) -> usize
+        ensures size { result ≡ (layout_of self.now.kind).head }
+        ensures small { result < 2 ^ 8 }
+    {
+        match self.kind {
+            BodyKind::Narrow => HEADER,
+        }
     }
-    let o = associations_from(kind, s) + ASSOCIATION * j;
-    if s.len() < o + ASSOCIATION {
-        return no_association();
+
+    pub fn track_count(&self) -> usize
+        ensures count { result ≡ tracks_in (body_of self.now) }
+        ensures small { result < 2 ^ 8 }
+    {
+        match self.kind {
+            BodyKind::Narrow => count_at(self.bytes, 1),
+        }
     }
-    association_at(kind, s, o)
+
+    pub fn sensor_count(&self) -> usize
+        ensures count { result ≡ sensors_in (body_of self.now) }
+        ensures small { result < 2 ^ 8 }
+    {
+        match self.kind {
+            BodyKind::Narrow => count_at(self.bytes, 4),
+        }
+    }
+
+    pub fn observation_count(&self) -> usize
+        ensures count { result ≡ observations_in (body_of self.now) }
+        ensures small { result < 2 ^ 8 }
+    {
+        match self.kind {
+            BodyKind::Narrow => count_at(self.bytes, 2),
+        }
+    }
+
+    pub fn association_count(&self) -> usize
+        ensures count { result ≡ associations_in (body_of self.now) }
+        ensures small { result < 2 ^ 8 }
+    {
+        match self.kind {
+            BodyKind::Narrow => count_at(self.bytes, 3),
+        }
+    }
+
+    fn sensors_from(&self) -> usize
+        ensures place { result ≡ sensors_from (layout_of self.now.kind) self.now.bytes.now }
+        ensures small { result < 2 ^ 14 }
+    {
+        self.header_size() + ENGINE * self.track_count()
+    }
+
+    pub fn observations_from(&self) -> usize
+        ensures place { result ≡ observations_from (layout_of self.now.kind) self.now.bytes.now }
+        ensures small { result < 2 ^ 15 }
+    {
+        self.sensors_from() + SENSOR * self.sensor_count()
+    }
+
+    pub fn associations_from(&self) -> usize
+        ensures place { result ≡ associations_from (layout_of self.now.kind) self.now.bytes.now }
+        ensures small { result < 2 ^ 16 }
+    {
+        self.observations_from() + OBSERVATION * self.observation_count()
+    }
+
+    // ---- the fields: each reader answers, on any bytes, the field where its bytes are all there, and else 0 or the value for none; for a body that passes
+    // this is what the frame says
+
+    pub fn mode(&self) -> TrackingMode
+        ensures { result ≡ (frame_in (body_of self.now)).mode }
+    {
+        if self.bytes.len() == 0 {
+            return TrackingMode::LidarOnly;
+        }
+        TrackingMode::from(self.bytes[0])
+    }
+
+    pub fn time(&self) -> i64
+        ensures { (result ≡ time_read (layout_of self.now.kind) self.now.bytes.now)
+            × (body_refusal (body_of self.now) ≡ 0 → result ≡ (frame_in (body_of self.now)).time) }
+    {
+        if self.bytes.len() < self.header_size() {
+            return 0;
+        }
+        little::i64_at(self.bytes, 8)
+    }
+
+    // The id of sensor i; 0 past the last.
+    pub fn sensor(&self, i: usize) -> u64
+        ensures { (result ≡ sensor_read (layout_of self.now.kind) self.now.bytes.now i)
+            × (body_refusal (body_of self.now) ≡ 0 → result ≡ get_or (frame_in (body_of self.now)).sensors i 0) }
+    {
+        if self.sensor_count() <= i {
+            return 0;
+        }
+        let o = self.sensors_from() + SENSOR * i;
+        if self.bytes.len() < o + SENSOR {
+            return 0;
+        }
+        little::u32_at(self.bytes, o)
+    }
+
+    // Engine track i.
+    pub fn track(&self, i: usize) -> EngineTrack
+        ensures { (result ≡ track_read (layout_of self.now.kind) self.now.bytes.now i)
+            × (body_refusal (body_of self.now) ≡ 0 → result ≡ get_or (frame_in (body_of self.now)).tracks i no_track) }
+    {
+        if self.track_count() <= i {
+            return no_track();
+        }
+        let o = self.header_size() + ENGINE * i;
+        if self.bytes.len() < o + ENGINE {
+            return no_track();
+        }
+        track_at(self.bytes, o)
+    }
+
+    // The observation at an index.
+    pub fn observation(&self, index: ObservationIndex) -> Observation
+        ensures { (result ≡ observation_read (layout_of self.now.kind) self.now.bytes.now index.0)
+            × (body_refusal (body_of self.now) ≡ 0 → result ≡ get_or (frame_in (body_of self.now)).observations index.0 no_observation) }
+    {
+        let i = index.0;
+        if self.observation_count() <= i {
+            return no_observation();
+        }
+        let o = self.observations_from() + OBSERVATION * i;
+        if self.bytes.len() < o + OBSERVATION {
+            return no_observation();
+        }
+        observation_at(self.bytes, o)
+    }
+
+    fn association_at(&self, o: usize) -> Association
+        requires { o + ASSOCIATION ≤ length self.now.bytes.now }
+        ensures { result ≡ association_at (layout_of self.now.kind).width self.now.bytes.now o }
+    {
+        match self.kind {
+            BodyKind::Narrow => {
+                let index = ObservationIndex(self.bytes[o] as usize);
+                let track = associated_of(self.bytes[o + 1], little::u64_at(self.bytes, o + 8));
+                let outcome = Outcome::from(self.bytes[o + 2]);
+                let cost = cost_of(self.bytes[o + 3], little::f64_at(self.bytes, o + 16));
+                Association {
+                    index,
+                    track,
+                    outcome,
+                    cost,
+                }
+            }
+        }
+    }
+
+    // Association j, in the frame's order.
+    pub fn association(&self, j: usize) -> Association
+        ensures { (result ≡ association_read (layout_of self.now.kind) self.now.bytes.now j)
+            × (body_refusal (body_of self.now) ≡ 0 → result ≡ get_or (frame_in (body_of self.now)).associations j no_association) }
+    {
+        if self.association_count() <= j {
+            return no_association();
+        }
+        let o = self.associations_from() + ASSOCIATION * j;
+        if self.bytes.len() < o + ASSOCIATION {
+            return no_association();
+        }
+        self.association_at(o)
+    }
 }

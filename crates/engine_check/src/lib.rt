@@ -6,13 +6,14 @@ ghost use Rattle.bounds.specs.Bounds.{SENSORS, OBSERVATIONS, ENGINE, OBSERVATION
 ghost use Rattle.refusals.specs.Refusals.{refused};
 ghost use Rattle.engine.specs.Little.{little};
 ghost use Rattle.engine.specs.Body.{layout_of, all, code_ok, present_ok, time_ok, zeros_ok, track_ok};
-ghost use Rattle.engine.specs.Body.{association_ok, observation_ok, index_ok, size, head_ok, refusal};
+ghost use Rattle.engine.specs.Body.{association_ok, observation_ok, index_ok, size, head_ok, body_of, body_refusal};
 
 use bounds::{
     ASSOCIATION, ASSOCIATIONS, ENGINE, ENGINES, OBSERVATION, OBSERVATIONS, SENSORS, TIME,
 };
+use engine::body::Body;
+use engine::little;
 use engine::types::BodyKind;
-use engine::{body, little};
 use refusals::Refusal;
 use scalar::bits;
 
@@ -49,10 +50,10 @@ pub fn time_ok(t: i64) -> bool
 
 // ---- the header
 
-fn size_of(kind: BodyKind, s: &[u8]) -> usize
-    ensures { result ≡ size (layout_of kind) s.now }
+fn size_of(b: &Body<'_>) -> usize
+    ensures { result ≡ size (layout_of b.now.kind) b.now.bytes.now }
 {
-    body::associations_from(kind, s) + ASSOCIATION * body::association_count(kind, s)
+    b.associations_from() + ASSOCIATION * b.association_count()
 }
 
 // The most observations of a kind of body.
@@ -74,12 +75,12 @@ fn associations_most(kind: BodyKind) -> usize
 }
 
 // The zeros of a header, which must be there.
-fn zeros_ok(kind: BodyKind, s: &[u8]) -> bool
-    requires { (layout_of kind).head ≤ length s.now }
-    ensures { result ≡ zeros_ok (layout_of kind).zeros s.now }
+fn zeros_ok(b: &Body<'_>) -> bool
+    requires { (layout_of b.now.kind).head ≤ length b.now.bytes.now }
+    ensures { result ≡ zeros_ok (layout_of b.now.kind).zeros b.now.bytes.now }
 {
-    match kind {
-        BodyKind::Narrow => little::u24_at(s, 5) == 0,
+    match b.kind {
+        BodyKind::Narrow => little::u24_at(b.bytes, 5) == 0,
     }
 }
 
@@ -89,35 +90,35 @@ fn sensors_most(tracks: usize) -> usize
     if tracks == 0 { 0 } else { SENSORS }
 }
 
-fn head_ok(kind: BodyKind, s: &[u8]) -> bool
-    ensures { result ≡ head_ok (layout_of kind) s.now }
+fn head_ok(b: &Body<'_>) -> bool
+    ensures { result ≡ head_ok (layout_of b.now.kind) b.now.bytes.now }
 {
-    if s.len() < body::header_size(kind) {
+    if b.bytes.len() < b.header_size() {
         return false;
     }
-    if !code_ok(s[0]) {
+    if !code_ok(b.bytes[0]) {
         return false;
     }
-    let tracks = body::track_count(kind, s);
+    let tracks = b.track_count();
     if ENGINES < tracks {
         return false;
     }
-    if observations_most(kind) < body::observation_count(kind, s) {
+    if observations_most(b.kind) < b.observation_count() {
         return false;
     }
-    if associations_most(kind) < body::association_count(kind, s) {
+    if associations_most(b.kind) < b.association_count() {
         return false;
     }
-    if sensors_most(tracks) < body::sensor_count(kind, s) {
+    if sensors_most(tracks) < b.sensor_count() {
         return false;
     }
-    if !zeros_ok(kind, s) {
+    if !zeros_ok(b) {
         return false;
     }
-    if !time_ok(little::i64_at(s, 8)) {
+    if !time_ok(little::i64_at(b.bytes, 8)) {
         return false;
     }
-    s.len() == size_of(kind, s)
+    b.bytes.len() == size_of(b)
 }
 
 // ---- the rows
@@ -161,21 +162,21 @@ fn narrow_association_ok(s: &[u8], o: usize) -> bool
     little::u32_at(s, o + 4) == 0
 }
 
-fn association_ok(kind: BodyKind, s: &[u8], o: usize) -> bool
-    requires { o + ASSOCIATION ≤ length s.now }
-    ensures { result ≡ association_ok (layout_of kind).width s.now o }
+fn association_ok(b: &Body<'_>, o: usize) -> bool
+    requires { o + ASSOCIATION ≤ length b.now.bytes.now }
+    ensures { result ≡ association_ok (layout_of b.now.kind).width b.now.bytes.now o }
 {
-    match kind {
-        BodyKind::Narrow => narrow_association_ok(s, o),
+    match b.kind {
+        BodyKind::Narrow => narrow_association_ok(b.bytes, o),
     }
 }
 
-fn associations_ok(kind: BodyKind, s: &[u8], from: usize, n: usize) -> bool
-    requires { from + ASSOCIATION * n ≤ length s.now }
-    ensures { result ≡ all (λ j. association_ok (layout_of kind).width s.now (from + ASSOCIATION * j)) n }
+fn associations_ok(b: &Body<'_>, from: usize, n: usize) -> bool
+    requires { from + ASSOCIATION * n ≤ length b.now.bytes.now }
+    ensures { result ≡ all (λ j. association_ok (layout_of b.now.kind).width b.now.bytes.now (from + ASSOCIATION * j)) n }
 {
     for j in 0..n {
-        if !association_ok(kind, s, from + ASSOCIATION * j) {
+        if !association_ok(b, from + ASSOCIATION * j) {
             return false;
         }
     }
@@ -208,23 +209,23 @@ fn observations_ok(s: &[u8], from: usize, n: usize) -> bool
 }
 
 // The index of the association at place o.
-fn index_at(kind: BodyKind, s: &[u8], o: usize) -> usize
-    requires { o + ASSOCIATION ≤ length s.now }
-    ensures { result ≡ little (layout_of kind).width s.now o }
+fn index_at(b: &Body<'_>, o: usize) -> usize
+    requires { o + ASSOCIATION ≤ length b.now.bytes.now }
+    ensures { result ≡ little (layout_of b.now.kind).width b.now.bytes.now o }
 {
-    match kind {
-        BodyKind::Narrow => s[o] as usize,
+    match b.kind {
+        BodyKind::Narrow => b.bytes[o] as usize,
     }
 }
 
 // No index is past the n observations or stands twice: a table of the indices seen says so.
-fn indices_ok(kind: BodyKind, s: &[u8], from: usize, n: usize, m: usize) -> bool
-    requires { (from + ASSOCIATION * m ≤ length s.now) × (n ≤ OBSERVATIONS) }
-    ensures { result ≡ all (index_ok (layout_of kind).width s.now from n) m }
+fn indices_ok(b: &Body<'_>, from: usize, n: usize, m: usize) -> bool
+    requires { (from + ASSOCIATION * m ≤ length b.now.bytes.now) × (n ≤ OBSERVATIONS) }
+    ensures { result ≡ all (index_ok (layout_of b.now.kind).width b.now.bytes.now from n) m }
 {
     let mut seen = [false; OBSERVATIONS];
     for j in 0..m {
-        let x = index_at(kind, s, from + ASSOCIATION * j);
+        let x = index_at(b, from + ASSOCIATION * j);
         if n <= x {
             return false;
         }
@@ -237,25 +238,25 @@ fn indices_ok(kind: BodyKind, s: &[u8], from: usize, n: usize, m: usize) -> bool
 }
 
 // Whether bytes are a frame's body; or the refusal that they get, in the table's order: 5, 6 or 7.
-pub fn check_body(kind: BodyKind, s: &[u8]) -> Result<(), Refusal>
-    ensures { refused result ≡ refusal (layout_of kind) s.now }
+pub fn check_body(b: &Body<'_>) -> Result<(), Refusal>
+    ensures { refused result ≡ body_refusal (body_of b.now) }
 {
-    if !head_ok(kind, s) {
+    if !head_ok(b) {
         return Err(Refusal::Frame);
     }
-    if !tracks_ok(s, body::header_size(kind), body::track_count(kind, s)) {
+    if !tracks_ok(b.bytes, b.header_size(), b.track_count()) {
         return Err(Refusal::Frame);
     }
-    let from = body::associations_from(kind, s);
-    let associations = body::association_count(kind, s);
-    if !associations_ok(kind, s, from, associations) {
+    let from = b.associations_from();
+    let associations = b.association_count();
+    if !associations_ok(b, from, associations) {
         return Err(Refusal::Frame);
     }
-    let observations = body::observation_count(kind, s);
-    if !observations_ok(s, body::observations_from(kind, s), observations) {
+    let observations = b.observation_count();
+    if !observations_ok(b.bytes, b.observations_from(), observations) {
         return Err(Refusal::Coordinate);
     }
-    if !indices_ok(kind, s, from, observations, associations) {
+    if !indices_ok(b, from, observations, associations) {
         return Err(Refusal::Index);
     }
     Ok(())

@@ -60,7 +60,7 @@ GivenSized (gives e) = Sized e
 -- A call that is due a, and is given the refiner r, the memory m and the output buffers ws and ns, answers o and leaves u, m', ws' and ns': state,
 -- memory and output. Settings stay, bodies that pass stay the only ones held, and a frame that is given is sized so.
 pub record Promised (a : Reply Emitted × State) (r : FixedLagRefiner) (m : Memory) (ws : List ℕ) (ns : List Float)
-  (o : Answer) (u : FixedLagRefiner) (m' : Memory) (ws' : List ℕ) (ns' : List Float) : Type 0 where
+    (o : Answer) (u : FixedLagRefiner) (m' : Memory) (ws' : List ℕ) (ns' : List Float) : Type 0 where
   pub ends : Ends written state_of a r m ws ns o u m' ws' ns'
   pub settings : u.config ≡ r.config
   pub bodies :

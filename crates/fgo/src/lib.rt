@@ -4,7 +4,7 @@
 ghost use Rattle.std.specs.Prelude.{◌≡◌, ◌≤◌};
 ghost use Rattle.buffers.specs.Answer.{answer_in, opening_of, opened_by, pushed, taken};
 ghost use Rattle.refusals.specs.Refusals.{refused};
-ghost use Rattle.engine.specs.Body.{body as body_of};
+ghost use Rattle.engine.specs.Body.{body_of};
 ghost use Rattle.fgo_spec.specs.Refiner.{takes};
 ghost use Rattle.fgo_state.specs.Memory.{state_of};
 ghost use Rattle.fgo_emit.specs.Writing.{Roomy};
@@ -12,9 +12,9 @@ ghost use Rattle.fgo_arrive.specs.Arriving.{Ready};
 ghost use Rattle.fgo.specs.Promise.{new_by, open_refusal, later_refusal, due, Promised, counted_in, counted_by, count_refusal};
 
 use buffers::Answer;
-use engine::body;
+use engine::body::Body;
 use engine::config::FgoConfig;
-use engine::types::{BodyKind, RefinedId, ScanIndex};
+use engine::types::{RefinedId, ScanIndex};
 use fgo_place::own;
 use fgo_spec::moves::FgoCounters;
 use fgo_state::state::{FixedLagRefiner, Memory};
@@ -69,7 +69,7 @@ fn freeze_oldest(
     let scans = &memory.scans;
     let many = fgo_freeze::freeze_scan(r.config, scans, n, &mut memory.parts, r.frozen);
     let size = fgo_emit::put_frame(r.config, scans, n, &memory.parts, many, words, numbers);
-    let time = body::time_of(scans.kind_of(n), scans.body_in(n));
+    let time = scans.body(n).time();
     r.first = ScanIndex(n.0 + 1);
     r.held -= 1;
     r.frozen = fgo_freeze::forget(
@@ -123,21 +123,20 @@ pub fn take(
     freeze_oldest(r, memory, words, numbers)
 }
 
-// A frame, by the kind and the bytes of its body: 3, 4, 5, 6, 7, 8, 9 or 10; or held; or the oldest frame, where more than the lag are held.
+// A frame, by its body: 3, 4, 5, 6, 7, 8, 9 or 10; or held; or the oldest frame, where more than the lag are held.
 pub fn push(
     r: &mut FixedLagRefiner,
-    kind: BodyKind,
-    s: &[u8],
+    b: &Body<'_>,
     memory: &mut Memory,
     words: &mut [u64],
     numbers: &mut [f64],
 ) -> Answer
-    ensures { Promised (due r.old memory.old (pushed (body_of kind s.now)) words.old numbers.old) r.old memory.old words.old numbers.old
+    ensures { Promised (due r.old memory.old (pushed (body_of b.now)) words.old numbers.old) r.old memory.old words.old numbers.old
         (answer_in result) r.new memory.new words.new numbers.new }
 {
     check_call(r, memory, words.len(), numbers.len())?;
-    fgo_refuse::check_push(r, &memory.scans, &memory.owners, kind, s)?;
-    fgo_arrive::arrive(r, kind, s, memory);
+    fgo_refuse::check_push(r, &memory.scans, &memory.owners, b)?;
+    fgo_arrive::arrive(r, b, memory);
     if r.config.lag_frames < r.held {
         return freeze_oldest(r, memory, words, numbers);
     }

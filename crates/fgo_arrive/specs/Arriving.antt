@@ -47,7 +47,7 @@ pub record HeldBy (r : FixedLagRefiner) (b : Body) (bodies columns owners : List
   pub owned : u.owned ≤ OWNED
   pub owners_are : owners_in owners' u.owned ≡ (placed_by r b owners).owners
   pub scans : scans_in bodies' columns' r.first.0 (r.held + 1)
-    ≡ scans_in bodies columns r.first.0 r.held ++ (record { frame = frame_in b; ids = (placed_by r b owners).ids } ∷ [])
+      ≡ scans_in bodies columns r.first.0 r.held ++ (record { frame = frame_in b; ids = (placed_by r b owners).ids } ∷ [])
   pub older : (i : ℕ) → i < r.held → body_at bodies' columns' (r.first.0 + i) ≡ body_at bodies columns (r.first.0 + i)
   pub newest : body_at bodies' columns' (r.first.0 + r.held) ≡ b
 

@@ -5,7 +5,7 @@ ghost use Rattle.std.specs.Prelude.{◌≡◌, ◌+◌, ◌*◌, ◌<◌, ◌≤
 ghost use Rattle.std.specs.Float.{nan};
 ghost use Rattle.bounds.specs.Bounds.{FROZEN, HEIGHTS, HEAD, LINK, VECTOR};
 ghost use Rattle.engine.specs.Config.{coast};
-ghost use Rattle.engine.specs.Body.{body as body_of, time_ok, frame_in, body_refusal, sensors_in, associations_in};
+ghost use Rattle.engine.specs.Body.{body_of, time_ok, frame_in, body_refusal, sensors_in, associations_in};
 ghost use Rattle.engine.specs.Encode.{cost_present};
 ghost use Rattle.fgo_spec.specs.Freezing as freezing;
 ghost use Rattle.fgo_spec.specs.Emitting as spec;
@@ -16,7 +16,7 @@ ghost use Rattle.fgo_emit.specs.Writing.{Lists, report_in, PutsTrack, PutTrack, 
 
 use bounds::{HEAD, HEIGHTS, LINK, PARTS, STATE, TRACK, VECTOR};
 use buffers::{FrameSize, put};
-use engine::body;
+use engine::body::Body;
 use engine::config::FgoConfig;
 use engine::types::{Association, BodyKind, RefinedId, ScanIndex};
 use fgo_part::{FrozenParts, Prefix, class_word, part_id, part_last_ns};
@@ -140,7 +140,9 @@ fn put_tracks(
     numbers: &mut [f64],
 ) -> usize
     requires { PartsOk time parts.now.tracks parts.now.filters frozen × Roomy words.old numbers.old }
-    ensures { PutTracks (spec.listing c time (table_in parts.now.tracks parts.now.filters frozen)) result words.old numbers.old words.new numbers.new }
+    ensures tracks { PutTracks (spec.listing c time (table_in parts.now.tracks parts.now.filters frozen)) result
+        words.old numbers.old words.new numbers.new }
+    ensures few { result ≤ FROZEN }
 {
     let mut i: usize = 0;
     for k in 0..frozen {
@@ -185,19 +187,12 @@ fn association_words(a: Association, id: RefinedId) -> [u64; LINK]
 }
 
 // The associations of a scan, from place o on.
-fn put_associations(
-    kind: BodyKind,
-    s: &[u8],
-    scans: &Scans,
-    n: ScanIndex,
-    words: &mut [u64],
-    o: usize,
-)
-    requires { (body_refusal (body_of kind s.now) ≡ 0) × (o + LINK * associations_in (body_of kind s.now) ≤ length words.old) }
-    ensures { words.new ≡ over o (links_in scans.now.columns n.0 (body_of kind s.now)) words.old }
+fn put_associations(b: &Body<'_>, scans: &Scans, n: ScanIndex, words: &mut [u64], o: usize)
+    requires { (body_refusal (body_of b.now) ≡ 0) × (o + LINK * associations_in (body_of b.now) ≤ length words.old) }
+    ensures { words.new ≡ over o (links_in scans.now.columns n.0 (body_of b.now)) words.old }
 {
-    for j in 0..body::association_count(kind, s) {
-        let a = body::association(kind, s, j);
+    for j in 0..b.association_count() {
+        let a = b.association(j);
         put(
             words,
             o + LINK * j,
@@ -207,38 +202,38 @@ fn put_associations(
 }
 
 // The costs of a scan's associations, from place o on.
-fn put_costs(kind: BodyKind, s: &[u8], numbers: &mut [f64], o: usize)
-    requires { (body_refusal (body_of kind s.now) ≡ 0) × (o + associations_in (body_of kind s.now) ≤ length numbers.old) }
-    ensures { numbers.new ≡ over o (costs_in (body_of kind s.now)) numbers.old }
+fn put_costs(b: &Body<'_>, numbers: &mut [f64], o: usize)
+    requires { (body_refusal (body_of b.now) ≡ 0) × (o + associations_in (body_of b.now) ≤ length numbers.old) }
+    ensures { numbers.new ≡ over o (costs_in (body_of b.now)) numbers.old }
 {
-    for j in 0..body::association_count(kind, s) {
-        numbers[o + j] = cost_number(body::association(kind, s, j).cost);
+    for j in 0..b.association_count() {
+        numbers[o + j] = cost_number(b.association(j).cost);
     }
 }
 
 // The sensors of a scan, from place o on.
-fn put_sensors(kind: BodyKind, s: &[u8], words: &mut [u64], o: usize)
-    requires { (body_refusal (body_of kind s.now) ≡ 0) × (o + sensors_in (body_of kind s.now) ≤ length words.old) }
-    ensures { words.new ≡ over o (frame_in (body_of kind s.now)).sensors words.old }
+fn put_sensors(b: &Body<'_>, words: &mut [u64], o: usize)
+    requires { (body_refusal (body_of b.now) ≡ 0) × (o + sensors_in (body_of b.now) ≤ length words.old) }
+    ensures { words.new ≡ over o (frame_in (body_of b.now)).sensors words.old }
 {
-    for i in 0..body::sensor_count(kind, s) {
-        words[o + i] = body::sensor(kind, s, i);
+    for i in 0..b.sensor_count() {
+        words[o + i] = b.sensor(i);
     }
 }
 
 // ---- the frame
 
 // The words before the tracks.
-fn put_head(kind: BodyKind, s: &[u8], tracks: usize, words: &mut [u64])
-    requires { (body_refusal (body_of kind s.now) ≡ 0) × (HEAD ≤ length words.old) }
-    ensures { words.new ≡ over 0 (head_in (body_of kind s.now) tracks) words.old }
+fn put_head(b: &Body<'_>, tracks: usize, words: &mut [u64])
+    requires { (body_refusal (body_of b.now) ≡ 0) × (HEAD ≤ length words.old) }
+    ensures { words.new ≡ over 0 (head_in (body_of b.now) tracks) words.old }
 {
     let ws = [
-        bits::to_word(body::time_of(kind, s)),
-        u64::from(body::mode(kind, s)),
+        bits::to_word(b.time()),
+        u64::from(b.mode()),
         tracks as u64,
-        body::association_count(kind, s) as u64,
-        body::sensor_count(kind, s) as u64,
+        b.association_count() as u64,
+        b.sensor_count() as u64,
         0,
     ];
     put(words, 0, &ws);
@@ -258,17 +253,16 @@ pub fn put_frame(
     ensures { PutFrame (emitted_in c scans.now.bodies scans.now.columns n.0 parts.now.tracks parts.now.filters frozen) result words.old
         numbers.old words.new numbers.new }
 {
-    let kind = scans.kind_of(n);
-    let s = scans.body_in(n);
-    let t = put_tracks(c, body::time_of(kind, s), parts, frozen, words, numbers);
-    put_head(kind, s, t, words);
+    let b = scans.body(n);
+    let t = put_tracks(c, b.time(), parts, frozen, words, numbers);
+    put_head(&b, t, words);
     let a = HEAD + TRACK * t;
-    let count = body::association_count(kind, s);
-    put_associations(kind, s, scans, n, words, a);
-    put_sensors(kind, s, words, a + LINK * count);
-    put_costs(kind, s, numbers, STATE * t);
+    let count = b.association_count();
+    put_associations(&b, scans, n, words, a);
+    put_sensors(&b, words, a + LINK * count);
+    put_costs(&b, numbers, STATE * t);
     FrameSize {
-        words: a + LINK * count + body::sensor_count(kind, s),
+        words: a + LINK * count + b.sensor_count(),
         numbers: STATE * t + count,
     }
 }

@@ -5,7 +5,7 @@ ghost use Rattle.std.specs.Prelude.{◌≡◌, true, [], ◌∷◌, ◌++◌, �
 ghost use Rattle.std.proofs.Math.Option.{none, some};
 ghost use Rattle.std.specs.Float.{nan};
 ghost use Rattle.bounds.specs.Bounds.{ACCEPTED, FROZEN, HEIGHTS};
-ghost use Rattle.engine.specs.Body.{body as body_of, time_ok, frame_in, body_refusal};
+ghost use Rattle.engine.specs.Body.{body_of, time_ok, frame_in, body_refusal};
 ghost use Rattle.fgo_spec.specs.Lists.{place_in};
 ghost use Rattle.fgo_spec.specs.Windows.{class_among, class_for};
 ghost use Rattle.fgo_spec.specs.Freezing as spec;
@@ -14,9 +14,9 @@ ghost use Rattle.fgo_state.specs.Memory.{scan_in, scans_in};
 ghost use Rattle.fgo_freeze.specs.Frozen.{detection_by, seen_in, height_count_after, Moves, Raised, frozen_by, Freezes, FreezesScan, kept_in, PartsOk};
 
 use bounds::{HEIGHTS, PARTS};
-use engine::body;
+use engine::body::Body;
 use engine::config::FgoConfig;
-use engine::types::{BodyKind, EngineId, RefinedId, ScanIndex};
+use engine::types::{EngineId, RefinedId, ScanIndex};
 use fgo_part::{FrozenParts, Prefix, part_id, part_last_ns};
 use fgo_state::scans::Scans;
 use kf::filter::Kf;
@@ -36,40 +36,40 @@ pub struct Detection {
 // ---- what a frame says of an association
 
 // The class of the last engine track of a frame with this id.
-fn class_among(kind: BodyKind, s: &[u8], e: EngineId) -> Option<u32>
-    ensures { body_refusal (body_of kind s.now) ≡ 0 → result ≡ class_among e.0 None (frame_in (body_of kind s.now)).tracks }
+fn class_among(b: &Body<'_>, e: EngineId) -> Option<u32>
+    ensures { body_refusal (body_of b.now) ≡ 0 → result ≡ class_among e.0 None (frame_in (body_of b.now)).tracks }
 {
-    for i in (0..body::track_count(kind, s)).rev() {
-        let t = body::track(kind, s, i);
-        if t.id.0 == e.0 {
+    for i in (0..b.track_count()).rev() {
+        let t = b.track(i);
+        if t.id == e {
             return t.class;
         }
     }
     None
 }
 
-fn class_for(kind: BodyKind, s: &[u8], a: Option<EngineId>) -> Option<u32>
-    ensures { body_refusal (body_of kind s.now) ≡ 0 → result ≡ class_for a (frame_in (body_of kind s.now)).tracks }
+fn class_for(b: &Body<'_>, a: Option<EngineId>) -> Option<u32>
+    ensures { body_refusal (body_of b.now) ≡ 0 → result ≡ class_for a (frame_in (body_of b.now)).tracks }
 {
     match a {
         None => None,
-        Some(e) => class_among(kind, s, e),
+        Some(e) => class_among(b, e),
     }
 }
 
 // Association j of scan n.
-fn seen_at(kind: BodyKind, s: &[u8], n: ScanIndex, j: usize) -> Detection
-    ensures { body_refusal (body_of kind s.now) ≡ 0 → detection_by result ≡ seen_in n.0 (body_of kind s.now) j }
+fn seen_at(b: &Body<'_>, n: ScanIndex, j: usize) -> Detection
+    ensures { body_refusal (body_of b.now) ≡ 0 → detection_by result ≡ seen_in n.0 (body_of b.now) j }
 {
-    let a = body::association(kind, s, j);
-    let p = body::observation(kind, s, a.index);
+    let a = b.association(j);
+    let p = b.observation(a.index);
     Detection {
         scan: n,
-        time: body::time_of(kind, s),
+        time: b.time(),
         x: p.x,
         y: p.y,
         z: p.z,
-        class: class_for(kind, s, a.track),
+        class: class_for(b, a.track),
     }
 }
 
@@ -168,7 +168,7 @@ fn place_of(tracks: &[u64; PARTS], frozen: usize, id: RefinedId) -> usize
     ensures { (result ≡ place_in id.0 (part_ids tracks.now frozen)) × (result ≤ frozen) }
 {
     for k in 0..frozen {
-        if id.0 <= part_id(tracks, k).0 {
+        if id <= part_id(tracks, k) {
             return k;
         }
     }
@@ -198,7 +198,7 @@ fn freeze_one(
 {
     let k = place_of(&parts.tracks, frozen, id);
     if k < frozen {
-        if part_id(&parts.tracks, k).0 == id.0 {
+        if part_id(&parts.tracks, k) == id {
             let p = parts.prefix_at(k);
             parts.put(k, id, freeze(c, p, d));
             return frozen;
@@ -221,13 +221,12 @@ pub fn freeze_scan(
     ensures { table_in parts.new.tracks parts.new.filters result
         ≡ spec.freeze_scan c n.0 (scan_in scans.now.bodies scans.now.columns n.0) (table_in parts.old.tracks parts.old.filters frozen) }
 {
-    let kind = scans.kind_of(n);
-    let s = scans.body_in(n);
+    let b = scans.body(n);
     let mut f = frozen;
-    for j in 0..body::association_count(kind, s) {
+    for j in 0..b.association_count() {
         let id = scans.id_at(n, j);
         if 0 < id.0 {
-            f = freeze_one(c, parts, f, id, seen_at(kind, s, n, j));
+            f = freeze_one(c, parts, f, id, seen_at(&b, n, j));
         }
     }
     f

@@ -7,7 +7,6 @@ use lib.ListN.{length, take, get_or}
 use Rattle.engine.specs.declared.types.Association.{Association}
 use Rattle.engine.specs.Frame.{no_association}
 use Rattle.fgo_spec.specs.Placing as spec
-use Rattle.fgo_place.specs.declared.place.Placing.{Placing}
 use Rattle.fgo_place.specs.Placing.{placed_one, placed_all}
 
 -- one association more

@@ -1,14 +1,14 @@
 // Placing: each association of a new frame goes to the track that owns its engine id, or starts a track.
 ghost use Rattle.std.specs.Prelude.{◌≡◌, ◌+◌, ◌^◌, ◌<◌, ◌≤◌, take, Some};
 ghost use Rattle.bounds.specs.Bounds.{ASSOCIATIONS, OWNED};
-ghost use Rattle.engine.specs.Body.{body as body_of, frame_in, body_refusal, associations_in};
+ghost use Rattle.engine.specs.Body.{body_of, frame_in, body_refusal, associations_in};
 ghost use Rattle.fgo_spec.specs.Placing as spec;
 ghost use Rattle.fgo_state.specs.Memory.{owners_in};
 ghost use Rattle.fgo_place.specs.Placing.{assigned_in, free_below, placed_one, placed_all, Placed, begins};
 
 use bounds::{ASSOCIATIONS, OWNED, OWNERS};
-use engine::body;
-use engine::types::{BodyKind, EngineId, RefinedId};
+use engine::body::Body;
+use engine::types::{EngineId, RefinedId};
 use fgo_state::owners::{engine_at, owner_of, put_owner};
 
 // How many engine ids have an owner, and the next id.
@@ -25,7 +25,7 @@ fn assign(owners: &mut [u64; OWNERS], owned: usize, e: EngineId, x: RefinedId) -
     ensures owners { owners_in owners.new result ≡ assigned_in e.0 x.0 (owners_in owners.old owned) }
 {
     for k in 0..owned {
-        if engine_at(owners, k).0 == e.0 {
+        if engine_at(owners, k) == e {
             put_owner(owners, k, e, x);
             return owned;
         }
@@ -42,7 +42,7 @@ fn free_owner(old: RefinedId, x: RefinedId, n: usize, ids: &[u64; ASSOCIATIONS])
     requires { n ≤ ASSOCIATIONS }
     ensures { result.0 ≡ free_below old.0 (take n ids.now) x.0 }
 {
-    if old.0 <= x.0 {
+    if old <= x {
         return RefinedId(0);
     }
     if ids[..n].contains(&x.0) {
@@ -103,23 +103,22 @@ fn place_one(
 
 // The associations of a frame, in order: the ids of their tracks. The body must pass, and the next id be below 2^62.
 pub fn place_all(
-    kind: BodyKind,
-    s: &[u8],
+    b: &Body<'_>,
     owned: usize,
     next: RefinedId,
     owners: &mut [u64; OWNERS],
     ids: &mut [u64; ASSOCIATIONS],
 ) -> Placing
-    requires { (body_refusal (body_of kind s.now) ≡ 0) × (owned ≤ OWNED) × (next.0 < 2 ^ 62) }
-    ensures { Placed (associations_in (body_of kind s.now)) (placed_all next.0 (frame_in (body_of kind s.now)).associations
+    requires { (body_refusal (body_of b.now) ≡ 0) × (owned ≤ OWNED) × (next.0 < 2 ^ 62) }
+    ensures { Placed (associations_in (body_of b.now)) (placed_all next.0 (frame_in (body_of b.now)).associations
         (begins owners.old owned next.0)) result owners.new ids.new }
 {
     let mut p = Placing {
         owned,
         next_id: next,
     };
-    for j in 0..body::association_count(kind, s) {
-        p = place_one(p, next, body::association(kind, s, j).track, j, owners, ids);
+    for j in 0..b.association_count() {
+        p = place_one(p, next, b.association(j).track, j, owners, ids);
     }
     p
 }

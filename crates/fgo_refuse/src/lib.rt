@@ -4,28 +4,28 @@
 ghost use Rattle.std.specs.Prelude.{◌≡◌, ◌+◌, ◌<◌, ◌≤◌, length};
 ghost use Rattle.bounds.specs.Bounds.{ACCEPTED, ASSOCIATIONS, JOINED, OWNED};
 ghost use Rattle.refusals.specs.Refusals.{refused};
-ghost use Rattle.engine.specs.Body.{body as body_of, frame_in, body_refusal};
+ghost use Rattle.engine.specs.Body.{body_of, frame_in, body_refusal};
 ghost use Rattle.fgo_spec.specs.Refiner.{has_id, id_count};
 ghost use Rattle.buffers.specs.Buffers.{over};
 ghost use Rattle.fgo_part.specs.Parts.{cells};
 ghost use Rattle.fgo_refuse.specs.Refusing.{full_in, engines_in, join_end, joined_in, Refuses, push_refusal};
 
 use bounds::{ACCEPTED, COUNTED, DETECTIONS, JOINED, OWNED, OWNERS};
-use engine::body;
-use engine::types::{BodyKind, EngineId};
+use engine::body::Body;
+use engine::types::EngineId;
 use fgo_state::owners::engine_at;
 use fgo_state::scans::Scans;
 use fgo_state::state::FixedLagRefiner;
 use refusals::Refusal;
 
 // New associations with an id.
-fn id_count(kind: BodyKind, s: &[u8]) -> usize
-    requires { body_refusal (body_of kind s.now) ≡ 0 }
-    ensures { (result ≡ id_count (frame_in (body_of kind s.now)).associations) × (result ≤ ASSOCIATIONS) }
+fn id_count(b: &Body<'_>) -> usize
+    requires { body_refusal (body_of b.now) ≡ 0 }
+    ensures { (result ≡ id_count (frame_in (body_of b.now)).associations) × (result ≤ ASSOCIATIONS) }
 {
     let mut n: usize = 0;
-    for j in 0..body::association_count(kind, s) {
-        if body::association(kind, s, j).track.is_some() {
+    for j in 0..b.association_count() {
+        if b.association(j).track.is_some() {
             n += 1;
         }
     }
@@ -60,15 +60,15 @@ fn join_one(a: Option<EngineId>, all: &mut [u64; JOINED], n: usize) -> usize
 }
 
 // Engine ids with an owner, joined with the frame's.
-fn joined_count(owners: &[u64; OWNERS], owned: usize, kind: BodyKind, s: &[u8]) -> usize
-    requires { (owned ≤ OWNED) × (body_refusal (body_of kind s.now) ≡ 0) }
-    ensures { result ≡ length (joined_in owners.now owned (body_of kind s.now) 0) }
+fn joined_count(owners: &[u64; OWNERS], owned: usize, b: &Body<'_>) -> usize
+    requires { (owned ≤ OWNED) × (body_refusal (body_of b.now) ≡ 0) }
+    ensures { result ≡ length (joined_in owners.now owned (body_of b.now) 0) }
 {
     let mut all = [0u64; JOINED];
     owner_keys(owners, owned, &mut all);
     let mut n = owned;
-    for j in (0..body::association_count(kind, s)).rev() {
-        n = join_one(body::association(kind, s, j).track, &mut all, n);
+    for j in (0..b.association_count()).rev() {
+        n = join_one(b.association(j).track, &mut all, n);
     }
     n
 }
@@ -103,21 +103,20 @@ pub fn check_push(
     r: &FixedLagRefiner,
     scans: &Scans,
     owners: &[u64; OWNERS],
-    kind: BodyKind,
-    s: &[u8],
+    b: &Body<'_>,
 ) -> Result<(), Refusal>
     requires { Refuses r.now }
-    ensures { refused result ≡ push_refusal r.now scans.now.bodies scans.now.columns owners.now (body_of kind s.now) }
+    ensures { refused result ≡ push_refusal r.now scans.now.bodies scans.now.columns owners.now (body_of b.now) }
 {
-    engine_check::check_body(kind, s)?;
+    engine_check::check_body(b)?;
     if is_full(r) {
         return Err(Refusal::Count);
     }
     let windows = scans.window_count(r.first, r.held);
-    if DETECTIONS < r.frozen + windows + id_count(kind, s) {
+    if DETECTIONS < r.frozen + windows + id_count(b) {
         return Err(Refusal::Detections);
     }
-    if OWNED < joined_count(owners, r.owned, kind, s) {
+    if OWNED < joined_count(owners, r.owned, b) {
         return Err(Refusal::Owners);
     }
     Ok(())

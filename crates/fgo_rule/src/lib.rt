@@ -3,7 +3,7 @@
 
 ghost use Rattle.std.specs.Prelude.{◌≡◌, ◌+◌, ◌<◌, ◌≤◌};
 ghost use Rattle.bounds.specs.Bounds.{ACCEPTED, DETECTIONS, FROZEN, OWNED};
-ghost use Rattle.engine.specs.Body.{body as body_of, associations_in, body_refusal};
+ghost use Rattle.engine.specs.Body.{body_of, associations_in, body_refusal};
 ghost use Rattle.fgo_spec.specs.Rule.{loose_ok};
 ghost use Rattle.fgo_state.specs.Gathering.{StartsWithin};
 ghost use Rattle.fgo_state.specs.Sound.{bodies_ok, Passing};
@@ -11,8 +11,8 @@ ghost use Rattle.fgo_rule.specs.Tests.{counts_ok, id_ok, column_in, columns_ok, 
 ghost use Rattle.fgo_rule.specs.Tests.{owned_all, distinct_at, entries_ok, owned_in, sound_in, Owning};
 
 use bounds::{ACCEPTED, DETECTIONS, FROZEN, HEIGHTS, OWNED, OWNERS, PARTS, STARTS};
-use engine::body;
-use engine::types::{BodyKind, EngineId, RefinedId, ScanIndex};
+use engine::body::Body;
+use engine::types::{EngineId, RefinedId, ScanIndex};
 use fgo_part::{part_count, part_height_count, part_id, part_last_frame, part_last_ns};
 use fgo_state::gather;
 use fgo_state::owners::{engine_at, latest_in, owner_at, owner_of};
@@ -52,7 +52,7 @@ fn bodies_ok(scans: &Scans, first: ScanIndex, held: usize) -> bool
 {
     for i in 0..held {
         let n = ScanIndex(first.0 + i as u64);
-        if engine_check::check_body(scans.kind_of(n), scans.body_in(n)).is_err() {
+        if engine_check::check_body(&scans.body(n)).is_err() {
             return false;
         }
     }
@@ -71,29 +71,29 @@ fn loose_ok(a: Option<EngineId>, id: RefinedId) -> bool
     }
 }
 
-// The id of association j of scan n, of which the body is s.
-fn id_ok(next: RefinedId, scans: &Scans, kind: BodyKind, s: &[u8], n: ScanIndex, j: usize) -> bool
-    requires { (body_refusal (body_of kind s.now) ≡ 0) × (j < associations_in (body_of kind s.now)) }
-    ensures { result ≡ id_ok next.0 scans.now.columns (body_of kind s.now) n.0 j }
+// The id of association j of scan n, of which the body is b.
+fn id_ok(next: RefinedId, scans: &Scans, b: &Body<'_>, n: ScanIndex, j: usize) -> bool
+    requires { (body_refusal (body_of b.now) ≡ 0) × (j < associations_in (body_of b.now)) }
+    ensures { result ≡ id_ok next.0 scans.now.columns (body_of b.now) n.0 j }
 {
     let x = scans.id_at(n, j);
     if x.0 != 0 {
-        if scans.stands_in(n, j + 1, body::association_count(kind, s), x) {
+        if scans.stands_in(n, j + 1, b.association_count(), x) {
             return false;
         }
     }
-    if next.0 <= x.0 {
+    if next <= x {
         return false;
     }
-    loose_ok(body::association(kind, s, j).track, x)
+    loose_ok(b.association(j).track, x)
 }
 
-fn column_ok(next: RefinedId, scans: &Scans, kind: BodyKind, s: &[u8], n: ScanIndex) -> bool
-    requires { body_refusal (body_of kind s.now) ≡ 0 }
-    ensures { result ≡ column_in next.0 scans.now.columns (body_of kind s.now) n.0 }
+fn column_ok(next: RefinedId, scans: &Scans, b: &Body<'_>, n: ScanIndex) -> bool
+    requires { body_refusal (body_of b.now) ≡ 0 }
+    ensures { result ≡ column_in next.0 scans.now.columns (body_of b.now) n.0 }
 {
-    for j in 0..body::association_count(kind, s) {
-        if !id_ok(next, scans, kind, s, n, j) {
+    for j in 0..b.association_count() {
+        if !id_ok(next, scans, b, n, j) {
             return false;
         }
     }
@@ -106,7 +106,7 @@ fn columns_ok(next: RefinedId, scans: &Scans, first: ScanIndex, held: usize) -> 
 {
     for i in 0..held {
         let n = ScanIndex(first.0 + i as u64);
-        if !column_ok(next, scans, scans.kind_of(n), scans.body_in(n), n) {
+        if !column_ok(next, scans, &scans.body(n), n) {
             return false;
         }
     }
@@ -129,10 +129,10 @@ fn part_ok(
     let id = part_id(tracks, k);
     let count = part_count(tracks, k);
     let heights = part_height_count(tracks, k);
-    if id.0 <= before.0 {
+    if id <= before {
         return false;
     }
-    if next.0 <= id.0 {
+    if next <= id {
         return false;
     }
     if count == 0 {
@@ -147,7 +147,7 @@ fn part_ok(
     if (HEIGHTS as u64) < heights {
         return false;
     }
-    if first.0 <= part_last_frame(tracks, k).0 {
+    if first <= part_last_frame(tracks, k) {
         return false;
     }
     engine_check::time_ok(part_last_ns(tracks, k))
@@ -184,7 +184,7 @@ fn owned_all(
 {
     for i in 0..n {
         let e = EngineId(engines[i]);
-        if owner_of(owners, owned, e).0 != latest_in(e, ids, engines, starts, held).0 {
+        if owner_of(owners, owned, e) != latest_in(e, ids, engines, starts, held) {
             return false;
         }
     }
@@ -211,7 +211,7 @@ fn is_distinct(owners: &[u64; OWNERS], owned: usize, k: usize) -> bool
 {
     let e = engine_at(owners, k);
     for i in k + 1..owned {
-        if engine_at(owners, i).0 == e.0 {
+        if engine_at(owners, i) == e {
             return false;
         }
     }

@@ -5,16 +5,11 @@ use mathlib.Core.Bool.{Bool}
 use mathlib.Core.List.{List}
 use native.Mathlib.Omega.{arith}
 use lib.ListN.{length, get_or}
-use Rattle.engine.specs.declared.types.BodyKind.{BodyKind}
-use Rattle.engine.specs.Body.{Body, body, frame_in, associations_in, rows}
+use Rattle.engine.specs.Body.{Body, frame_in, associations_in, rows}
 use Rattle.engine.proofs.Passing.{length-rows, row_at}
 use Rattle.fgo_spec.specs.Lists.{has}
-use Rattle.fgo_state.specs.Memory.{head_at, kind_in, bytes_at, body_at, id_at, scan_in}
+use Rattle.fgo_state.specs.Memory.{body_at, id_at, scan_in}
 use Rattle.fgo_state.proofs.Counts as counts
-
--- the kind and the bytes that were read of scan n are its body
-pub body_read : (bodies columns : List ℕ) (n : ℕ) {k : BodyKind} {s : List ℕ} → k ≡ kind_in (head_at columns n) → s ≡ bytes_at bodies columns n → body k s ≡ body_at bodies columns n
-body_read bodies columns n ek es = λ i. body (ek i) (es i)
 
 -- whether an id stands in the column of scan n, of m associations
 pub stands : (bodies columns : List ℕ) (n x : ℕ) {m : ℕ} {b : Bool} → m ≡ associations_in (body_at bodies columns n) → b ≡ has x (rows (id_at columns n) 0 (m - 0)) → has x (scan_in bodies columns n).ids ≡ b

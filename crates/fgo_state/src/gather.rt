@@ -2,7 +2,7 @@
 ghost use Rattle.std.specs.Prelude.{◌≡◌, ◌+◌, ◌*◌, ◌≤◌, length};
 ghost use Rattle.bounds.specs.Bounds.{ASSOCIATIONS, DETECTIONS, DOT};
 ghost use Rattle.engine.specs.Frame.{engine_of};
-ghost use Rattle.engine.specs.Body.{body as body_of, body_refusal};
+ghost use Rattle.engine.specs.Body.{body_of, body_refusal};
 ghost use Rattle.buffers.specs.Buffers.{over};
 ghost use Rattle.fgo_state.specs.Memory.{association_in};
 ghost use Rattle.fgo_state.specs.Gathering.{dots_of, dot_in, count_in, Scattered, found_in, found_of};
@@ -11,9 +11,9 @@ ghost use Rattle.fgo_state.specs.Gathering.{HeldScans, GathersScan, GatheredScan
 use crate::scans;
 use crate::scans::Scans;
 use bounds::{COLUMN, COLUMNS, DETECTIONS, DOT, DOTS, STARTS};
-use engine::body;
+use engine::body::Body;
 use engine::config::FgoConfig;
-use engine::types::{BodyKind, EngineId, ScanIndex};
+use engine::types::{EngineId, ScanIndex};
 use scalar::bits;
 
 fn engine_in(a: Option<EngineId>) -> EngineId
@@ -26,31 +26,30 @@ fn engine_in(a: Option<EngineId>) -> EngineId
 }
 
 // The engine id of association j of a body; 0 where it has none.
-fn engine_of(kind: BodyKind, s: &[u8], j: usize) -> EngineId
-    ensures { body_refusal (body_of kind s.now) ≡ 0 → result.0 ≡ engine_of (association_in (body_of kind s.now) j).track }
+fn engine_of(b: &Body<'_>, j: usize) -> EngineId
+    ensures { body_refusal (body_of b.now) ≡ 0 → result.0 ≡ engine_of (association_in (body_of b.now) j).track }
 {
-    engine_in(body::association(kind, s, j).track)
+    engine_in(b.association(j).track)
 }
 
 // The detections in windows of scan n, from place o on; the place after the last.
 fn gather_scan(
-    kind: BodyKind,
-    s: &[u8],
+    b: &Body<'_>,
     scans: &Scans,
     n: ScanIndex,
     o: usize,
     ids: &mut [u64],
     engines: &mut [u64],
 ) -> usize
-    requires { GathersScan (body_of kind s.now) scans.now.columns n.0 o ids.old engines.old }
-    ensures { GatheredScan (found_in scans.now.columns n.0 (body_of kind s.now)) o result ids.old engines.old ids.new engines.new }
+    requires { GathersScan (body_of b.now) scans.now.columns n.0 o ids.old engines.old }
+    ensures { GatheredScan (found_in scans.now.columns n.0 (body_of b.now)) o result ids.old engines.old ids.new engines.new }
 {
     let mut p = o;
-    for j in 0..body::association_count(kind, s) {
+    for j in 0..b.association_count() {
         let id = scans.id_at(n, j);
         if 0 < id.0 {
             ids[p] = id.0;
-            engines[p] = engine_of(kind, s, j).0;
+            engines[p] = engine_of(b, j).0;
             p += 1;
         }
     }
@@ -74,15 +73,7 @@ pub fn gather(
     starts[0] = 0;
     for k in 0..held {
         let n = ScanIndex(first.0 + k as u64);
-        p = gather_scan(
-            scans.kind_of(n),
-            scans.body_in(n),
-            scans,
-            n,
-            p,
-            ids,
-            engines,
-        );
+        p = gather_scan(&scans.body(n), scans, n, p, ids, engines);
         starts[k + 1] = p;
     }
     starts[held + 1..].fill(p);
@@ -90,12 +81,12 @@ pub fn gather(
 }
 
 // The numbers of association j of a scan: x, y, the variance and the time in seconds.
-fn put_dot(c: FgoConfig, kind: BodyKind, s: &[u8], j: usize, p: usize, dots: &mut [f64])
-    requires { (body_refusal (body_of kind s.now) ≡ 0) × (DOT + DOT * p ≤ length dots.old) }
-    ensures { dots.new ≡ over (DOT * p) (dot_in c (body_of kind s.now) j) dots.old }
+fn put_dot(c: FgoConfig, b: &Body<'_>, j: usize, p: usize, dots: &mut [f64])
+    requires { (body_refusal (body_of b.now) ≡ 0) × (DOT + DOT * p ≤ length dots.old) }
+    ensures { dots.new ≡ over (DOT * p) (dot_in c (body_of b.now) j) dots.old }
 {
-    let d = body::observation(kind, s, body::association(kind, s, j).index);
-    let t = bits::seconds(body::time_of(kind, s));
+    let d = b.observation(b.association(j).index);
+    let t = bits::seconds(b.time());
     let ns = [d.x, d.y, c.position_variance(), t];
     buffers::put(dots, DOT * p, &ns);
 }
@@ -103,21 +94,20 @@ fn put_dot(c: FgoConfig, kind: BodyKind, s: &[u8], j: usize, p: usize, dots: &mu
 // The numbers of the detections in windows of scan n, of which the first is detection o; the number after the last.
 fn dot_scan(
     c: FgoConfig,
-    kind: BodyKind,
-    s: &[u8],
+    b: &Body<'_>,
     scans: &Scans,
     n: ScanIndex,
     o: usize,
     dots: &mut [f64],
 ) -> usize
-    requires { (body_refusal (body_of kind s.now) ≡ 0) × (DOT * (o + length (found_in scans.now.columns n.0 (body_of kind s.now))) ≤ length dots.old) }
-    ensures count { result ≡ o + length (found_in scans.now.columns n.0 (body_of kind s.now)) }
-    ensures numbers { dots.new ≡ over (DOT * o) (dots_of c (found_in scans.now.columns n.0 (body_of kind s.now))) dots.old }
+    requires { (body_refusal (body_of b.now) ≡ 0) × (DOT * (o + length (found_in scans.now.columns n.0 (body_of b.now))) ≤ length dots.old) }
+    ensures count { result ≡ o + length (found_in scans.now.columns n.0 (body_of b.now)) }
+    ensures numbers { dots.new ≡ over (DOT * o) (dots_of c (found_in scans.now.columns n.0 (body_of b.now))) dots.old }
 {
     let mut p = o;
-    for j in 0..body::association_count(kind, s) {
+    for j in 0..b.association_count() {
         if 0 < scans.id_at(n, j).0 {
-            put_dot(c, kind, s, j, p, dots);
+            put_dot(c, b, j, p, dots);
             p += 1;
         }
     }
@@ -138,7 +128,7 @@ pub fn gather_dots(
     let mut p: usize = 0;
     for k in 0..held {
         let n = ScanIndex(first.0 + k as u64);
-        p = dot_scan(c, scans.kind_of(n), scans.body_in(n), scans, n, p, dots);
+        p = dot_scan(c, &scans.body(n), scans, n, p, dots);
     }
 }
 

@@ -38,7 +38,7 @@ pub fn owner_of(owners: &[u64; OWNERS], owned: usize, e: EngineId) -> RefinedId
     ensures { result.0 ≡ owner_of owners.now owned e.0 }
 {
     for k in 0..owned {
-        if engine_at(owners, k).0 == e.0 {
+        if engine_at(owners, k) == e {
             return owner_at(owners, k);
         }
     }

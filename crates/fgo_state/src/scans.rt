@@ -1,18 +1,18 @@
 // The held scans in lent memory: the bodies, and beside each body a column of its length and the refined ids of its associations.
 ghost use Rattle.std.specs.Prelude.{◌≡◌, ◌+◌, ◌-◌, ◌*◌, ◌<◌, ◌≤◌, length};
 ghost use Rattle.bounds.specs.Bounds.{SCANS, ACCEPTED, ASSOCIATIONS, BODY, COLUMN};
-ghost use Rattle.engine.specs.Body.{associations_in, rows};
+ghost use Rattle.engine.specs.Body.{associations_in, body_of, rows};
 ghost use Rattle.buffers.specs.Buffers.{over};
 ghost use Rattle.fgo_spec.specs.Lists.{has};
 ghost use Rattle.fgo_spec.specs.Rule.{Bytes};
 ghost use Rattle.fgo_spec.specs.Windows.{window_count};
-ghost use Rattle.fgo_state.specs.Memory.{no_scans, Typed, slot_at, head_at, head_for, length_in, kind_in};
-ghost use Rattle.fgo_state.specs.Memory.{bytes_at, body_at, id_at, scans_in, in_window, column_words};
+ghost use Rattle.fgo_state.specs.Memory.{no_scans, Typed, slot_at, head_at, head_for, length_in};
+ghost use Rattle.fgo_state.specs.Memory.{body_at, id_at, scans_in, in_window, column_words};
 ghost use Rattle.fgo_state.specs.Gathering.{count_in};
 
 use bounds::{ASSOCIATIONS, BODIES, BODY, COLUMN, COLUMNS, SCANS};
 use buffers::put;
-use engine::body;
+use engine::body::Body;
 use engine::types::{BodyKind, RefinedId, ScanIndex};
 
 // As it is: arrays of bytes and words, which are the published format of the lent memory.
@@ -49,7 +49,7 @@ fn length_in(head: u64) -> usize
 }
 
 // A slice of bytes is one of bytes.
-fn are_bytes(l: &[u8]) -> usize
+pub fn are_bytes(l: &[u8]) -> usize
     ensures { Bytes l.now }
 {
     l.len()
@@ -83,20 +83,16 @@ impl Scans {
         self.columns[COLUMN * slot_of(n)]
     }
 
-    // The kind of its body.
-    pub fn kind_of(&self, n: ScanIndex) -> BodyKind
-        ensures { result ≡ kind_in (head_at self.now.columns n.0) }
-    {
-        BodyKind::Narrow
-    }
-
-    // The bytes of its body.
-    pub fn body_in(&self, n: ScanIndex) -> &[u8]
-        ensures { result.now ≡ bytes_at self.now.bodies self.now.columns n.0 }
+    // Its body.
+    pub fn body(&self, n: ScanIndex) -> Body<'_>
+        ensures { body_of result ≡ body_at self.now.bodies self.now.columns n.0 }
     {
         let a = BODY * slot_of(n);
         let e = a + length_in(self.head_at(n));
-        &self.bodies[a..e]
+        Body {
+            kind: BodyKind::Narrow,
+            bytes: &self.bodies[a..e],
+        }
     }
 
     // The refined id of its association j; 0 past the last that there is room for.
@@ -113,7 +109,7 @@ impl Scans {
     pub fn count_of(&self, n: ScanIndex) -> usize
         ensures { result ≡ associations_in (body_at self.now.bodies self.now.columns n.0) }
     {
-        body::association_count(self.kind_of(n), self.body_in(n))
+        self.body(n).association_count()
     }
 
     // Whether a refined id stands in its column, from association i to before association e.
@@ -122,7 +118,7 @@ impl Scans {
         ensures { result ≡ has id.0 (rows (id_at self.now.columns n.0) i (e - i)) }
     {
         for j in i..e {
-            if self.id_at(n, j).0 == id.0 {
+            if self.id_at(n, j) == id {
                 return true;
             }
         }
@@ -143,14 +139,14 @@ impl Scans {
     }
 
     // A scan held in its slot: its body, and the ids of its associations.
-    pub fn put(&mut self, n: ScanIndex, kind: BodyKind, s: &[u8], ids: &[u64])
-        requires { (length s.now ≤ BODY) × (length ids.now ≤ ASSOCIATIONS) }
-        ensures bodies { self.new.bodies ≡ over (BODY * slot_at n.0) s.now self.old.bodies }
-        ensures columns { self.new.columns ≡ over (COLUMN * slot_at n.0) (column_words kind (length s.now) ids.now) self.old.columns }
+    pub fn put(&mut self, n: ScanIndex, b: &Body<'_>, ids: &[u64])
+        requires { (length b.now.bytes.now ≤ BODY) × (length ids.now ≤ ASSOCIATIONS) }
+        ensures bodies { self.new.bodies ≡ over (BODY * slot_at n.0) b.now.bytes.now self.old.bodies }
+        ensures columns { self.new.columns ≡ over (COLUMN * slot_at n.0) (column_words b.now.kind (length b.now.bytes.now) ids.now) self.old.columns }
     {
-        put(&mut self.bodies, BODY * slot_of(n), s);
+        put(&mut self.bodies, BODY * slot_of(n), b.bytes);
         let o = COLUMN * slot_of(n);
-        put(&mut self.columns, o, &[head_for(kind, s.len())]);
+        put(&mut self.columns, o, &[head_for(b.kind, b.bytes.len())]);
         put(&mut self.columns, o + 1, ids);
     }
 

@@ -53,7 +53,7 @@ fn is_frozen(parts: &FrozenParts, frozen: usize, id: RefinedId) -> bool
     ensures { result ≡ has id.0 (part_ids parts.now.tracks frozen) }
 {
     for k in 0..frozen {
-        if fgo_part::part_id(&parts.tracks, k).0 == id.0 {
+        if fgo_part::part_id(&parts.tracks, k) == id {
             return true;
         }
     }

@@ -7,7 +7,6 @@ use mathlib.Core.Bool.{Bool, true, false, cond}
 use mathlib.Core.List.{List, [], ◌∷◌, ◌++◌}
 use lib.ListN.{length, take, drop}
 use lib.Ieee.{Float}
-use borrow.Author.Tests.{le-leb}
 use Rattle.bounds.specs.Bounds.{WORDS, NUMBERS}
 use Rattle.buffers.specs.Answer.{Op, pushed, taken, Reply, refused, waits, gives, roomy, checked, answer_of, words_after, Answer}
 use Rattle.engine.specs.declared.config.FgoConfig.{FgoConfig}
@@ -23,15 +22,14 @@ use Rattle.recording.specs.Recording.{offset, size, holds, recorded_body}
 use Rattle.fgo_state.specs.declared.state.FixedLagRefiner.{FixedLagRefiner}
 use Rattle.fgo_state.specs.declared.state.Memory.{Memory}
 use Rattle.fgo_state.specs.Memory.{state_of, scan_in}
-use Rattle.fgo_emit.specs.Writing.{Roomy}
 use Rattle.fgo.specs.Promise.{due, Sized, GivenSized, Promised}
 use Rattle.smoother_frame.specs.Frame.{Counts}
 use Rattle.print.specs.Printed.{Counted}
-use Rattle.print.proofs.Showing.{front, shown}
+use Rattle.print.proofs.Showing.{front}
 use Rattle.histories.specs.Refined.{Call, Same, Reached}
 use Rattle.histories.proofs.CallsLaw.{more}
 use Rattle.histories.proofs.RefinedLaw.{known}
-use Rattle.playback.specs.Played.{Leads, Steps, Fewer}
+use Rattle.playback.specs.Played.{Leads, Fewer}
 
 -- ---- what can be told
 
@@ -71,8 +69,8 @@ recorded_bytes s i h = go (holds s i)
 same : (r : FixedLagRefiner) (m : Memory) → Same r m m
 same r m = record { bodies = λ i h. refl; state = refl }
 
-enough : {ws : List ℕ} {ns : List Float} → Roomy ws ns → roomy (length ws) (length ns) ≡ true
-enough {ws} {ns} h = rw (le-leb WORDS (length ws) h.words, le-leb NUMBERS (length ns) h.numbers)
+enough : {a b : ℕ} → a ≡ WORDS → b ≡ NUMBERS → roomy a b ≡ true
+enough a b = λ i. roomy (a i) (b i)
 
 -- as many frames are held as the refiner counts
 held_is : (r : FixedLagRefiner) (m : Memory) → length (state_of r m).scans ≡ r.held
@@ -86,7 +84,7 @@ take-fewer c t [] h = absurd (omega arith)
 take-fewer c t (s ∷ ss) h = refl
 
 module _ (op : Op Body) (r : FixedLagRefiner) (m : Memory) {ws : List ℕ} {ns : List Float} {g : Answer} {u : FixedLagRefiner} {m' : Memory} {ws' : List ℕ} {ns' : List Float}
-    (room : Roomy ws ns) (h : Promised (due r m op ws ns) r m ws ns g u m' ws' ns') where
+    (h : Promised (due r m op ws ns) r m ws ns g u m' ws' ns') where
   -- the call
   abbrev call : Call
   call =
@@ -102,33 +100,29 @@ module _ (op : Op Body) (r : FixedLagRefiner) (m : Memory) {ws : List ℕ} {ns :
         numbers_back = ns';
       }
 
-  leads : Sent op → Leads (op ∷ []) r m u m'
-  leads sent ok ops a =
-      subst (λ b. Reached r.config (ops ++ more b op) u m') (enough room)
-      ((known r.config ok).next ops r m a call sent (same r m, h))
+  -- the counts of the frame that it gives are in bounds
+  pub given_counted : Counted g ws'
+  given_counted = rw (h.ends.answered, h.ends.words) (counted (due r m op ws ns).0 ws h.sized)
 
-  steps : Sent op → Steps (op ∷ []) r m g u m' ws' ns'
-  steps sent =
-      record {
-        leads = leads sent;
-        shown = shown written state_of h.ends;
-        counted = rw (h.ends.answered, h.ends.words) (counted (due r m op ws ns).0 ws h.sized);
-      }
+  leads : length ws ≡ WORDS → length ns ≡ NUMBERS → Sent op → Leads (op ∷ []) r m u m'
+  leads a b sent ok ops reached =
+      subst (λ b. Reached r.config (ops ++ more b op) u m') (enough a b)
+      ((known r.config ok).next ops r m reached call sent (same r m, h))
 
 -- a push of frame i of the recording s, given as b
-pub push_steps :
+pub push_leads :
     (r : FixedLagRefiner) (m : Memory) (s : List ℕ) (i : ℕ) {b : List ℕ} {ws : List ℕ} {ns : List Float} {g : Answer} {u : FixedLagRefiner} {m' : Memory} {ws' : List ℕ} {ns' : List Float} →
-    Bytes s → b ≡ recorded_body s i → Roomy ws ns → Promised (due r m (pushed (body Narrow b)) ws ns) r m ws ns g u m' ws' ns' →
-    Steps (pushed (body Narrow (recorded_body s i)) ∷ []) r m g u m' ws' ns'
-push_steps r m s i {b} {g = g} {u} {m'} {ws'} {ns'} h e room k =
-    subst (λ b. Steps (pushed (body Narrow b) ∷ []) r m g u m' ws' ns') e
-    (steps (pushed (body Narrow b)) r m room k (subst Bytes (sym e) (recorded_bytes s i h)))
+    Bytes s → b ≡ recorded_body s i → length ws ≡ WORDS → length ns ≡ NUMBERS → Promised (due r m (pushed (body Narrow b)) ws ns) r m ws ns g u m' ws' ns' →
+    Leads (pushed (body Narrow (recorded_body s i)) ∷ []) r m u m'
+push_leads r m s i {u = u} {m'} h e words numbers k =
+    subst (λ b. Leads (pushed (body Narrow b) ∷ []) r m u m') e
+    (leads (pushed (body Narrow _)) r m k words numbers (subst Bytes (sym e) (recorded_bytes s i h)))
 
 -- a take
 module _ (r : FixedLagRefiner) (m : Memory) {ws : List ℕ} {ns : List Float} {g : Answer} {u : FixedLagRefiner} {m' : Memory} {ws' : List ℕ} {ns' : List Float}
-    (room : Roomy ws ns) (h : Promised (due r m taken ws ns) r m ws ns g u m' ws' ns') where
-  pub take_steps : Steps (taken ∷ []) r m g u m' ws' ns'
-  take_steps = steps taken r m room h tt
+    (words : length ws ≡ WORDS) (numbers : length ns ≡ NUMBERS) (h : Promised (due r m taken ws ns) r m ws ns g u m' ws' ns') where
+  pub take_leads : Leads (taken ∷ []) r m u m'
+  take_leads = leads taken r m h words numbers tt
 
   pub fewer : Fewer r m u
   unfolding takes
@@ -136,8 +130,8 @@ module _ (r : FixedLagRefiner) (m : Memory) {ws : List ℕ} {ns : List Float} {g
       let c = r.config in
       let t = (run c l.calls).state in
       let e = l.reached.state in
-      let n = ((known c l.settings).ends l.calls r m l.reached (call taken r m room h) tt (same r m, h)).state in
+      let n = ((known c l.settings).ends l.calls r m l.reached (call taken r m h) tt (same r m, h)).state in
       let held : length t.scans ≡ r.held = sym (ap (λ t. length t.scans) e) ∙ held_is r m in
       let after : u.held ≡ length (freeze_oldest c t t.scans).1.scans =
-      sym (held_is u m') ∙ ap (λ t. length t.scans) (n ∙ ap (λ b. (checked (cond b 0 4) t (reply c t taken)).1) (enough room)) in
+      sym (held_is u m') ∙ ap (λ t. length t.scans) (n ∙ ap (λ b. (checked (cond b 0 4) t (reply c t taken)).1) (enough words numbers)) in
       sym held ∙ take-fewer c t t.scans (omega arith) ∙ ap suc (sym after)

@@ -1,6 +1,6 @@
 -- What a run of a recording is: every frame pushed in order, then takes until none is held. Definitions only.
-use Rattle.std.specs.Prelude.{ℕ, suc, ◌<◌, ◌≡◌, true, List, ◌++◌, replicate, Float}
-use Rattle.buffers.specs.Answer.{Op, pushed, taken, Written, Answer}
+use Rattle.std.specs.Prelude.{ℕ, suc, ◌<◌, ◌≡◌, true, List, ◌++◌, replicate}
+use Rattle.buffers.specs.Answer.{Op, pushed, taken, Written}
 use Rattle.engine.specs.declared.types.BodyKind.TheVariants.{Narrow}
 use Rattle.engine.specs.Body.{Body, body, rows}
 use Rattle.engine.specs.Config.{legal}
@@ -8,7 +8,6 @@ use Rattle.recording.specs.Recording.{recorded_body}
 use Rattle.fgo_state.specs.declared.state.FixedLagRefiner.{FixedLagRefiner}
 use Rattle.fgo_state.specs.declared.state.Memory.{Memory}
 use Rattle.fgo.specs.Promise.{new_by}
-use Rattle.print.specs.Printed.{Shown, Counted}
 use Rattle.smoother_window.specs.declared.FixedLagSmoother.{FixedLagSmoother}
 use Rattle.smoother_window.specs.Config as Smoothing
 use Rattle.smoother.specs.Promise.{Window}
@@ -43,13 +42,6 @@ pub record Led (r : FixedLagRefiner) (m : Memory) : Type 0 where
 abbrev pub Leads : List (Op Body) → FixedLagRefiner → Memory → FixedLagRefiner → Memory → Type 0
 Leads more r m r' m' =
     legal r.config ≡ true → (ops : List (Op Body)) → Refined.Reached r.config ops r m → Refined.Reached r.config (ops ++ more) r' m'
-
--- a push or a take that leads on, and whose answer can be told
-pub record Steps (more : List (Op Body)) (r : FixedLagRefiner) (m : Memory)
-  (o : Answer) (u : FixedLagRefiner) (m' : Memory) (fw : List ℕ) (fx : List Float) : Type 0 where
-  pub leads : Leads more r m u m'
-  pub shown : Shown o fw fx
-  pub counted : Counted o fw
 
 -- a take after pushes and takes leaves one frame fewer, if one is held
 abbrev pub Fewer : FixedLagRefiner → Memory → FixedLagRefiner → Type 0
@@ -91,7 +83,6 @@ Emptied (Smoother s) = s.held ≡ 0
 -- the n frames of the recording s were pushed to a refiner r as it is opened, then all taken, so that none is held, then all from a smoother behind it
 pub record Played (s : List ℕ) (n : ℕ) (r : FixedLagRefiner) (p : Player) : Type 0 where
   pub held : ℕ
-  pub memory : Memory
-  pub reached : Refined.Reached r.config (pushes s n ++ takes held) p.refiner memory
+  pub reached : Refined.Reached r.config (pushes s n ++ takes held) p.refiner p.memory
   pub none : p.refiner.held ≡ 0
   pub rest : Emptied p.sink

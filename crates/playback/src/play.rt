@@ -1,17 +1,13 @@
 // A recording, played and printed, with a smoother or without; last come the counters.
-ghost use Rattle.print.specs.Text.{Puts};
 ghost use Rattle.smoother.specs.Promise as Smoothing;
-ghost use Rattle.fgo.specs.Promise.{counted_in};
-ghost use Rattle.playback.specs.Told.{counted_line};
 ghost use Rattle.playback.specs.Played.{Fresh, Serves, Plain, Played};
 
 use crate::sink::Sink;
-use crate::steps;
 use crate::steps::Player;
-use bounds::{NUMBERS, RECORDING, TEXT, TRACKS, VALUES, WINDOW, WORDS};
+use bounds::{RECORDING, TRACKS, VALUES, WINDOW};
+use console::Console;
 use engine::config::FgoConfig;
-use fgo_spec::moves::FgoCounters;
-use fgo_state::state::{FixedLagRefiner, Memory};
+use fgo_state::state::FixedLagRefiner;
 use print::lines;
 use refusals::Refusal;
 use smoother_window::SmootherConfig;
@@ -31,49 +27,30 @@ const INPUT: usize = RECORDING + 1;
 // Room for the line of a refusal.
 const REFUSED: usize = 32;
 
-// The line of the counters, or of a refusal.
-fn put_counted(out: &mut [u8], k: Result<FgoCounters, Refusal>) -> usize
-    ensures { Puts (counted_line (counted_in k)) 0 out.old out.new result }
-{
-    match k {
-        Ok(moves) => lines::put_counters(out, 0, moves),
-        Err(refusal) => lines::put_refused(out, 0, refusal),
-    }
-}
-
 // The line of a refusal alone.
 fn print_refusal(rt: &(impl Print + Eprint), refusal: Refusal) {
     let mut out = [0u8; REFUSED];
     let n = lines::put_refused(&mut out, 0, refusal);
-    console::write(rt, &out, n, true);
+    let mut console = Console::new();
+    console.write(rt, &out[..n]);
 }
 
 // A recording of n frames, played from this start: all the frames, then what a smoother holds, then the counters.
-fn run<'a, 'b, 'c>(
+fn run(
     rt: &(impl Print + Eprint),
-    s: &'c [u8],
+    s: &[u8],
     n: usize,
-    first: Player,
-    window: &'a mut [u64],
-    values: &'b mut [f64],
-) -> Player
-    requires { Fresh first.refiner × Serves first.sink (Smoothing.window window.old values.old) }
-    ensures { Played s.now n first.refiner result }
+    player: &mut Player,
+    window: &mut [u64],
+    values: &mut [f64],
+)
+    requires { Fresh player.old.refiner × Serves player.old.sink (Smoothing.window window.old values.old) }
+    ensures { Played s.now n player.old.refiner player.new }
 {
-    let mut memory = Memory::new();
-    let mut frame_words = [0u64; WORDS];
-    let mut frame_numbers = [0.0; NUMBERS];
-    let mut text = [0u8; TEXT];
-    let fw: &mut [u64] = &mut frame_words;
-    let fx: &mut [f64] = &mut frame_numbers;
-    let out: &mut [u8] = &mut text;
-    let pushed = steps::push_all(rt, first, s, n, &mut memory, fw, fx, window, values, out);
-    let taken = steps::take_all(rt, pushed, &mut memory, fw, fx, window, values, out);
-    let last = steps::take_rest(rt, taken, window, values, out);
-    let k = fgo::counters(&last.refiner, &memory);
-    let end = put_counted(out, k);
-    console::write(rt, out, end, last.well);
-    last
+    player.push_all(rt, s, n, window, values);
+    player.take_all(rt, window, values);
+    player.take_rest(rt, window, values);
+    player.print_counters(rt);
 }
 
 // ---- a recording
@@ -84,12 +61,8 @@ fn run_plain(rt: &(impl Print + Eprint), s: &[u8], n: usize, refiner: FixedLagRe
 {
     let mut window = [0u64; 0];
     let mut values = [0.0; 0];
-    let first = Player {
-        refiner,
-        sink,
-        well: true,
-    };
-    run(rt, s, n, first, &mut window, &mut values);
+    let mut player = Player::new(refiner, sink);
+    run(rt, s, n, &mut player, &mut window, &mut values);
 }
 
 // A smoother of the refiner's lag and density, for frames of as many tracks as it may emit.
@@ -102,23 +75,19 @@ fn smoothing(c: FgoConfig) -> SmootherConfig {
 }
 
 // Played with a smoother over this window; or the smoother's refusal.
-fn run_over<'a, 'b, 'c>(
+fn run_over(
     rt: &(impl Print + Eprint),
-    s: &'c [u8],
+    s: &[u8],
     n: usize,
     refiner: FixedLagRefiner,
-    window: &'a mut [u64],
-    values: &'b mut [f64],
+    window: &mut [u64],
+    values: &mut [f64],
 ) -> Result<(), Refusal>
     requires { Fresh refiner }
 {
     let state = smoother::open(smoothing(refiner.config), window, values)?;
-    let first = Player {
-        refiner,
-        sink: Sink::Smoother(state),
-        well: true,
-    };
-    run(rt, s, n, first, window, values);
+    let mut player = Player::new(refiner, Sink::Smoother(state));
+    run(rt, s, n, &mut player, window, values);
     Ok(())
 }
 

@@ -1,19 +1,36 @@
 // Where the refiner's frames go: into text, in short or in full; or to a smoother, whose frames go into text in full.
 //
-// A frame that the refiner emits stands at the front of fw and fx. A smoother has its window in window and values, which are empty where there is none. The
-// text of an answer is put together at the start of out.
-ghost use Rattle.std.specs.Prelude.{◌≤◌, length};
-ghost use Rattle.bounds.specs.Bounds.{TEXT};
+// A smoother has its window in window and values, which are empty where there is none. The text of an answer is put together at the start of text, and a
+// function gives back the place where it ends.
+ghost use Rattle.std.specs.Prelude.{◌≡◌};
 ghost use Rattle.buffers.specs.Answer.{answer_in, pushed, taken};
 ghost use Rattle.print.specs.Printed.{Shown, Counted};
 ghost use Rattle.smoother_frame.specs.Frame.{frame as frame_of};
 ghost use Rattle.smoother.specs.Promise as Smoothing;
-ghost use Rattle.playback.specs.Told.{Tells, Smooths, Prints};
+ghost use Rattle.playback.specs.Told.{empty_output, Tells, Smooths, Prints};
 
-use bounds::{NUMBERS, WORDS};
+use bounds::{NUMBERS, TEXT, WORDS};
 use buffers::Answer;
 use print::{answers, lines};
 use smoother_window::FixedLagSmoother;
+
+// Output buffers, with room for the longest frame.
+#[derive(Drop)]
+pub struct Output {
+    pub words: [u64; WORDS],
+    pub numbers: [f64; NUMBERS],
+}
+
+impl Output {
+    pub fn new() -> Output
+        ensures { result ≡ empty_output }
+    {
+        Output {
+            words: [0; WORDS],
+            numbers: [0.0; NUMBERS],
+        }
+    }
+}
 
 // Where the frames go.
 #[derive(Clone, Copy)]
@@ -23,128 +40,101 @@ pub enum Sink {
     Smoother(FixedLagSmoother),
 }
 
-// A smoother after a push or a take, and the place where the text of its answer ends.
-#[derive(Clone, Copy)]
-pub struct Smoothed {
-    pub state: FixedLagSmoother,
-    pub end: usize,
-}
-
-// Where the frames go from now on, and the place where the text of an answer ends.
-#[derive(Clone, Copy)]
-pub struct Told {
-    pub sink: Sink,
-    pub end: usize,
-}
-
 // ---- a smoother's answers
 
 // A frame, pushed to a smoother, and its answer.
-fn smooth_one<'a, 'b, 'c, 'd>(
-    state: FixedLagSmoother,
-    fw: &'d [u64],
-    fx: &'d [f64],
-    window: &'a mut [u64],
-    values: &'b mut [f64],
-    out: &'c mut [u8],
-) -> Smoothed
-    requires { TEXT ≤ length out.old }
-    ensures { Tells state (Smoothing.window window.old values.old) result
-        (Smoothing.window window.new values.new) out.new (pushed (frame_of fw.now fx.now)) }
+fn smooth_one(
+    state: &mut FixedLagSmoother,
+    words: &[u64],
+    numbers: &[f64],
+    window: &mut [u64],
+    values: &mut [f64],
+    text: &mut [u8; TEXT],
+) -> usize
+    ensures { Tells state.old (Smoothing.window window.old values.old) state.new (Smoothing.window window.new values.new) text.new result
+        (pushed (frame_of words.now numbers.now)) }
 {
-    let mut smoothed_words = [0u64; WORDS];
-    let mut smoothed_numbers = [0.0; NUMBERS];
-    let words: &mut [u64] = &mut smoothed_words;
-    let numbers: &mut [f64] = &mut smoothed_numbers;
-    let mut next = state;
-    let answer = smoother::push(&mut next, window, values, fw, fx, words, numbers);
-    let end = answers::put_full(out, answer, words, numbers);
-    Smoothed { state: next, end }
+    let mut smoothed = Output::new();
+    let answer = smoother::push(
+        state,
+        window,
+        values,
+        words,
+        numbers,
+        &mut smoothed.words,
+        &mut smoothed.numbers,
+    );
+    answers::put_full(text, answer, &smoothed.words, &smoothed.numbers)
 }
 
 // The oldest frame that a smoother holds, taken.
-pub fn take_smoothed<'a, 'b>(
-    state: FixedLagSmoother,
-    window: &'b [u64],
-    values: &'b [f64],
-    out: &'a mut [u8],
-) -> Smoothed
-    requires { TEXT ≤ length out.old }
-    ensures { Tells state (Smoothing.window window.now values.now) result
-        (Smoothing.window window.now values.now) out.new taken }
+pub fn take_smoothed(
+    state: &mut FixedLagSmoother,
+    window: &[u64],
+    values: &[f64],
+    text: &mut [u8; TEXT],
+) -> usize
+    ensures { Tells state.old (Smoothing.window window.now values.now) state.new (Smoothing.window window.now values.now) text.new result taken }
 {
-    let mut smoothed_words = [0u64; WORDS];
-    let mut smoothed_numbers = [0.0; NUMBERS];
-    let words: &mut [u64] = &mut smoothed_words;
-    let numbers: &mut [f64] = &mut smoothed_numbers;
-    let mut next = state;
-    let answer = smoother::take(&mut next, window, values, words, numbers);
-    let end = answers::put_full(out, answer, words, numbers);
-    Smoothed { state: next, end }
+    let mut smoothed = Output::new();
+    let answer = smoother::take(
+        state,
+        window,
+        values,
+        &mut smoothed.words,
+        &mut smoothed.numbers,
+    );
+    answers::put_full(text, answer, &smoothed.words, &smoothed.numbers)
 }
 
 // ---- the refiner's answers
 
 // An answer of the refiner, to a smoother: a refusal is told, and a frame is pushed.
-fn put_smoothed<'a, 'b, 'c, 'd>(
-    state: FixedLagSmoother,
+fn put_smoothed(
+    state: &mut FixedLagSmoother,
     answer: Answer,
-    fw: &'d [u64],
-    fx: &'d [f64],
-    window: &'a mut [u64],
-    values: &'b mut [f64],
-    out: &'c mut [u8],
-) -> Smoothed
-    requires { (TEXT ≤ length out.old) × Shown (answer_in answer) fw.now fx.now }
-    ensures { Smooths state (Smoothing.window window.old values.old) result
-        (Smoothing.window window.new values.new) out.new (answer_in answer) fw.now fx.now }
+    output: &Output,
+    window: &mut [u64],
+    values: &mut [f64],
+    text: &mut [u8; TEXT],
+) -> usize
+    requires { Shown (answer_in answer) output.now.words output.now.numbers }
+    ensures { Smooths state.old (Smoothing.window window.old values.old) state.new (Smoothing.window window.new values.new) text.new result
+        (answer_in answer) output.now }
 {
     match answer {
-        Err(refusal) => {
-            let end = lines::put_refused(out, 0, refusal);
-            Smoothed { state, end }
-        }
-        Ok(None) => Smoothed { state, end: 0 },
-        Ok(Some(f)) => smooth_one(state, &fw[..f.words], &fx[..f.numbers], window, values, out),
+        Err(refusal) => lines::put_refused(text, 0, refusal),
+        Ok(None) => 0,
+        Ok(Some(f)) => smooth_one(
+            state,
+            &output.words[..f.words],
+            &output.numbers[..f.numbers],
+            window,
+            values,
+            text,
+        ),
     }
 }
 
-// An answer of the refiner, to where its frames go.
-pub fn put_answer<'a, 'b, 'c, 'd>(
-    sink: Sink,
-    answer: Answer,
-    fw: &'d [u64],
-    fx: &'d [f64],
-    window: &'a mut [u64],
-    values: &'b mut [f64],
-    out: &'c mut [u8],
-) -> Told
-    requires { (TEXT ≤ length out.old) × Shown (answer_in answer) fw.now fx.now × Counted (answer_in answer) fw.now }
-    ensures { Prints (Smoothing.window window.old values.old) result
-        (Smoothing.window window.new values.new) out.new sink (answer_in answer) fw.now fx.now }
-{
-    match sink {
-        Sink::Short => {
-            let end = answers::put_short(out, answer, fw, fx);
-            Told {
-                sink: Sink::Short,
-                end,
-            }
-        }
-        Sink::Full => {
-            let end = answers::put_full(out, answer, fw, fx);
-            Told {
-                sink: Sink::Full,
-                end,
-            }
-        }
-        Sink::Smoother(state) => {
-            let t = put_smoothed(state, answer, fw, fx, window, values, out);
-            let next = t.state;
-            Told {
-                sink: Sink::Smoother(next),
-                end: t.end,
-            }
+impl Sink {
+    // An answer of the refiner, to where its frames go.
+    pub fn put_answer(
+        &mut self,
+        answer: Answer,
+        output: &Output,
+        window: &mut [u64],
+        values: &mut [f64],
+        text: &mut [u8; TEXT],
+    ) -> usize
+        requires shown { Shown (answer_in answer) output.now.words output.now.numbers }
+        requires counted { Counted (answer_in answer) output.now.words }
+        ensures { Prints (Smoothing.window window.old values.old) self.new (Smoothing.window window.new values.new) text.new result
+            self.old (answer_in answer) output.now }
+    {
+        match self {
+            Sink::Short => answers::put_short(text, answer, &output.words, &output.numbers),
+            Sink::Full => answers::put_full(text, answer, &output.words, &output.numbers),
+            Sink::Smoother(state) => put_smoothed(state, answer, output, window, values, text),
         }
     }
 }

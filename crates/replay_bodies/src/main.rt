@@ -18,8 +18,9 @@
 
 ghost use Rattle.std.specs.Prelude.{◌≤◌, length};
 
+use engine::body::Body;
+use engine::little;
 use engine::types::{Association, BodyKind};
-use engine::{body, little};
 use std::io;
 use std::io::Read;
 
@@ -46,29 +47,29 @@ fn print_association(rt: &impl Print, a: Association) -> io::Result<()> {
     print_number(rt, u64::from(outcome))
 }
 
-fn print_associations(rt: &impl Print, kind: BodyKind, s: &[u8]) -> io::Result<()> {
-    for j in 0..body::association_count(kind, s) {
-        print_association(rt, body::association(kind, s, j))?;
+fn print_associations(rt: &impl Print, b: &Body<'_>) -> io::Result<()> {
+    for j in 0..b.association_count() {
+        print_association(rt, b.association(j))?;
     }
     Ok(())
 }
 
-fn print_frame(rt: &impl Print, kind: BodyKind, s: &[u8]) -> io::Result<()> {
-    let mode = body::mode(kind, s);
+fn print_frame(rt: &impl Print, b: &Body<'_>) -> io::Result<()> {
+    let mode = b.mode();
     print_number(rt, u64::from(mode))?;
-    print_time(rt, body::time_of(kind, s))?;
-    print_number(rt, body::track_count(kind, s) as u64)?;
-    print_number(rt, body::observation_count(kind, s) as u64)?;
-    print_number(rt, body::association_count(kind, s) as u64)?;
-    print_number(rt, body::sensor_count(kind, s) as u64)?;
-    print_associations(rt, kind, s)
+    print_time(rt, b.time())?;
+    print_number(rt, b.track_count() as u64)?;
+    print_number(rt, b.observation_count() as u64)?;
+    print_number(rt, b.association_count() as u64)?;
+    print_number(rt, b.sensor_count() as u64)?;
+    print_associations(rt, b)
 }
 
-fn print_body(rt: &impl Print, kind: BodyKind, s: &[u8]) -> io::Result<()> {
-    match engine_check::check_body(kind, s) {
+fn print_body(rt: &impl Print, b: &Body<'_>) -> io::Result<()> {
+    match engine_check::check_body(b) {
         Ok(()) => {
             print!(rt; "0")?;
-            print_frame(rt, kind, s)?;
+            print_frame(rt, b)?;
         }
         Err(refusal) => {
             let number = u8::from(refusal);
@@ -90,7 +91,11 @@ fn print_bodies(rt: &impl Print, s: &[u8]) -> io::Result<()> {
             return Ok(());
         }
         at = from + size;
-        print_body(rt, BodyKind::Narrow, &s[from..at])?;
+        let body = Body {
+            kind: BodyKind::Narrow,
+            bytes: &s[from..at],
+        };
+        print_body(rt, &body)?;
     }
     Ok(())
 }

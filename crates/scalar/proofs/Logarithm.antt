@@ -1,13 +1,13 @@
 -- What the proofs of the logarithm cite: how a positive f64 falls into m · 2^e, from its digits. Assumes nothing.
-use Rattle.std.proofs.Common.{◌≡◌, ℕ, zero, suc, ◌+◌, ◌-◌, ◌*◌, ◌/◌, ◌%◌, ◌^◌, ◌<◌, ◌≤◌, Bool, true, false, cond, not, T, ltb, leb, ℤ, pos, negsuc, ◌+ℤ◌, sym, refl, ap, ◌∙◌, subst, lt_of_lt_of_le, lt_of_le_of_lt, lt_irrefl, mul-le-mul_right, mod-eq_of_lt, mul_assoc, lt_of_mul-lt-mul_right, one-mul, le_of_mul-le-mul_right, arith, lit≤, leb→le, pow_pos, pow-add, ltb-false, ltb-true, le-ltb, lt-ltb, le-leb, leb-false, leb-true}
+use Rattle.std.proofs.Common.{◌≡◌, ℕ, zero, suc, ◌+◌, ◌-◌, ◌*◌, ◌/◌, ◌%◌, ◌^◌, ◌<◌, ◌≤◌, Bool, true, false, cond, not, T, ltb, leb, ℤ, pos, negsuc, ◌+ℤ◌, sym, refl, ap, ◌∙◌, subst, lt_of_le_of_lt, lt_irrefl, mul-le-mul_right, mul_assoc, lt_of_mul-lt-mul_right, one-mul, le_of_mul-le-mul_right, arith, leb→le, pow_pos, pow-add, ltb-false, ltb-true, le-ltb, lt-ltb, le-leb, leb-false, leb-true}
 use lib.IntN.{sub_ℕ}
 use lib.Dec.{nleb→lt}
 use lib.Ieee.{Float, inf, fin, binary64, minus, size, odd, of_bits, lt, eq, mul, nan_bits}
 use lib.Ieee.Bits.{nan_bits_above}
 use borrow.Author.Tests.{lt-leb}
 use Rattle.scalar.specs.Ln.{ln_of, ln_scaled, ln_near, root_two, half}
-use Rattle.scalar.specs.Digits.{nil}
-use Rattle.scalar.proofs.Positive.{oddly, odd_shift, pow_lt_back, size_exact, Shift}
+use Rattle.scalar.specs.Digits.{nil, Full}
+use Rattle.scalar.proofs.Positive.{oddly, odd_shift, pow_lt_back, size_exact}
 use Rattle.scalar.proofs.NotPositive.{zero_of, none_of}
 
 -- ---- exponents
@@ -35,7 +35,7 @@ unfolding ln_of
 ln_at zero e h = absurd (lt_irrefl 0 h)
 ln_at (suc n) e h = refl
 
-pub scaled : (q y sh : ℕ) → 0 < q → q < 2 ^ 53 → sh < 53 → 2 ^ 52 ≤ q * 2 ^ sh → q * 2 ^ sh < 2 ^ 53
+scaled : (q y sh : ℕ) → 0 < q → q < 2 ^ 53 → sh < 53 → 2 ^ 52 ≤ q * 2 ^ sh → q * 2 ^ sh < 2 ^ 53
     → ln_of (odd 53 false q y 1074) ≡ ln_scaled (odd 53 false (q * 2 ^ sh) 1022 1074) (sub_ℕ (y + (52 - sh)) 1074)
 scaled q y sh qp ql sl lo hi =
     let o = oddly 53 q qp ql in
@@ -71,25 +71,17 @@ of_one q lo hi =
     let w : 0x10_0000_0000_0000 + (q - 0x10_0000_0000_0000) ≡ q = omega arith in
     rw (lt-leb (2 ^ 63) b (omega arith), x, t) (ap (λ (n : ℕ). odd 53 false n 1022 1074) w)
 
--- the pattern of the shifted digits under the exponent's field of 1, as the machine computes it
-abbrev pub pattern : ℕ → ℕ → ℕ
-pattern q z = q * 2 ^ (z - 11) % 0x1_0000_0000_0000_0000 + 0x3fe0_0000_0000_0000
+-- no pattern of 53 digits under the exponent's field of 1 is a NaN's
+pub one_no_nan : (d : ℕ) → d < 2 ^ 53 → T (not (nan_bits binary64 (d + 0x3fe0_0000_0000_0000)))
+one_no_nan d h =
+    let b = d + 0x3fe0_0000_0000_0000 in
+    subst (λ (t : Bool). T (not t)) (sym (nan_bits_above binary64 b ∙ le-ltb 0x7ff0_0000_0000_0000 (b % 0x8000_0000_0000_0000) (omega arith))) tt
 
-pattern_is : (q z : ℕ) → Shift q z → pattern q z ≡ q * 2 ^ (z - 11) + 0x3fe0_0000_0000_0000
-pattern_is q z s = ap (λ (x : ℕ). x + 0x3fe0_0000_0000_0000) (mod-eq_of_lt (lt_of_lt_of_le s.most (lit≤ tt)))
-
-pub pattern_lt : (q z : ℕ) → Shift q z → pattern q z < 0x4000_0000_0000_0000
-pattern_lt q z s = omega (arith, pattern_is q z s, s.most)
-
-pub pattern_no_nan : (q z : ℕ) → Shift q z → T (not (nan_bits binary64 (pattern q z)))
-pattern_no_nan q z s =
-    subst (λ (b : Bool). T (not b))
-    (sym (nan_bits_above binary64 (pattern q z) ∙ le-ltb 0x7ff0_0000_0000_0000 (pattern q z % 0x8000_0000_0000_0000) (omega (arith, pattern_lt q z s)))) tt
-
-pub brought : (q y z : ℕ) → 0 < q → q < 2 ^ 53 → Shift q z → ln_of (odd 53 false q y 1074) ≡ ln_scaled (of_bits binary64 (pattern q z)) (sub_ℕ (y + (52 - (z - 11))) 1074)
-brought q y z h k s =
-    scaled q y (z - 11) h k s.under s.least s.most
-    ∙ ap (λ (m : Float). ln_scaled m (sub_ℕ (y + (52 - (z - 11))) 1074)) (sym (ap (of_bits binary64) (pattern_is q z s) ∙ of_one (q * 2 ^ (z - 11)) s.least s.most))
+pub brought : {q y d e : ℕ} → 0 < q → q < 2 ^ 53 → Full q y d e → ln_of (odd 53 false q y 1074) ≡ ln_scaled (of_bits binary64 (d + 0x3fe0_0000_0000_0000)) (sub_ℕ e 1074)
+brought {q} {y} {d} {e} h k f =
+    scaled q y f.up h k f.under (rw f.digits at f.least) (rw f.digits at f.most)
+    ∙ (λ i. ln_scaled (odd 53 false (sym f.digits i) 1022 1074) (sub_ℕ (sym f.exponent i) 1074))
+    ∙ ap (λ (m : Float). ln_scaled m (sub_ℕ e 1074)) (sym (of_one d f.least f.most))
 
 sub_add : (p l d : ℕ) → sub_ℕ p l +ℤ pos d ≡ sub_ℕ (p + d) l
 sub_add p l d = ap (λ (e : ℤ). e +ℤ pos d) (same (ltb p l) refl) ∙ minus-add p l d

@@ -8,7 +8,7 @@ use lib.Ieee.Fits.{up_pos}
 use lib.Ieee.Digits.{size-lt, size-le}
 use borrow.Author.Tests.{eqb-false}
 use Rattle.scalar.specs.declared.digits.Digits.TheVariants.{Finite, Infinite, Zero, Other}
-use Rattle.scalar.specs.Digits.{nil, exponent_field, digits_field, digits_in, digits_of, Falls}
+use Rattle.scalar.specs.Digits.{nil, exponent_field, digits_field, digits_in, digits_of, Falls, Full}
 
 -- ---- an odd number with i zeros after it
 none : (i : ℕ) → i < 0 → ⊥
@@ -79,6 +79,9 @@ pub shift : (q : ℕ) → 0 < q → q < 2 ^ 53 → Shift q (count_leading_zeros 
 shift q h k =
     let (j, e, lo, hi) = leading_top 64 q h (lt_of_lt_of_le k (lit≤ tt)) in
     shift_at q (count_leading_zeros 64 q) j e (pow_lt_back j 53 (lt_of_le_of_lt lo k)) lo hi
+
+pub full : {q z : ℕ} (y : ℕ) → Shift q z → Full q y (q * 2 ^ (z - 11)) (y + (52 - (z - 11)))
+full {q} {z} y s = record { up = z - 11; under = s.under; digits = refl; exponent = refl; least = s.least; most = s.most }
 
 -- ---- which case a number is
 pub not_yes : {A : Type 0} → false ≡ true → A

@@ -13,7 +13,7 @@ use Rattle.scalar.specs.declared.digits.Digits.{Digits}
 use Rattle.scalar.specs.declared.digits.Digits.TheVariants.{Finite, Infinite, Zero, Other}
 use Rattle.scalar.specs.Digits.{IsFinite, nil, digits_of, Falls}
 use Rattle.scalar.specs.Root.{root_of, near_root, NearestRoot}
-use Rattle.scalar.proofs.Positive.{Shift, shift, falls, not_no}
+use Rattle.scalar.proofs.Positive.{Shift, shift, full, falls, not_no}
 use Rattle.scalar.proofs.NotPositive.{zero_of}
 use Rattle.scalar.proofs.RootDigits.{sq_even, sq_odd}
 use Rattle.scalar.proofs.Floor.{IsNear, near_law, sq_next, sq_le, sq_lt}
@@ -124,7 +124,7 @@ law a q y f =
     let many : 2 ^ 104 ≤ n = omega (arith, sh.least, twice) in
     let few : n < 2 ^ 106 = omega (arith, sh.most, twice) in
     let near : IsNear n r = near_law 53 n few in
-    let is : root_of a ≡ odd 54 false r k 1074 = ap root_of f.is ∙ brought q y s f.some f.few (record { under = sh.under; least = sh.least; most = sh.most }) in
+    let is : root_of a ≡ odd 54 false r k 1074 = ap root_of f.is ∙ brought f.some f.few (full y sh) in
     let top : r ≤ 2 ^ 53 = most n r k many few near in
     let small : r * 2 ^ k < overflow binary64 = lt_of_le_of_lt (mul-le-mul_right (2 ^ k) top) (subst (λ (x : ℕ). x < overflow binary64) (pow-add 2 53 k) (pow-lt {j = 2098} (omega (arith, f.low)))) in
     let value : num a * 2 ^ 1074 ≡ q * 2 ^ y * den a = value→cross a (q * 2 ^ y) (2 ^ 1074) (subst (λ (x : Float). HasValue x false (q * 2 ^ y) (2 ^ 1074)) (sym f.is) (odd_sign 53 false q y 1074)) in

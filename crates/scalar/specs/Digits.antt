@@ -1,5 +1,5 @@
 -- The kinds of a float for a function of positive numbers. Definitions only.
-use Rattle.std.specs.Prelude.{◌≡◌, ℕ, ◌+◌, ◌-◌, ◌/◌, ◌%◌, ◌^◌, ◌<◌, true, false, cond, ◌==◌, from_bits, to_bits, Float}
+use Rattle.std.specs.Prelude.{◌≡◌, ℕ, ◌+◌, ◌-◌, ◌*◌, ◌/◌, ◌%◌, ◌^◌, ◌≤◌, ◌<◌, true, false, cond, ◌==◌, from_bits, to_bits, Float}
 use Rattle.std.specs.Float.{binary64, inf}
 use Rattle.std.specs.Float.Ieee.{odd, lt, eq}
 use Rattle.scalar.specs.declared.digits.Digits.{Digits}
@@ -47,3 +47,12 @@ Falls a (Finite q y) = IsFinite a q y
 Falls a Infinite = a ≡ inf false
 Falls a Zero = eq a nil ≡ true
 Falls a Other = (lt nil a ≡ false) × (eq a nil ≡ false)
+
+-- d · 2^(e - 1126) is q · 2^(y - 1074), with 53 binary digits: q is moved up by so many places, and the exponent down by as many
+pub record Full (q y d e : ℕ) : Type 0 where
+  pub up : ℕ
+  pub under : up < 53
+  pub digits : d ≡ q * 2 ^ up
+  pub exponent : e ≡ y + (52 - up)
+  pub least : 2 ^ 52 ≤ d
+  pub most : d < 2 ^ 53

@@ -1,6 +1,6 @@
 // What a float is, for a function of positive numbers.
-ghost use Rattle.std.specs.Prelude.{◌≡◌};
-ghost use Rattle.scalar.specs.Digits.{digits_of, digits_in, Falls};
+ghost use Rattle.std.specs.Prelude.{◌≡◌, ◌^◌, ◌<◌};
+ghost use Rattle.scalar.specs.Digits.{digits_of, digits_in, Falls, Full};
 
 #[derive(Clone, Copy)]
 pub enum Digits {
@@ -43,5 +43,24 @@ pub fn digits_of(a: f64) -> Digits
         Digits::Zero
     } else {
         Digits::Other
+    }
+}
+
+// 53 binary digits of a positive float: digits · 2^(exponent - 1126).
+#[derive(Clone, Copy)]
+pub struct FullDigits {
+    pub digits: u64,
+    pub exponent: u64,
+}
+
+// The digits q · 2^(y - 1074), brought to 53.
+pub fn full_digits(q: u64, y: u64) -> FullDigits
+    requires { (0 < q) × (q < 2 ^ 53) × (y < 2046) }
+    ensures { Full q y result.digits result.exponent }
+{
+    let shift = q.leading_zeros() as u64 - 11;
+    FullDigits {
+        digits: q << shift,
+        exponent: y + (52 - shift),
     }
 }

@@ -4,7 +4,7 @@ ghost use Rattle.std.proofs.Math.IntN.{sub_ℕ};
 ghost use lib.Ieee.{odd};
 ghost use Rattle.scalar.specs.Ln.{ln_of, ln_near, ln_series};
 
-use crate::digits::{Digits, digits_of};
+use crate::digits::{Digits, digits_of, full_digits};
 
 // The f64 nearest 1/n, for n = 21, 19, .., 1.
 const RECIPROCALS: [f64; 11] = [
@@ -51,19 +51,17 @@ fn ln_near(m: f64, k: u64) -> f64
     exponent(k) * 0.6931471805599453 + 2.0 * f * s
 }
 
-// The logarithm of q · 2^(y - 1074): q is brought to 53 binary digits, which are those of m.
+// The logarithm of q · 2^(y - 1074): its 53 digits are those of m.
 fn ln_digits(q: u64, y: u64) -> f64
     requires { (0 < q) × (q < 2 ^ 53) × (y < 2046) }
     ensures { result ≡ ln_of (odd 53 false q y 1074) }
 {
-    let shift = q.leading_zeros() as u64 - 11;
-    let digits = q << shift;
-    let m = f64::from_bits(digits + 0x3fe0_0000_0000_0000);
-    let k = y + (52 - shift);
+    let full = full_digits(q, y);
+    let m = f64::from_bits(full.digits + 0x3fe0_0000_0000_0000);
     if 1.4142135623730951 < m {
-        return ln_near(m * 0.5, k + 1);
+        return ln_near(m * 0.5, full.exponent + 1);
     }
-    ln_near(m, k)
+    ln_near(m, full.exponent)
 }
 
 // The natural logarithm: NaN for a NaN or below 0, -∞ for either zero, +∞ for +∞.

@@ -2,12 +2,11 @@
 use Rattle.search.specs.declared.marks.Mark.{Mark}
 use Prim.Native.Nat.{ℕ, suc, ◌-◌, ◌≤◌, ◌<◌}
 use native.Mathlib.Omega.{arith}
-use mathlib.Core.Path.{◌≡◌, refl, sym, ap, ◌∙◌}
+use mathlib.Core.Path.{◌≡◌, sym, ap, ◌∙◌}
 use mathlib.Core.Bool.{Bool, true, false}
 use mathlib.Core.List.{List}
-use lib.ListN.{length, get_or, take}
+use lib.ListN.{get_or, take}
 use lib.Ieee.{Float}
-use Rattle.bounds.specs.Bounds.{DETECTIONS}
 use Rattle.search_rows.specs.declared.moves.Tally.{Tally}
 use Rattle.search_rows.specs.Rows.{present_in}
 use Rattle.search_rows.specs.Moves.{begun}
@@ -25,18 +24,6 @@ pass_is e ids t₀ n table is b v =
     ∙ (λ i. visit e (is i) (sweep e ids (is i) (progress_of ids (begun t₀))))
 
 -- ---- what it leaves to the next
-
-pub left_none : {e : Scene} {table ids : List ℕ} {costs : List Float} {moved : List Mark} → length table ≡ DETECTIONS → length ids ≡ DETECTIONS → length costs ≡ DETECTIONS → length moved ≡ DETECTIONS → Left e 0 0 table ids costs moved
-left_none a b c d =
-    record {
-      listed = record { within = omega arith; long = a; above = λ i h. absurd (omega arith); rises = λ i j h g. absurd (omega arith) };
-      all = b;
-      long = c;
-      marks = d;
-      costed = λ k h l. absurd (omega arith);
-      pair = λ i j h g. absurd (omega arith);
-      track = λ k h. absurd (omega arith);
-    }
 
 module _ {e : Scene} {n next : ℕ} {table rows : List ℕ} {swept : List Mark} {ids : List ℕ} {costs : List Float} {moved : List Mark} (listed : IdTable n table) (rests : (i j : ℕ) → i < j → j < n → Rests e table rows swept i j) (v : Visits e n table rows next n ids costs moved) (grows : Grows n swept moved) where
   pub pass_leaves : Left e n next table ids costs moved
@@ -61,9 +48,6 @@ pub record Ran (e : Scene) (most : ℕ) (ids₀ : List ℕ) (t₀ : Tally) (ids 
   pub left : passes_over e most (progress_of ids₀ t₀) t₀.moved ≡ passes_over e n (progress_of ids t) t.moved
 
 module _ {e : Scene} {most : ℕ} {ids₀ : List ℕ} {t₀ : Tally} where
-  pub ran_none : {table : List ℕ} {costs : List Float} {moved : List Mark} {count next : ℕ} → Left e count next table ids₀ costs moved → Ran e most ids₀ t₀ ids₀ table costs moved t₀ count next most
-  ran_none t = record { tables = t; left = refl }
-
   module _ {ids table : List ℕ} {costs : List Float} {moved : List Mark} {t : Tally} {count next n : ℕ} (o : Ran e most ids₀ t₀ ids table costs moved t count next n) where
     one_left : 0 < n → passes_over e n (progress_of ids t) t.moved ≡ passes_over e (suc (n - 1)) (progress_of ids t) t.moved
     one_left h = let q : n ≡ suc (n - 1) = omega arith in ap (λ (k : ℕ). passes_over e k (progress_of ids t) t.moved) q

@@ -180,7 +180,7 @@ track_rest e a ra = is_none (best_track_row e.hall.config (view_on e) (fold_on e
 -- the places i and j of the table have no move by the table of rows, if neither is marked
 pub record Rests (e : Scene) (table rows : List ℕ) (marks : List Mark) (i j : ℕ) : Type 0 where
   pub pair : get_or marks i Resting ≡ Resting → get_or marks j Resting ≡ Resting →
-    pair_rest e (get_or table i 0) (get_or table j 0) (row_at rows i) (row_at rows j) ≡ true
+      pair_rest e (get_or table i 0) (get_or table j 0) (row_at rows i) (row_at rows j) ≡ true
 
 -- a place that is marked stays so
 pub record Grows (n : ℕ) (marks marks' : List Mark) : Type 0 where
@@ -210,11 +210,11 @@ pub record Visits (e : Scene) (n : ℕ) (table rows : List ℕ) (next i : ℕ) (
   pub costed : (k : ℕ) → k < n → get_or table k 0 < next → get_or costs k nan ≡ cost_on e ids (get_or table k 0)
   pub same : (k : ℕ) → k < n → get_or table k 0 < next → get_or moved k Resting ≡ Resting → row_on e ids (get_or table k 0) ≡ row_at rows k
   pub rested : (k : ℕ) → k < i → get_or table k 0 < next → get_or moved k Resting ≢ ByTrack →
-    track_rest e (get_or table k 0) (row_on e ids (get_or table k 0)) ≡ true
+      track_rest e (get_or table k 0) (row_on e ids (get_or table k 0)) ≡ true
 
 -- the step of the track a at place i: its own cost and mark, and no other's
 pub record TrackStepped (e : Scene) (i a : ℕ) (base : Float) (ids : List ℕ) (costs : List Float) (moved : List Mark)
-  (ids' : List ℕ) (costs' : List Float) (moved' : List Mark) : Type 0 where
+    (ids' : List ℕ) (costs' : List Float) (moved' : List Mark) : Type 0 where
   pub all : length ids' ≡ DETECTIONS
   pub long : length costs' ≡ DETECTIONS
   pub marks : length moved' ≡ DETECTIONS
@@ -232,10 +232,10 @@ pub record Left (e : Scene) (n next : ℕ) (table ids : List ℕ) (costs : List 
   pub marks : length moved ≡ DETECTIONS
   pub costed : (k : ℕ) → k < n → get_or table k 0 < next → get_or costs k nan ≡ cost_on e ids (get_or table k 0)
   pub pair : (i j : ℕ) → i < j → j < n → get_or table i 0 < next → get_or table j 0 < next →
-    get_or moved i Resting ≡ Resting → get_or moved j Resting ≡ Resting →
+      get_or moved i Resting ≡ Resting → get_or moved j Resting ≡ Resting →
       pair_rest e (get_or table i 0) (get_or table j 0) (row_on e ids (get_or table i 0)) (row_on e ids (get_or table j 0)) ≡ true
   pub track : (k : ℕ) → k < n → get_or table k 0 < next → get_or moved k Resting ≢ ByTrack →
-    track_rest e (get_or table k 0) (row_on e ids (get_or table k 0)) ≡ true
+      track_rest e (get_or table k 0) (row_on e ids (get_or table k 0)) ≡ true
 
 -- the id x stood at a place of the last pass, with the mark m
 pub record From (n next : ℕ) (old : List ℕ) (moved : List Mark) (x : ℕ) (m : Mark) : Type 0 where
@@ -247,7 +247,7 @@ pub record From (n next : ℕ) (old : List ℕ) (moved : List Mark) (x : ℕ) (m
 
 -- the first i places of a pass that begins: what they cost, and what is due of those that stood in the last
 pub record Carried (e : Scene) (n next : ℕ) (old : List ℕ) (moved : List Mark) (table ids : List ℕ)
-  (i : ℕ) (costs : List Float) (due : List Mark) : Type 0 where
+    (i : ℕ) (costs : List Float) (due : List Mark) : Type 0 where
   pub costed : Costed e i table ids costs
   pub long : length due ≡ DETECTIONS
   pub from : (k : ℕ) → k < i → get_or due k Resting ≢ ByTrack → From n next old moved (get_or table k 0) (get_or due k Resting)

@@ -18,7 +18,7 @@ use Rattle.search.specs.Pass.{Scene, view_on, fold_on}
 pub record RepresentsScan (e : Scene) (ids : List ℕ) (k : ℕ) (s : Scan) : Type 0 where
   pub column : column_at e.starts ids k ≡ keep (ltb 0) s.ids
   pub dots : (j : ℕ) → j < length (picked s.ids s.frame.associations) → measurement_at (view_on e) k (get_or e.starts k 0 + j)
-    ≡ measure e.hall.config (detection_of (e.hall.first.0 + k) s.frame (get_or (picked s.ids s.frame.associations) j no_association))
+      ≡ measure e.hall.config (detection_of (e.hall.first.0 + k) s.frame (get_or (picked s.ids s.frame.associations) j no_association))
   pub regular : Regular s
 
 -- the scans are gathered, of which the first is the k-th

@@ -18,7 +18,7 @@ use cost::prices::Prices;
 use cost_row::window::Window;
 use engine::types::RefinedId;
 use search_rows::moves;
-use search_rows::moves::Tally;
+use search_rows::moves::PairWithRows;
 
 // The best move of the pair at two places of the table, made; only the costs of these two change.
 fn pair_step(
@@ -27,14 +27,14 @@ fn pair_step(
     i: usize,
     j: usize,
     close: &[bool; SCANS],
-    t: Tally,
     ids: &mut [u64; DETECTIONS],
     course: &mut Course,
-) -> Tally
+)
     requires { let l = list.now in (i < j) × (j < l.count) × IdTable l.count l.table
         × Swept (scene_in scene.now) l.count l.table l.rows ids.old course.old.costs course.old.moved }
     ensures step { let l = list.now in
-        progress_of ids.new result ≡ pair_step_on (scene_in scene.now) close.now (get_or l.table i 0) (get_or l.table j 0) (progress_of ids.old t) }
+        progress_of ids.new course.new.tally
+        ≡ pair_step_on (scene_in scene.now) close.now (get_or l.table i 0) (get_or l.table j 0) (progress_of ids.old course.old.tally) }
     ensures swept { let l = list.now in Swept (scene_in scene.now) l.count l.table l.rows ids.new course.new.costs course.new.moved }
     ensures grows { Grows list.now.count course.old.moved course.new.moved }
     ensures rests { let l = list.now in get_or course.new.moved i Resting ≡ Resting
@@ -50,16 +50,18 @@ fn pair_step(
     tables::row_now(scene, list, j, same, ids, &mut rb);
     let a = Window::new(x, scene.fold_of(x), &ra, course.costs[i]);
     let b = Window::new(y, scene.fold_of(y), &rb, course.costs[j]);
-    match search_pair::best_of_pair(&scene.prices, close, &a, &b, &mut course.logs) {
-        None => t,
-        Some(m) => {
-            moves::apply_pair(m, scene.prices.first, x, y, &ra, &rb, scene.starts, ids);
-            course.costs[i] = scene.track_cost(x, ids, &mut course.logs);
-            course.costs[j] = scene.track_cost(y, ids, &mut course.logs);
-            course.moved[i] = Mark::ByPair;
-            course.moved[j] = Mark::ByPair;
-            t.count_pair(m)
-        }
+    if let Some(m) = search_pair::best_of_pair(&scene.prices, close, &a, &b, &mut course.logs) {
+        let pair = PairWithRows {
+            m,
+            ra: &ra,
+            rb: &rb,
+        };
+        moves::apply(&pair, scene.prices.first, x, y, scene.starts, ids);
+        course.costs[i] = scene.track_cost(x, ids, &mut course.logs);
+        course.costs[j] = scene.track_cost(y, ids, &mut course.logs);
+        course.moved[i] = Mark::ByPair;
+        course.moved[j] = Mark::ByPair;
+        course.tally = course.tally.count(m);
     }
 }
 
@@ -133,27 +135,25 @@ fn pair_turn(
     list: &Listing,
     i: usize,
     j: usize,
-    t: Tally,
     ids: &mut [u64; DETECTIONS],
     course: &mut Course,
-) -> Tally
+)
     requires { let l = list.now in (i < j) × (j < l.count) × IdTable l.count l.table × Due (scene_in scene.now) l.count l.table l.rows l.due
         × Swept (scene_in scene.now) l.count l.table l.rows ids.old course.old.costs course.old.moved }
     ensures turned { let e = scene_in scene.now in let l = list.now in let a = get_or l.table i 0 in let b = get_or l.table j 0 in
         (is : List ℕ) → Tabled e.starts is l.table l.count l.rows →
-        (progress_of ids.new result ≡ pair_if e (close_on e (row_on e is a) (row_on e is b)) a b (progress_of ids.old t))
+        (progress_of ids.new course.new.tally ≡ pair_if e (close_on e (row_on e is a) (row_on e is b)) a b (progress_of ids.old course.old.tally))
         × Rests e l.table l.rows course.new.moved i j }
     ensures swept { let l = list.now in Swept (scene_in scene.now) l.count l.table l.rows ids.new course.new.costs course.new.moved }
     ensures grows { Grows list.now.count course.old.moved course.new.moved }
 {
     if pair_rests(list, course, i, j) {
-        return t;
+        return;
     }
     let mut close = [false; SCANS];
     if close_rows(&scene.prices, &list.rows, i, j, &mut close) {
-        return pair_step(scene, list, i, j, &close, t, ids, course);
+        pair_step(scene, list, i, j, &close, ids, course);
     }
-    t
 }
 
 // The track at place i of the table with each after it.
@@ -161,45 +161,40 @@ fn sweep_one(
     scene: &SceneRef<'_>,
     list: &Listing,
     i: usize,
-    t0: Tally,
     ids: &mut [u64; DETECTIONS],
     course: &mut Course,
-) -> Tally
+)
     requires { let l = list.now in (i < l.count) × IdTable l.count l.table × Due (scene_in scene.now) l.count l.table l.rows l.due
         × Swept (scene_in scene.now) l.count l.table l.rows ids.old course.old.costs course.old.moved }
     ensures swept_one { let e = scene_in scene.now in let l = list.now in
         (is : List ℕ) → Tabled e.starts is l.table l.count l.rows →
-        (progress_of ids.new result ≡ sweep_one e is (get_or l.table i 0) (drop (i + 1) (take l.count l.table)) (progress_of ids.old t0))
+        (progress_of ids.new course.new.tally
+        ≡ sweep_one e is (get_or l.table i 0) (drop (i + 1) (take l.count l.table)) (progress_of ids.old course.old.tally))
         × ((j : ℕ) → i < j → j < l.count → Rests e l.table l.rows course.new.moved i j) }
     ensures swept { let l = list.now in Swept (scene_in scene.now) l.count l.table l.rows ids.new course.new.costs course.new.moved }
     ensures grows { Grows list.now.count course.old.moved course.new.moved }
 {
-    let mut t = t0;
     for j in i + 1..list.count {
-        t = pair_turn(scene, list, i, j, t, ids, course);
+        pair_turn(scene, list, i, j, ids, course);
     }
-    t
 }
 
 // Every pair of the table.
 pub fn sweep_pairs(
     scene: &SceneRef<'_>,
     list: &Listing,
-    t0: Tally,
     ids: &mut [u64; DETECTIONS],
     course: &mut Course,
-) -> Tally
+)
     requires { let l = list.now in IdTable l.count l.table × Due (scene_in scene.now) l.count l.table l.rows l.due
         × Swept (scene_in scene.now) l.count l.table l.rows ids.old course.old.costs course.old.moved }
     ensures swept_all { let e = scene_in scene.now in let l = list.now in
         (is : List ℕ) → Tabled e.starts is l.table l.count l.rows →
-        (progress_of ids.new result ≡ sweep e is (take l.count l.table) (progress_of ids.old t0))
+        (progress_of ids.new course.new.tally ≡ sweep e is (take l.count l.table) (progress_of ids.old course.old.tally))
         × ((i j : ℕ) → i < j → j < l.count → Rests e l.table l.rows course.new.moved i j) }
     ensures swept { let l = list.now in Swept (scene_in scene.now) l.count l.table l.rows ids.new course.new.costs course.new.moved }
 {
-    let mut t = t0;
     for i in 0..list.count {
-        t = sweep_one(scene, list, i, t, ids, course);
+        sweep_one(scene, list, i, ids, course);
     }
-    t
 }

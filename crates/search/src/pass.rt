@@ -11,31 +11,32 @@ use crate::marks::Mark;
 use crate::scene::SceneRef;
 use crate::tables::{Course, Listing};
 use crate::{pairs, tables, tracks};
-use bounds::{DETECTIONS, DOTS, FILTERS, PARTS, ROWS, STARTS};
+use bounds::{DETECTIONS, DOTS, ROWS, STARTS};
 use cost::logs::Logs;
 use cost::prices::Prices;
 use cost_row::Hall;
 use engine::types::RefinedId;
+use fgo_part::FrozenParts;
 use fgo_spec::moves::FgoCounters;
 use search_rows::moves::Tally;
 
 // One pass. What it leaves in the tables goes to the next.
 fn run_pass(
     scene: &SceneRef<'_>,
-    t0: Tally,
     ids: &mut [u64; DETECTIONS],
     list: &mut Listing,
     course: &mut Course,
-) -> Tally
+)
     requires { Left (scene_in scene.now) list.old.count course.old.next_id.0 list.old.table ids.old course.old.costs course.old.moved }
-    ensures passed { progress_of ids.new result ≡ pass_over (scene_in scene.now) (progress_of ids.old t0) }
+    ensures passed { progress_of ids.new course.new.tally ≡ pass_over (scene_in scene.now) (progress_of ids.old course.old.tally) }
     ensures left { Left (scene_in scene.now) list.new.count course.new.next_id.0 list.new.table ids.new course.new.costs course.new.moved }
 {
     tables::begin_pass(scene, ids, list, course);
-    let t = pairs::sweep_pairs(scene, list, t0.begin(), ids, course);
-    let visited = tracks::visit_tracks(scene, list, t, ids, course);
-    course.next_id = t.next_id;
-    visited
+    course.tally = course.tally.begin();
+    pairs::sweep_pairs(scene, list, ids, course);
+    let new = course.tally.next_id;
+    tracks::visit_tracks(scene, list, ids, course);
+    course.next_id = new;
 }
 
 // Passes, until the most have run or one made no move.
@@ -54,15 +55,15 @@ fn run_passes(scene: &SceneRef<'_>, t0: Tally, ids: &mut [u64; DETECTIONS]) -> T
         moved: [Mark::Resting; DETECTIONS],
         next_id: RefinedId(0),
         logs: Logs::new(),
+        tally: t0,
     };
-    let mut t = t0;
     for pass in 0..scene.prices.config.max_passes {
-        if !t.moved {
-            return t;
+        if !course.tally.moved {
+            return course.tally;
         }
-        t = run_pass(scene, t, ids, &mut list, &mut course);
+        run_pass(scene, ids, &mut list, &mut course);
     }
-    t
+    course.tally
 }
 
 // The search at one push: it gives the gathered detections to tracks anew wherever that is cheaper.
@@ -72,13 +73,12 @@ pub fn improve<'a>(
     counters: FgoCounters,
     starts: &'a [usize; STARTS],
     dots: &'a [f64; DOTS],
-    tracks: &'a [u64; PARTS],
-    filters: &'a [f64; FILTERS],
+    parts: &'a FrozenParts,
     ids: &mut [u64; DETECTIONS],
 ) -> Tally
-    requires { Able (scene_of hall starts.now dots.now tracks.now filters.now) }
+    requires { Able (scene_of hall starts.now dots.now parts.now.tracks parts.now.filters) }
     ensures long { length ids.new ≡ DETECTIONS }
-    ensures finds { let e = scene_of hall starts.now dots.now tracks.now filters.now in
+    ensures finds { let e = scene_of hall starts.now dots.now parts.now.tracks parts.now.filters in
         (ps : List (ℕ × Prefix)) (ss : List Scan) → Represents e next.0 counters ids.old ps ss →
         Finds e next.0 counters ps ss ids.new result }
 {
@@ -91,8 +91,8 @@ pub fn improve<'a>(
         detections: hall.detections,
         frozen: hall.frozen,
         starts,
-        tracks,
-        filters,
+        tracks: &parts.tracks,
+        filters: &parts.filters,
     };
     let t = Tally {
         next_id: next,

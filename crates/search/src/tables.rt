@@ -12,6 +12,7 @@ use crate::scene::SceneRef;
 use bounds::{DETECTIONS, ROW, ROWS, SCANS};
 use cost::logs::Logs;
 use engine::types::RefinedId;
+use search_rows::moves::Tally;
 use search_rows::rows;
 
 // What a pass lists and does not change: how many ids have a window, these, ascending, their rows, and what is due of each.
@@ -25,13 +26,14 @@ pub struct Listing {
     pub due: [Mark; DETECTIONS],
 }
 
-// What goes on changing: what each id listed costs, its mark, and the logarithms worked out; and the next id before the tracks were visited.
+// What goes on changing: what each id listed costs, its mark, and the logarithms worked out; the next id before the tracks were visited; and what is counted.
 #[derive(Drop)]
 pub struct Course {
     pub costs: [f64; DETECTIONS],
     pub moved: [Mark; DETECTIONS],
     pub next_id: RefinedId,
     pub logs: Logs,
+    pub tally: Tally,
 }
 
 // What the last pass left: the ids that it listed, what they cost, their marks, and the next id before it visited them.
@@ -70,7 +72,7 @@ impl Last {
         requires { self.now.count ≤ DETECTIONS }
         ensures { result ≡ true → (k < self.now.count) × (x.0 < self.now.next_id.0) × (get_or self.now.table k 0 ≡ x.0) }
     {
-        k < self.count && x.0 < self.next_id.0 && self.table[k] == x.0
+        k < self.count && x < self.next_id && self.table[k] == x.0
     }
 }
 
@@ -111,6 +113,7 @@ pub fn begin_pass(
     ensures rows { Tabled scene.now.starts.now ids.now list.new.table list.new.count list.new.rows }
     ensures swept { Swept (scene_in scene.now) list.new.count list.new.table list.new.rows ids.now course.new.costs course.new.moved }
     ensures due { Due (scene_in scene.now) list.new.count list.new.table list.new.rows list.new.due }
+    ensures tally { course.new.tally ≡ course.old.tally }
 {
     let last = Last {
         count: list.count,

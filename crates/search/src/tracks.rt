@@ -14,7 +14,6 @@ use cost::logs::Logs;
 use cost_row::window::Window;
 use engine::types::RefinedId;
 use search_rows::moves;
-use search_rows::moves::Tally;
 
 // The best move of a track with the row that it has and the cost `base` of it, made; its cost is worked out anew.
 fn track_step(
@@ -22,24 +21,21 @@ fn track_step(
     i: usize,
     a: RefinedId,
     base: f64,
-    t: Tally,
     row: &[usize; SCANS],
     ids: &mut [u64; DETECTIONS],
     course: &mut Course,
-) -> Tally
+)
     requires { (i < DETECTIONS) × (row.now ≡ row_on (scene_in scene.now) ids.old a.0) × (base ≡ cost_on (scene_in scene.now) ids.old a.0) }
-    ensures step { progress_of ids.new result ≡ track_step_on (scene_in scene.now) a.0 (progress_of ids.old t) }
+    ensures step { progress_of ids.new course.new.tally ≡ track_step_on (scene_in scene.now) a.0 (progress_of ids.old course.old.tally) }
     ensures stepped { TrackStepped (scene_in scene.now) i a.0 base ids.old course.old.costs course.old.moved ids.new course.new.costs course.new.moved }
 {
     let w = Window::new(a, scene.fold_of(a), row, base);
-    match search_track::best_of_track(&scene.prices, &w, &mut course.logs) {
-        None => t,
-        Some(m) => {
-            moves::apply_track(m, scene.prices.first, a, t.next_id, scene.starts, ids);
-            course.costs[i] = scene.track_cost(a, ids, &mut course.logs);
-            course.moved[i] = Mark::ByTrack;
-            t.count_track(m)
-        }
+    if let Some(m) = search_track::best_of_track(&scene.prices, &w, &mut course.logs) {
+        let new = course.tally.next_id;
+        moves::apply(&m, scene.prices.first, a, new, scene.starts, ids);
+        course.costs[i] = scene.track_cost(a, ids, &mut course.logs);
+        course.moved[i] = Mark::ByTrack;
+        course.tally = course.tally.count(m);
     }
 }
 
@@ -48,7 +44,7 @@ fn unmoved(course: &Course, i: usize, x: RefinedId, new: RefinedId) -> bool
     requires { i < DETECTIONS }
     ensures { result ≡ true → (x.0 < new.0) × (get_or course.now.moved i Resting ≡ Resting) }
 {
-    x.0 < new.0 && course.moved[i] == Mark::Resting
+    x < new && course.moved[i] == Mark::Resting
 }
 
 // The row at place i, of the id x, has not changed since its track was last visited.
@@ -72,7 +68,7 @@ fn cost_now(
     ensures cost { result ≡ cost_on (scene_in scene.now) ids.now x.0 }
     ensures kept { x.0 < new.0 → result ≡ kept }
 {
-    if x.0 < new.0 {
+    if x < new {
         return kept;
     }
     scene.track_cost(x, ids, logs)
@@ -84,46 +80,45 @@ fn track_turn(
     list: &Listing,
     i: usize,
     new: RefinedId,
-    t: Tally,
     ids: &mut [u64; DETECTIONS],
     course: &mut Course,
-) -> Tally
-    requires { let l = list.now in (i < l.count) × IdTable l.count l.table × Due (scene_in scene.now) l.count l.table l.rows l.due × (new.0 ≤ t.next_id.0)
+)
+    requires { let l = list.now in (i < l.count) × IdTable l.count l.table × Due (scene_in scene.now) l.count l.table l.rows l.due
+        × (new.0 ≤ course.old.tally.next_id.0)
         × Visits (scene_in scene.now) l.count l.table l.rows new.0 i ids.old course.old.costs course.old.moved }
-    ensures step { progress_of ids.new result ≡ track_step_on (scene_in scene.now) (get_or list.now.table i 0) (progress_of ids.old t) }
+    ensures step { progress_of ids.new course.new.tally
+        ≡ track_step_on (scene_in scene.now) (get_or list.now.table i 0) (progress_of ids.old course.old.tally) }
     ensures visits { let l = list.now in Visits (scene_in scene.now) l.count l.table l.rows new.0 (i + 1) ids.new course.new.costs course.new.moved }
     ensures grows { Grows list.now.count course.old.moved course.new.moved }
 {
     let a = RefinedId(list.table[i]);
     if track_rests(list, course, i, a, new) {
-        return t;
+        return;
     }
     let mut row = [0usize; SCANS];
     let same = unmoved(course, i, a, new);
     tables::row_now(scene, list, i, same, ids, &mut row);
     let base = cost_now(scene, a, course.costs[i], new, ids, &mut course.logs);
-    track_step(scene, i, a, base, t, &row, ids, course)
+    track_step(scene, i, a, base, &row, ids, course);
 }
 
 // Every track of the table.
 pub fn visit_tracks(
     scene: &SceneRef<'_>,
     list: &Listing,
-    t0: Tally,
     ids: &mut [u64; DETECTIONS],
     course: &mut Course,
-) -> Tally
+)
     requires { let l = list.now in IdTable l.count l.table × Due (scene_in scene.now) l.count l.table l.rows l.due
         × Swept (scene_in scene.now) l.count l.table l.rows ids.old course.old.costs course.old.moved }
-    ensures visited { progress_of ids.new result ≡ visit (scene_in scene.now) (take list.now.count list.now.table) (progress_of ids.old t0) }
+    ensures visited { progress_of ids.new course.new.tally
+        ≡ visit (scene_in scene.now) (take list.now.count list.now.table) (progress_of ids.old course.old.tally) }
     ensures visits { let l = list.now in
-        Visits (scene_in scene.now) l.count l.table l.rows t0.next_id.0 l.count ids.new course.new.costs course.new.moved }
+        Visits (scene_in scene.now) l.count l.table l.rows course.old.tally.next_id.0 l.count ids.new course.new.costs course.new.moved }
     ensures grows { Grows list.now.count course.old.moved course.new.moved }
 {
-    let new = t0.next_id;
-    let mut t = t0;
+    let new = course.tally.next_id;
     for i in 0..list.count {
-        t = track_turn(scene, list, i, new, t, ids, course);
+        track_turn(scene, list, i, new, ids, course);
     }
-    t
 }

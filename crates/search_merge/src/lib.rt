@@ -161,6 +161,8 @@ fn merge_of(
 
 // The best so far or one of the two merges into a keeper, whose window would cost `exchanged` with the other's row. Where no scan is shared both are the same
 // row, whose cost is worked out once.
+// As it is: eight parameters, since the prices and the windows are lent to be read and the logarithms to be written, and the base is what both windows cost in
+// the order of the pair, whichever of them is the keeper.
 pub fn better_merge(
     prices: &Prices<'_>,
     best: Option<PairMove>,

@@ -17,7 +17,7 @@ use engine::types::ScanIndex;
 use fgo_spec::moves::PairMove;
 use search_rows::moves::better;
 
-// The gain of the swap at a cut, by the folds over both rows before it; base is what both windows cost now.
+// The gain of the swap at a cut, by the folds over both rows before it.
 fn swap_gain(
     prices: &Prices<'_>,
     a: &Window<'_>,
@@ -25,18 +25,17 @@ fn swap_gain(
     fa: &Fold,
     fb: &Fold,
     cut: usize,
-    base: f64,
     logs: &mut Logs,
 ) -> f64
     requires { (misses_of fa.now < 2 ^ 58) × (misses_of fb.now < 2 ^ 58) }
     ensures { result
         ≡ cost prices.now.config fa.now (measurements (view_in prices.now) cut (drop cut b.now.row.now))
         ⊕ cost prices.now.config fb.now (measurements (view_in prices.now) cut (drop cut a.now.row.now))
-        ⊖ base }
+        ⊖ (a.now.cost ⊕ b.now.cost) }
 {
     let x = cost_row::rest_cost(prices, fa, b.row, cut, b.end, logs);
     let y = cost_row::rest_cost(prices, fb, a.row, cut, a.end, logs);
-    x + y - base
+    x + y - (a.cost + b.cost)
 }
 
 // A pair may be cut at scan k: it is close in k, or in the scan before.
@@ -85,7 +84,7 @@ fn best_swap(
             fa = cost_row::fold_to(prices, &fa, a.row, done, k, logs);
             fb = cost_row::fold_to(prices, &fb, b.row, done, k, logs);
             done = k;
-            let gain = swap_gain(prices, a, b, &fa, &fb, k, paid, logs);
+            let gain = swap_gain(prices, a, b, &fa, &fb, k, logs);
             let cut = ScanIndex(prices.first.0 + k as u64);
             best = better(best, PairMove::Swap { cut, gain });
         }

@@ -111,14 +111,6 @@ pub record Renaming (starts : List ℕ) (a b : ℕ) (t : ℕ → Targets) (ids�
   pub left : renamed_from starts a b t k (SCANS - k) ids ≡ renamed_from starts a b t 0 SCANS ids₀
 
 module _ {starts : List ℕ} {a b : ℕ} {t : ℕ → Targets} {ids₀ : List ℕ} where
-  pub renaming_start : Starts starts → length ids₀ ≡ DETECTIONS → Renaming starts a b t ids₀ ids₀ 0
-  renaming_start s e = record { begins = s; within = omega arith; size = e; left = refl }
-
-  -- what one scan's renaming asks
-  pub renaming_ready : {ids : List ℕ} {k : ℕ} → Renaming starts a b t ids₀ ids k → k < SCANS →
-      (get_or starts k 0 ≤ get_or starts (k + 1) 0) × (get_or starts (k + 1) 0 ≤ DETECTIONS) × (length ids ≡ DETECTIONS)
-  renaming_ready {ids} {k} o h = rw (add-one k) (o.begins.rises k h, starts_within o.begins (suc k) h, o.size)
-
   pub renaming_turn : {ids r : List ℕ} {k : ℕ} {u : Targets} → Renaming starts a b t ids₀ ids k → k < SCANS → u ≡ t k →
       r ≡ map_over (retarget a b u) (get_or starts k 0) (get_or starts (k + 1) 0) ids → Renaming starts a b t ids₀ r (k + 1)
   unfolding renamed_from

@@ -73,6 +73,10 @@ one_more n = cond (ltb n (2 ^ 63)) (n + 1) n
 abbrev pub begun : Tally → Tally
 begun t = record { next_id = t.next_id; counters = t.counters; passes = one_more t.passes; moved = false }
 
+-- the tally after a move: what it makes of the counters and of the next id
+abbrev pub counted : (FgoCounters → FgoCounters) → (ℕ → ℕ) → Tally → Tally
+counted f g t = record { next_id = record { 0 = g t.next_id.0 }; counters = f t.counters; passes = t.passes; moved = true }
+
 -- the counters after a move of a pair
 abbrev pub pair_counters : PairMove → FgoCounters → FgoCounters
 pair_counters (Swap f g) k = record { swaps = one_more k.swaps; merges = k.merges; splits = k.splits; drops = k.drops }
@@ -80,7 +84,7 @@ pair_counters (Merge i own g) k = record { swaps = k.swaps; merges = one_more k.
 
 -- the tally after a move of a pair
 abbrev pub pair_tally : PairMove → Tally → Tally
-pair_tally m t = record { next_id = t.next_id; counters = pair_counters m t.counters; passes = t.passes; moved = true }
+pair_tally m t = counted (pair_counters m) (λ n. n) t
 
 -- the counters after a move of a single track
 abbrev pub track_counters : TrackMove → FgoCounters → FgoCounters
@@ -94,4 +98,4 @@ next_id_after (Drop f g) n = n
 
 -- the tally after a move of a single track
 abbrev pub track_tally : TrackMove → Tally → Tally
-track_tally m t = record { next_id = record { 0 = next_id_after m t.next_id.0 }; counters = track_counters m t.counters; passes = t.passes; moved = true }
+track_tally m t = counted (track_counters m) (next_id_after m) t

@@ -1,10 +1,10 @@
 // What a move does to the gathered ids, and what it counts.
-ghost use Rattle.std.specs.Prelude.{◌≡◌, ◌^◌, ◌≤◌, ◌<◌, length, Float};
+ghost use Rattle.std.specs.Prelude.{◌≡◌, ◌+◌, ◌^◌, ◌≤◌, ◌<◌, cond, leb, ℕ, length, Float};
 ghost use Rattle.bounds.specs.Bounds.{DETECTIONS, SCANS};
 ghost use Rattle.fgo_spec.specs.Searching.{best_gain, better, pair_gain, track_gain};
 ghost use Rattle.search_rows.specs.Rows.{Starts};
-ghost use Rattle.search_rows.specs.Moves.{retarget, keeper_target, other_target, pair_targets, track_targets, map_over, pair_ids, track_ids};
-ghost use Rattle.search_rows.specs.Moves.{one_more, begun, pair_counters, pair_tally, track_counters, next_id_after, track_tally};
+ghost use Rattle.search_rows.specs.Moves.{retarget, become, keeper_target, other_target, pair_targets, track_targets, map_over, has_slot, renamed_from};
+ghost use Rattle.search_rows.specs.Moves.{one_more, begun, pair_counters, track_counters, next_id_after, counted};
 
 use bounds::{DETECTIONS, SCANS, STARTS};
 use engine::types::{RefinedId, ScanIndex};
@@ -13,16 +13,44 @@ use fgo_spec::moves::{FgoCounters, PairMove, TrackMove};
 // From here on a number is counted no further: 2^63.
 const FULL: u64 = 0x8000_0000_0000_0000;
 
-// A candidate for the best move, with what it gains: below 0 where it lowers the costs.
+// One more; a number that is counted no further stays.
+fn one_more(n: u64) -> u64
+    ensures { result ≡ one_more n }
+{
+    if n < FULL {
+        return n + 1;
+    }
+    n
+}
+
+// A candidate for the best move: what it gains, below 0 where it lowers the costs, and what is counted once it is made.
 pub trait Candidate: Copy {
+    ghost use Rattle.fgo_spec.specs.declared.moves.FgoCounters.{FgoCounters};
+
     ghost gain_of: { Self → Float };
+
+    ghost counters_of: { Self → FgoCounters → FgoCounters };
+
+    ghost next_id_of: { Self → ℕ → ℕ };
 
     fn gain(self) -> f64
         ensures { result ≡ gain_of self };
+
+    // The counters after it.
+    fn counters(self, k: FgoCounters) -> FgoCounters
+        ensures { result ≡ counters_of self k };
+
+    // The next id after it.
+    fn next_id(self, n: RefinedId) -> RefinedId
+        ensures { result.0 ≡ next_id_of self n.0 };
 }
 
 impl Candidate for PairMove {
     ghost gain_of = { pair_gain };
+
+    ghost counters_of = { pair_counters };
+
+    ghost next_id_of = { λ m n. n };
 
     fn gain(self) -> f64 {
         match self {
@@ -34,15 +62,61 @@ impl Candidate for PairMove {
             } => gain,
         }
     }
+
+    fn counters(self, k: FgoCounters) -> FgoCounters {
+        match self {
+            PairMove::Swap { cut: _, gain: _ } => FgoCounters {
+                swaps: one_more(k.swaps),
+                ..k
+            },
+            PairMove::Merge {
+                keeper: _,
+                own: _,
+                gain: _,
+            } => FgoCounters {
+                merges: one_more(k.merges),
+                ..k
+            },
+        }
+    }
+
+    fn next_id(self, n: RefinedId) -> RefinedId {
+        n
+    }
 }
 
 impl Candidate for TrackMove {
     ghost gain_of = { track_gain };
 
+    ghost counters_of = { track_counters };
+
+    ghost next_id_of = { next_id_after };
+
     fn gain(self) -> f64 {
         match self {
             TrackMove::Split { cut: _, gain } => gain,
             TrackMove::Drop { scan: _, gain } => gain,
+        }
+    }
+
+    fn counters(self, k: FgoCounters) -> FgoCounters {
+        match self {
+            TrackMove::Split { cut: _, gain: _ } => FgoCounters {
+                splits: one_more(k.splits),
+                ..k
+            },
+            TrackMove::Drop { scan: _, gain: _ } => FgoCounters {
+                drops: one_more(k.drops),
+                ..k
+            },
+        }
+    }
+
+    // The tail of a split takes an id.
+    fn next_id(self, n: RefinedId) -> RefinedId {
+        match self {
+            TrackMove::Split { cut: _, gain: _ } => RefinedId(one_more(n.0)),
+            TrackMove::Drop { scan: _, gain: _ } => n,
         }
     }
 }
@@ -126,157 +200,96 @@ fn other_target(own: bool, keeper: bool, k: RefinedId) -> RefinedId
     k
 }
 
-// What becomes of a pair in the scan n; ha and hb say which of them has a detection there.
-fn pair_targets(
-    m: PairMove,
-    a: RefinedId,
-    b: RefinedId,
-    n: ScanIndex,
-    ha: bool,
-    hb: bool,
-) -> Targets
-    ensures { result ≡ pair_targets m a.0 b.0 n.0 ha hb }
+// What becomes of two ids in the scan n, if they are exchanged from a cut on.
+fn exchanged(cut: ScanIndex, n: ScanIndex, a: RefinedId, b: RefinedId) -> Targets
+    ensures { result ≡ cond (leb cut.0 n.0) (become b.0 a.0) (become a.0 b.0) }
 {
-    match m {
-        PairMove::Swap { cut, gain: _ } => {
-            if cut.0 <= n.0 {
-                return Targets { a: b, b: a };
-            }
-            Targets { a, b }
-        }
-        PairMove::Merge {
-            keeper,
-            own,
-            gain: _,
-        } => {
-            if a.0 == keeper.0 {
-                return Targets {
-                    a: keeper_target(own, hb, a),
-                    b: other_target(own, ha, a),
-                };
-            }
-            Targets {
-                a: other_target(own, hb, b),
-                b: keeper_target(own, ha, b),
+    if cut <= n {
+        return Targets { a: b, b: a };
+    }
+    Targets { a, b }
+}
+
+// A move, by what becomes of two ids in each scan.
+pub trait Targeting {
+    ghost use Rattle.search_rows.specs.declared.moves.Targets.{Targets};
+
+    ghost targets_of: { Self → ℕ → ℕ → ℕ → ℕ → Targets };
+
+    // What becomes of a and b in the scan at place k, whose number is n.
+    fn targets(&self, a: RefinedId, b: RefinedId, k: usize, n: ScanIndex) -> Targets
+        requires { k < SCANS }
+        ensures { result ≡ targets_of self.now a.0 b.0 k n.0 };
+}
+
+// A move of a pair, with the rows of the two.
+#[derive(Drop)]
+pub struct PairWithRows<'a> {
+    pub m: PairMove,
+    pub ra: &'a [usize; SCANS],
+    pub rb: &'a [usize; SCANS],
+}
+
+impl Targeting for PairWithRows<'_> {
+    ghost targets_of = { λ p a b k n. pair_targets p.m a b n (has_slot p.ra.now k) (has_slot p.rb.now k) };
+
+    fn targets(&self, a: RefinedId, b: RefinedId, k: usize, n: ScanIndex) -> Targets {
+        let ha = 0 < self.ra[k];
+        let hb = 0 < self.rb[k];
+        match self.m {
+            PairMove::Swap { cut, gain: _ } => exchanged(cut, n, a, b),
+            PairMove::Merge {
+                keeper,
+                own,
+                gain: _,
+            } => {
+                if a == keeper {
+                    return Targets {
+                        a: keeper_target(own, hb, a),
+                        b: other_target(own, ha, a),
+                    };
+                }
+                Targets {
+                    a: other_target(own, hb, b),
+                    b: keeper_target(own, ha, b),
+                }
             }
         }
     }
 }
 
-// A move of a pair with its rows, in every scan. It asks for scan numbers below 2^33, and starts that rise to DETECTIONS at most.
-pub fn apply_pair<'a>(
-    m: PairMove,
+// A move of the track a; a new track would be b.
+impl Targeting for TrackMove {
+    ghost targets_of = { λ m a b k n. track_targets m a b n };
+
+    fn targets(&self, a: RefinedId, b: RefinedId, k: usize, n: ScanIndex) -> Targets {
+        match *self {
+            TrackMove::Split { cut, gain: _ } => exchanged(cut, n, a, b),
+            TrackMove::Drop { scan, gain: _ } => {
+                if scan == n {
+                    return Targets { a: RefinedId(0), b };
+                }
+                Targets { a, b }
+            }
+        }
+    }
+}
+
+// A move of a and b, in every scan. It asks for scan numbers below 2^33, and starts that rise to DETECTIONS at most.
+pub fn apply<M: Targeting>(
+    m: &M,
     first: ScanIndex,
     a: RefinedId,
     b: RefinedId,
-    ra: &'a [usize; SCANS],
-    rb: &'a [usize; SCANS],
-    starts: &'a [usize; STARTS],
+    starts: &[usize; STARTS],
     ids: &mut [u64; DETECTIONS],
 )
-    requires { (first.0 < 2 ^ 33) × Starts starts.now × (length ra.now ≡ SCANS) × (length rb.now ≡ SCANS) × (length ids.old ≡ DETECTIONS) }
-    ensures { ids.new ≡ pair_ids first.0 starts.now m a.0 b.0 ra.now rb.now ids.old }
+    requires { (first.0 < 2 ^ 33) × Starts starts.now }
+    ensures { ids.new ≡ renamed_from starts.now a.0 b.0 (λ k. M.targets_of m.now a.0 b.0 k (first.0 + k)) 0 SCANS ids.old }
 {
     for k in 0..SCANS {
-        let t = pair_targets(m, a, b, ScanIndex(first.0 + k as u64), 0 < ra[k], 0 < rb[k]);
+        let t = m.targets(a, b, k, ScanIndex(first.0 + k as u64));
         rename_scan(starts[k], starts[k + 1], a, b, t, ids);
-    }
-}
-
-// What becomes of a track in the scan n; a new track would be x.
-fn track_targets(m: TrackMove, a: RefinedId, x: RefinedId, n: ScanIndex) -> Targets
-    ensures { result ≡ track_targets m a.0 x.0 n.0 }
-{
-    match m {
-        TrackMove::Split { cut, gain: _ } => {
-            if cut.0 <= n.0 {
-                return Targets { a: x, b: a };
-            }
-            Targets { a, b: x }
-        }
-        TrackMove::Drop { scan, gain: _ } => {
-            if scan.0 == n.0 {
-                return Targets {
-                    a: RefinedId(0),
-                    b: x,
-                };
-            }
-            Targets { a, b: x }
-        }
-    }
-}
-
-// A move of a track, in every scan; a new track would be x. It asks what `apply_pair` asks.
-pub fn apply_track<'a>(
-    m: TrackMove,
-    first: ScanIndex,
-    a: RefinedId,
-    x: RefinedId,
-    starts: &'a [usize; STARTS],
-    ids: &mut [u64; DETECTIONS],
-)
-    requires { (first.0 < 2 ^ 33) × Starts starts.now × (length ids.old ≡ DETECTIONS) }
-    ensures { ids.new ≡ track_ids first.0 starts.now m a.0 x.0 ids.old }
-{
-    for k in 0..SCANS {
-        let t = track_targets(m, a, x, ScanIndex(first.0 + k as u64));
-        rename_scan(starts[k], starts[k + 1], a, x, t, ids);
-    }
-}
-
-// One more; a number that is counted no further stays.
-fn one_more(n: u64) -> u64
-    ensures { result ≡ one_more n }
-{
-    if n < FULL {
-        return n + 1;
-    }
-    n
-}
-
-// The counters after a move of a pair.
-fn pair_counters(m: PairMove, k: FgoCounters) -> FgoCounters
-    ensures { result ≡ pair_counters m k }
-{
-    match m {
-        PairMove::Swap { cut: _, gain: _ } => FgoCounters {
-            swaps: one_more(k.swaps),
-            ..k
-        },
-        PairMove::Merge {
-            keeper: _,
-            own: _,
-            gain: _,
-        } => FgoCounters {
-            merges: one_more(k.merges),
-            ..k
-        },
-    }
-}
-
-// The counters after a move of a track.
-fn track_counters(m: TrackMove, k: FgoCounters) -> FgoCounters
-    ensures { result ≡ track_counters m k }
-{
-    match m {
-        TrackMove::Split { cut: _, gain: _ } => FgoCounters {
-            splits: one_more(k.splits),
-            ..k
-        },
-        TrackMove::Drop { scan: _, gain: _ } => FgoCounters {
-            drops: one_more(k.drops),
-            ..k
-        },
-    }
-}
-
-// The next id after a move of a track: the tail of a split takes one.
-fn next_id(m: TrackMove, n: RefinedId) -> RefinedId
-    ensures { result.0 ≡ next_id_after m n.0 }
-{
-    match m {
-        TrackMove::Split { cut: _, gain: _ } => RefinedId(one_more(n.0)),
-        TrackMove::Drop { scan: _, gain: _ } => n,
     }
 }
 
@@ -292,24 +305,13 @@ impl Tally {
         }
     }
 
-    // A move of a pair was made.
-    pub fn count_pair(self, m: PairMove) -> Tally
-        ensures { result ≡ pair_tally m self }
+    // A move was made.
+    pub fn count<M: Candidate>(self, m: M) -> Tally
+        ensures { result ≡ counted (M.counters_of m) (M.next_id_of m) self }
     {
         Tally {
-            counters: pair_counters(m, self.counters),
-            moved: true,
-            ..self
-        }
-    }
-
-    // A move of a track was made.
-    pub fn count_track(self, m: TrackMove) -> Tally
-        ensures { result ≡ track_tally m self }
-    {
-        Tally {
-            next_id: next_id(m, self.next_id),
-            counters: track_counters(m, self.counters),
+            next_id: m.next_id(self.next_id),
+            counters: m.counters(self.counters),
             moved: true,
             ..self
         }

@@ -56,7 +56,7 @@ best_track_row c v p r base =
 -- the best so far or the split before scan k; there is none before the first detection
 abbrev pub better_split : FgoConfig → View → Option TrackMove → Bool → Fold → List ℕ → ℕ → Float → Option TrackMove
 better_split c v best seen f r k base =
-  cond seen (better_track best (Split (scan_at v k) (closed c f ⊕ cost c Fresh (measurements v k (drop k r)) ⊖ base))) best
+    cond seen (better_track best (Split (scan_at v k) (closed c f ⊕ cost c Fresh (measurements v k (drop k r)) ⊖ base))) best
 
 -- what the drop of the detection in scan k gains
 abbrev pub drop_gain : FgoConfig → View → Fold → List ℕ → ℕ → Float → Float

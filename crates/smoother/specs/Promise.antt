@@ -61,7 +61,7 @@ due s w o ws ns = checked (later_refusal s w (length ws) (length ns)) (state_in 
 -- A call of o that is given the struct s, the window w and the output buffers ws and ns gives p and leaves w', ws' and ns': answer, state and output. Of a
 -- window only what it stands for is promised, unless the call is refused; and all buffers keep their lengths.
 pub record Promised (o : Op Written) (s : FixedLagSmoother) (w : Window) (ws : List ℕ) (ns : List Float)
-  (p : Pushed) (w' : Window) (ws' : List ℕ) (ns' : List Float) : Type 0 where
+    (p : Pushed) (w' : Window) (ws' : List ℕ) (ns' : List Float) : Type 0 where
   pub ends : Ends (λ f. f) state_in (due s w o ws ns) s w ws ns p.answer p.state w' ws' ns'
   pub window_words : length w'.words ≡ length w.words
   pub window_numbers : length w'.numbers ≡ length w.numbers

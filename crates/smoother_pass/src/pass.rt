@@ -29,7 +29,7 @@ fn find(frame: &Frame<'_>, id: RefinedId) -> Option<usize>
     ensures { found_at result ≡ last_at id.0 frame.now.words (track_count frame.now.words) }
 {
     for i in (0..frame.counts().tracks).rev() {
-        if frame.track_id(i).0 == id.0 {
+        if frame.track_id(i) == id {
             return Some(i);
         }
     }

@@ -81,7 +81,7 @@ pub record Fits (c : SmootherConfig) (f : Written) : Type 0 where
 
 -- the frame f is stored: what it leaves in the window
 pub record Stored (s : FixedLagSmoother) (win : List ℕ) (nums : List Float) (f : Written)
-  (r : FixedLagSmoother) (win' : List ℕ) (nums' : List Float) : Type 0 where
+    (r : FixedLagSmoother) (win' : List ℕ) (nums' : List Float) : Type 0 where
   pub state : r ≡ more s
   pub frames : frames_in r win' nums' ≡ frames_in s win nums ++ (f ∷ [])
   pub words : length win' ≡ length win

@@ -5,7 +5,7 @@ ghost use Rattle.std.specs.Prelude.{◌≡◌, false, ◌+◌, ◌*◌, ◌<◌,
 ghost use Rattle.std.specs.Float.Ieee.{odd};
 ghost use Rattle.scalar.specs.Root.{root_of};
 
-use scalar::digits::{Digits, digits_of};
+use scalar::digits::{Digits, digits_of, full_digits};
 
 // The root of a whole number, rounded down, and what is left: root * root + rest, with rest at most 2 * root.
 #[derive(Clone, Copy)]
@@ -99,11 +99,9 @@ fn root_scaled(q: u64, y: u64) -> f64
     requires { (0 < q) × (q < 2 ^ 53) × (y < 2046) }
     ensures { result ≡ root_of (odd 53 false q y 1074) }
 {
-    let shift = q.leading_zeros() as u64 - 11;
-    let digits = q << shift;
-    let i = y + (52 - shift);
-    let WholeRoot { root, rest } = whole_root(digits * (1 + i % 2));
-    let base = (i / 2 + 485) * 0x10_0000_0000_0000;
+    let full = full_digits(q, y);
+    let WholeRoot { root, rest } = whole_root(full.digits * (1 + full.exponent % 2));
+    let base = (full.exponent / 2 + 485) * 0x10_0000_0000_0000;
     if rest <= root {
         return f64::from_bits(base + root);
     }

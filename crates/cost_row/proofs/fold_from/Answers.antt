@@ -1,4 +1,3 @@
-use borrow.Author.Tests.{eq-eqb, ne_eqb}
 use mathlib.Core.Path.{◌≡◌, sym, ap, ◌∙◌}
 use mathlib.Core.Bool.{cond}
 use mathlib.Core.List.{List}
@@ -21,22 +20,19 @@ part_end : (ts : List ℕ) (fs : List Float) (x n m : ℕ) → m ≤ n → fold_
 unfolding fold_after
 part_end ts fs x n m h = let q : m - n ≡ 0 = omega arith in rw q
 
-pub loop-n-init : goal.loop-n-init
-loop-n-init c = let s = c.args in let e : s.count - 0 ≡ s.count = omega arith in (omega arith, ap (fold_after s.tracks.now s.filters.now s.x.0 0) e)
-
-pub returns-then-x-part_id : goal.returns-then-x-part_id
-returns-then-x-part_id c =
+pub returns-then-eq : goal.returns-then-eq
+returns-then-eq c =
     let s = c.args in
     let l = c.loop-n in
-    let e : s.x.0 ≡ part_id s.tracks.now l.n = c.if-x-part_id.true ∙ c.part_id.ensures in
-    c.frozen_at.ensures ∙ sym (part_step s.tracks.now s.filters.now s.x.0 l.n s.count (omega arith) ∙ rw (eq-eqb _ _ e)) ∙ l.invariant.1
+    let e = ap (eqb s.x.0) (sym c.part_id.ensures) ∙ sym c.eq.ensures ∙ c.if-eq.true in
+    c.frozen_at.ensures ∙ sym (part_step s.tracks.now s.filters.now s.x.0 l.n s.count (omega arith) ∙ rw e) ∙ l.invariant.1
 
 pub loop-n-preserved : goal.loop-n-preserved
 loop-n-preserved c =
     let s = c.args in
     let l = c.loop-n in
-    let n : (s.x.0 ≡ part_id s.tracks.now l.n → ⊥) = λ e. c.if-x-part_id.false (e ∙ sym c.part_id.ensures) in
-    (omega arith, sym (part_step s.tracks.now s.filters.now s.x.0 l.n s.count (omega arith) ∙ rw (ne_eqb _ _ n)) ∙ l.invariant.1)
+    let e = ap (eqb s.x.0) (sym c.part_id.ensures) ∙ sym c.eq.ensures ∙ c.if-eq.false in
+    (omega arith, sym (part_step s.tracks.now s.filters.now s.x.0 l.n s.count (omega arith) ∙ rw e) ∙ l.invariant.1)
 
 pub returns : goal.returns
 returns c =

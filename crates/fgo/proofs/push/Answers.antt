@@ -4,7 +4,7 @@ use Rattle.refusals.specs.Refusals.{number_of}
 use Rattle.refusals.proofs.Refused.{numbered}
 use Rattle.fgo.proofs.PushLaw.{refuses, push_numbered, push-held, push_leaves}
 use Rattle.fgo.proofs.Answering.{later_none, refusal_ends, due_refused}
-use Rattle.engine.specs.Body.{body}
+use Rattle.engine.specs.Body.{body_of}
 use Rattle.buffers.specs.Answer.{pushed}
 use native.Mathlib.Omega.{arith}
 use mathlib.Core.Path.{sym}
@@ -15,7 +15,7 @@ returns-in_err-check_call c = let a = c.args in
     let m = a.memory.now in
     let r = c.in_err-check_call.field-0.0 in
     let p = err_from_is_err_and c.from_residual.result c.from_residual.ensures.1 in
-    rw (p.1, p.2) (refusal_ends a.r.now m a.words.now a.numbers.now (due_refused a.r.now m a.words.now a.numbers.now (pushed (body a.kind a.s.now)) c.in_err-check_call.ensures (eqb-false _ 0 (numbered r))))
+    rw (p.1, p.2) (refusal_ends a.r.now m a.words.now a.numbers.now (due_refused a.r.now m a.words.now a.numbers.now (pushed (body_of a.b.now)) c.in_err-check_call.ensures (eqb-false _ 0 (numbered r))))
 
 pub check_push-requires : goal.check_push-requires
 check_push-requires c = let a = c.args in
@@ -26,7 +26,7 @@ check_push-requires c = let a = c.args in
 pub returns-in_err-check_push : goal.returns-in_err-check_push
 returns-in_err-check_push c = let a = c.args in
     let m = a.memory.now in
-    let b = body a.kind a.s.now in
+    let b = body_of a.b.now in
     let r = c.in_err-check_push.field-0.0 in
     let p = err_from_is_err_and c.from_residual-in_err-check_push.result c.from_residual-in_err-check_push.ensures.1 in
     let due = push_numbered a.r.now m b a.words.now a.numbers.now (sym c.in_ok-check_call.ensures) (number_of r) c.in_err-check_push.ensures (eqb-false _ 0 (numbered r)) in
@@ -48,7 +48,7 @@ pub returns-then-r : goal.returns-then-r
 returns-then-r c = let a = c.args in
     let m = a.memory.now in
     let e = c.in_ok-check_call.ensures in
-    let b = body a.kind a.s.now in
+    let b = body_of a.b.now in
     let none = sym e in
     push_leaves a.r.now m b a.words.now a.numbers.now none (sym c.in_ok-check_push.ensures) _ _ c.arrive.ensures.arrived c.if-r.true c.freeze_oldest.ensures.promised
 
@@ -56,6 +56,6 @@ pub returns : goal.returns
 returns c = let a = c.args in
     let m = a.memory.now in
     let e = c.in_ok-check_call.ensures in
-    let b = body a.kind a.s.now in
+    let b = body_of a.b.now in
     let none = sym e in
     push-held a.r.now m b a.words.now a.numbers.now none (sym c.in_ok-check_push.ensures) _ _ c.arrive.ensures.arrived c.if-r.false

@@ -1,6 +1,5 @@
 use mathlib.Core.Path.{sym, subst}
-use Rattle.engine.specs.Body.{body}
-use Rattle.fgo_state.proofs.Bodies.{bytes_of}
+use Rattle.engine.specs.Body.{body_of}
 use Rattle.fgo_arrive.specs.Arriving.{Arrived}
 use Rattle.fgo_arrive.proofs.Accepted.{holds}
 use Rattle.fgo_arrive.proofs.HeldFrame.{searches}
@@ -10,17 +9,17 @@ use Rattle.fgo_arrive.proofs.arrive.Goals as goal
 pub hold-requires : goal.hold-requires
 hold-requires c =
     let a = c.args in
-    holds a.r.now a.m.now (body a.kind a.s.now) c.requires c.typed.ensures.bytes
+    holds a.r.now a.m.now (body_of a.b.now) c.requires c.typed.ensures.bytes
 
 pub search_held-t-requires : goal.search_held-t-requires
 search_held-t-requires c =
     let a = c.args in
-    searches a.r.now a.m.now (body a.kind a.s.now) c.requires c.typed.ensures.bytes (bytes_of a.s.now (λ i. c.type_inv.s i)) _ _ _ _ c.hold.ensures
+    searches a.r.now a.m.now (body_of a.b.now) c.requires c.typed.ensures.bytes c.are_bytes-r.ensures _ _ _ _ c.hold.ensures
 
 pub keep_owners-r-requires : goal.keep_owners-r-requires
 keep_owners-r-requires c =
     let a = c.args in
-    let h = searches a.r.now a.m.now (body a.kind a.s.now) c.requires c.typed.ensures.bytes (bytes_of a.s.now (λ i. c.type_inv.s i)) _ _ _ _ c.hold.ensures in
+    let h = searches a.r.now a.m.now (body_of a.b.now) c.requires c.typed.ensures.bytes c.are_bytes-r.ensures _ _ _ _ c.hold.ensures in
     (h.held.early, h.frozen, h.owners)
 
 pub returns-clause-arrived : goal.returns-clause-arrived
@@ -31,6 +30,6 @@ returns-clause-arrived c =
     let e = c.search_held-t.ensures.bodies in
     let p = c.search_held-t.ensures.parts in
     let keeps = rw (e, p) at c.keep_owners-r.ensures in
-    subst (Arrived a.r.now a.m.now (body a.kind a.s.now) (after u c.keep_owners-r.result c.search_held-t.result))
+    subst (Arrived a.r.now a.m.now (body_of a.b.now) (after u c.keep_owners-r.result c.search_held-t.result))
     (λ i. record { scans = record { bodies = sym e i; columns = n.scans.columns }; owners = c.keep_owners-r.new.owners; parts = sym p i })
-    (arrives a.r.now a.m.now (body a.kind a.s.now) c.requires c.typed.ensures.bytes (bytes_of a.s.now (λ i. c.type_inv.s i)) _ _ _ _ c.hold.ensures _ _ _ _ _ c.search_held-t.ensures.found keeps)
+    (arrives a.r.now a.m.now (body_of a.b.now) c.requires c.typed.ensures.bytes c.are_bytes-r.ensures _ _ _ _ c.hold.ensures _ _ _ _ _ c.search_held-t.ensures.found keeps)

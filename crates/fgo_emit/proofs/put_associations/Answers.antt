@@ -2,7 +2,7 @@ use Rattle.std.proofs.Common.{◌≡◌, ℕ, ◌+◌, ◌*◌, ◌<◌, ◌≤�
 use Rattle.bounds.specs.Bounds.{LINK}
 use Rattle.engine.specs.declared.types.Association.{Association}
 use Rattle.engine.specs.Frame.{no_association}
-use Rattle.engine.specs.Body.{Body, body as body_of, frame_in, associations_in}
+use Rattle.engine.specs.Body.{body_of, Body, frame_in, associations_in}
 use Rattle.engine.proofs.Passing.{row_at, length-rows}
 use Rattle.fgo_spec.specs.Emitting.{association_words, associations_words}
 use Rattle.buffers.specs.Buffers.{over}
@@ -46,7 +46,7 @@ unfolding associations_words
 loop-j-init c = (omega arith, written_none _ _)
 
 pub loop-j-preserved : goal.loop-j-preserved
-loop-j-preserved c = let s = body_of c.args.kind c.args.s.now in
+loop-j-preserved c = let s = body_of c.args.b.now in
     let o = c.args.o in
     let j = c.loop-j.j in
     let words = c.loop-j.words in
@@ -59,4 +59,4 @@ loop-j-preserved c = let s = body_of c.args.kind c.args.s.now in
 pub returns : goal.returns
 returns c = let o = c.args.o in
     c.loop-j.invariant.1.written
-    ∙ ap (λ (g : List ℕ). over o g c.args.words.now) (all c.args.scans.now.columns c.args.n.0 (body_of c.args.kind c.args.s.now) c.loop-j.j (omega (arith, c.association_count-j-end.ensures)))
+    ∙ ap (λ (g : List ℕ). over o g c.args.words.now) (all c.args.scans.now.columns c.args.n.0 (body_of c.args.b.now) c.loop-j.j (omega (arith, c.association_count-j-end.ensures)))

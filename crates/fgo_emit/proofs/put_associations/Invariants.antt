@@ -1,5 +1,5 @@
 use Rattle.std.proofs.Common.{ℕ, ◌≤◌, List, take}
-use Rattle.engine.specs.Body.{Body, body as body_of, frame_in, associations_in}
+use Rattle.engine.specs.Body.{body_of, Body, frame_in, associations_in}
 use Rattle.fgo_spec.specs.Emitting.{associations_words}
 use Rattle.fgo_state.specs.Memory.{ids_in}
 use Rattle.buffers.proofs.Writes.{WrittenOver}
@@ -10,4 +10,4 @@ abbrev pub first : List ℕ → ℕ → Body → ℕ → List ℕ
 first columns n s j = associations_words (take j (frame_in s).associations) (take j (ids_in columns n s))
 
 abbrev pub invariant-loop-j : goal.invariant-loop-j
-invariant-loop-j l = (l.j ≤ associations_in (body_of l.kind l.s)) × WrittenOver l.o (first l.scans.columns l.n.0 (body_of l.kind l.s) l.j) l.initial.words l.words
+invariant-loop-j l = (l.j ≤ associations_in (body_of l.b)) × WrittenOver l.o (first l.scans.columns l.n.0 (body_of l.b) l.j) l.initial.words l.words

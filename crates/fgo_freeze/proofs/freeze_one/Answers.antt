@@ -1,11 +1,12 @@
 use Prim.Native.Nat.{◌<◌}
 use mathlib.Core.Path.{◌≡◌, sym, ◌∙◌}
 use native.Mathlib.Omega.{arith}
+use Rattle.engine.proofs.Ids.{same_id, other_id}
 use Rattle.fgo_part.specs.Parts.{part_id}
 use Rattle.fgo_freeze.specs.Frozen.{detection_by}
 use Rattle.fgo_freeze.proofs.FrozenOne.{can_move, one_moved, one-begun}
 use Rattle.fgo_freeze.proofs.freeze_one.Goals as goal
-use Rattle.fgo_freeze.proofs.freeze_one.Goals.{then-k-frozen+else-part_id-id, else-k-frozen}
+use Rattle.fgo_freeze.proofs.freeze_one.Goals.{then-k-frozen+else-eq, else-k-frozen}
 
 pub freeze-requires : goal.freeze-requires
 freeze-requires c =
@@ -13,17 +14,17 @@ freeze-requires c =
     let p = c.requires in
     can_move a.c a.parts.now.tracks a.parts.now.filters a.frozen a.id.0 c.place_of-k.result (detection_by a.d) c.place_of-k.ensures.0 p.most p.small p.ordered c.if-k-frozen.true c.prefix_at-p.result c.prefix_at-p.ensures
 
-pub returns-then-part_id-id : goal.returns-then-part_id-id
-returns-then-part_id-id c =
+pub returns-then-eq : goal.returns-then-eq
+returns-then-eq c =
     let a = c.args in
-    one_moved a.c a.parts.now.tracks a.parts.now.filters a.frozen a.id.0 c.place_of-k.result (detection_by a.d) c.place_of-k.ensures.0 c.if-k-frozen.true (sym c.part_id.ensures ∙ c.if-part_id-id.true) c.prefix_at-p.result c.freeze.result c.prefix_at-p.ensures c.freeze.ensures c.put.ensures
+    one_moved a.c a.parts.now.tracks a.parts.now.filters a.frozen a.id.0 c.place_of-k.result (detection_by a.d) c.place_of-k.ensures.0 c.if-k-frozen.true (sym c.part_id.ensures ∙ (same_id c.eq.ensures c.if-eq.true)) c.prefix_at-p.result c.freeze.result c.prefix_at-p.ensures c.freeze.ensures c.put.ensures
 
 pub returns : goal.returns
 returns c =
     let a = c.args in
     let ne : c.place_of-k.result < a.frozen → part_id a.parts.now.tracks c.place_of-k.result ≡ a.id.0 → ⊥ =
     elim c.if-k-frozen.branch [
-      | then-k-frozen+else-part_id-id w ↦ λ h e. w.if-part_id-id.false (w.part_id.ensures ∙ e)
+      | then-k-frozen+else-eq w ↦ λ h e. (other_id w.eq.ensures w.if-eq.false) (w.part_id.ensures ∙ e)
       | else-k-frozen w ↦ λ h. absurd (omega (arith, w.if-k-frozen.false))
     ] in
     one-begun a.c a.parts.now.tracks a.parts.now.filters a.frozen a.id.0 c.place_of-k.result (detection_by a.d) c.place_of-k.ensures.0 c.requires.most c.requires.ordered ne c.fresh.result c.fresh.ensures c.make_room.ensures c.put-2.ensures

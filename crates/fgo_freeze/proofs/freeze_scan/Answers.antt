@@ -10,7 +10,7 @@ use Rattle.fgo_spec.specs.Windows.{detection_of}
 use Rattle.fgo_part.specs.Parts.{table_in}
 use Rattle.fgo_state.specs.Memory.{body_at, id_at, scan_in}
 use Rattle.fgo_freeze.specs.Frozen.{detection_by}
-use Rattle.fgo_state.proofs.Columns.{body_read, scan_frame, associations_long, ids_long, id_here}
+use Rattle.fgo_state.proofs.Columns.{scan_frame, associations_long, ids_long, id_here}
 use Rattle.fgo_state.proofs.Counts.{associations_few}
 use Rattle.fgo_freeze.proofs.FrozenScan.{going_none, going_skip, going_room, going_one, going_done}
 use Rattle.fgo_freeze.proofs.freeze_scan.Goals as goal
@@ -27,7 +27,7 @@ freeze_one-f-requires c =
     let a = c.args in
     let v = c.loop-j in
     let s = scan_in a.scans.now.bodies a.scans.now.columns a.n.0 in
-    let eb = body_read a.scans.now.bodies a.scans.now.columns a.n.0 c.kind_of-kind.ensures c.body_in-s.ensures in
+    let eb = c.body-b.ensures in
     let ec = c.association_count-j-end.ensures in
     let h : v.j < c.association_count-j-end.result = c.loop-j-test.true in
     let q : get_or s.ids v.j 0 ≡ id_at a.scans.now.columns a.n.0 v.j = id_here a.scans.now.bodies a.scans.now.columns a.n.0 eb v.j (omega arith) in
@@ -48,7 +48,7 @@ loop-j-preserved c =
     let v = c.loop-j in
     let s = scan_in a.scans.now.bodies a.scans.now.columns a.n.0 in
     let t = table_in a.parts.now.tracks a.parts.now.filters a.frozen in
-    let eb = body_read a.scans.now.bodies a.scans.now.columns a.n.0 c.kind_of-kind.ensures c.body_in-s.ensures in
+    let eb = c.body-b.ensures in
     let ec = c.association_count-j-end.ensures in
     let h : v.j < c.association_count-j-end.result = c.loop-j-test.true in
     let q : c.id_at-id.result.0 ≡ get_or s.ids v.j 0 = c.id_at-id.ensures ∙ sym (id_here a.scans.now.bodies a.scans.now.columns a.n.0 eb v.j (omega arith)) in
@@ -68,5 +68,5 @@ pub returns : goal.returns
 returns c =
     let a = c.args in
     let v = c.loop-j in
-    let eb = body_read a.scans.now.bodies a.scans.now.columns a.n.0 c.kind_of-kind.ensures c.body_in-s.ensures in
+    let eb = c.body-b.ensures in
     going_done a.c a.n.0 (scan_in a.scans.now.bodies a.scans.now.columns a.n.0) (table_in a.parts.now.tracks a.parts.now.filters a.frozen) v.invariant.1 (omega (arith, associations_long a.scans.now.bodies a.scans.now.columns a.n.0 eb, c.association_count-j-end.ensures))

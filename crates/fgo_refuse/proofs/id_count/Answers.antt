@@ -9,7 +9,7 @@ use lib.Seq.{take-suc, take_all}
 use Rattle.engine.specs.declared.types.Association.{Association}
 use Rattle.std.specs.Prelude.{None, Some, is_some}
 use Rattle.engine.specs.Frame.{Associated, no_association}
-use Rattle.engine.specs.Body.{Body, body, frame_in, associations_in}
+use Rattle.engine.specs.Body.{Body, body_of, frame_in, associations_in}
 use Rattle.fgo_spec.specs.Lists.{keep}
 use Rattle.fgo_spec.specs.Refiner.{has_id}
 use Rattle.fgo_spec.proofs.Counting.{bump, count_snoc}
@@ -39,7 +39,7 @@ loop-j-init c = (omega arith, omega arith, refl)
 
 pub loop-j-preserved : goal.loop-j-preserved
 loop-j-preserved c =
-    let s = body c.args.kind c.args.s.now in
+    let s = body_of c.args.b.now in
     let j = c.loop-j.j in
     let v = c.loop-j.invariant in
     let h : j < associations_in s = omega (arith, c.loop-j-test.true, c.association_count-j-end.ensures) in
@@ -51,6 +51,6 @@ loop-j-preserved c =
 
 pub returns : goal.returns
 returns c =
-    let s = body c.args.kind c.args.s.now in
+    let s = body_of c.args.b.now in
     let e : associations_in s ≤ c.loop-j.j = omega (arith, c.loop-j-test.false, c.association_count-j-end.ensures) in
     (c.loop-j.invariant.2 ∙ all s _ e, omega (arith, c.loop-j.invariant.0, c.loop-j.invariant.1, associations_few s c.requires))

@@ -1,6 +1,6 @@
 use Prim.Native.Nat.{◌≤◌}
 use mathlib.Core.Path.{◌≡◌}
-use Rattle.engine.specs.Body.{body, associations_in}
+use Rattle.engine.specs.Body.{body_of, associations_in}
 use Prim.Native.Nat.{ℕ}
 use lib.ListN.{length}
 use lib.ListN.{take}
@@ -16,4 +16,4 @@ abbrev pub counted : Body → ℕ → ℕ
 counted s j = length (keep (λ (a : Association). has_id a.track) (take j (frame_in s).associations))
 
 abbrev pub invariant-loop-j : goal.invariant-loop-j
-invariant-loop-j l = (l.j ≤ associations_in (body l.kind l.s)) × (l.n ≤ l.j) × (l.n ≡ counted (body l.kind l.s) l.j)
+invariant-loop-j l = (l.j ≤ associations_in (body_of l.b)) × (l.n ≤ l.j) × (l.n ≡ counted (body_of l.b) l.j)

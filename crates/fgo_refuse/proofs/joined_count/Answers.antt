@@ -6,7 +6,7 @@ use lib.ListN.{length, replicate}
 use borrow.Author.Rules.{rules}
 use Rattle.bounds.specs.Bounds.{JOINED}
 use Rattle.engine.specs.declared.types.Association.{Association}
-use Rattle.engine.specs.Body.{body}
+use Rattle.engine.specs.Body.{body_of}
 use Rattle.buffers.specs.Buffers.{over}
 use Rattle.fgo_part.specs.Parts.{cells}
 use Rattle.fgo_state.specs.Memory.{engine_at}
@@ -24,13 +24,13 @@ loop-j-init c =
     let keys = engines_in a.owners.now a.owned in
     let long : length keys ≡ a.owned = length-rows (engine_at a.owners.now) 0 a.owned in
     let said = c.owner_keys.ensures in
-    joins_none _ _ (body a.kind a.s.now) _
+    joins_none _ _ (body_of a.b.now) _
     (ap length said ∙ length_over 0 keys (replicate JOINED 0) (omega (arith, c.requires.0)))
-    c.association_count-j.ensures
+    c.association_count-j.ensures.count
     (ap (λ (l : List ℕ). cells 0 l 0 a.owned) said ∙ ap (cells 0 (over 0 keys (replicate JOINED 0)) 0) (sym long) ∙ cells_over 0 keys (replicate JOINED 0) (omega (arith, c.requires.0)))
 
 pub join_one-n-requires : goal.join_one-n-requires
-join_one-n-requires c = omega (arith, c.loop-j.invariant.few, c.loop-j-test.true, c.requires, associations_few (body c.args.kind c.args.s.now) c.requires.1)
+join_one-n-requires c = omega (arith, c.loop-j.invariant.few, c.loop-j-test.true, c.requires, associations_few (body_of c.args.b.now) c.requires.1)
 
 pub loop-j-preserved : goal.loop-j-preserved
 loop-j-preserved c = joins_more _ _ _ c.loop-j.invariant c.loop-j-test.true (ap (λ (a : Association). a.track) (c.association.ensures.1 c.requires.1)) c.join_one-n.ensures.0 c.join_one-n.ensures.1 (search rules)

@@ -1,6 +1,6 @@
 use native.Mathlib.Omega.{arith}
 use mathlib.Core.Path.{◌≡◌, sym, ◌∙◌}
-use Rattle.engine.specs.Body.{body, associations_in}
+use Rattle.engine.specs.Body.{body_of, associations_in}
 use Rattle.engine.proofs.Every.{all_none, all_more, all-less}
 use Rattle.fgo_rule.specs.Tests.{column_in}
 use Rattle.fgo_rule.proofs.column_ok.Goals as goal
@@ -17,4 +17,4 @@ loop-j-preserved c = (omega (arith, c.loop-j-test.true, c.association_count-j-en
 
 pub returns : goal.returns
 unfolding column_in
-returns c = let e : c.loop-j.j ≡ associations_in (body c.args.kind c.args.s.now) = omega (arith, c.loop-j-test.false, c.association_count-j-end.ensures) in sym (rw e at c.loop-j.invariant.1)
+returns c = let e : c.loop-j.j ≡ associations_in (body_of c.args.b.now) = omega (arith, c.loop-j-test.false, c.association_count-j-end.ensures) in sym (rw e at c.loop-j.invariant.1)

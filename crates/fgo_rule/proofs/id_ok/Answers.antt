@@ -7,8 +7,9 @@ use mathlib.Core.Bool.{Bool, true, false, ◌||◌, not, or-true}
 use mathlib.Core.List.{List}
 use lib.Dec.{eqb, ltb}
 use borrow.Author.Tests.{eq-eqb, ne_eqb, ltb-true, lt-ltb}
+use Rattle.engine.proofs.Ids.{id_to, id_past}
 use Rattle.engine.specs.declared.types.Association.{Association}
-use Rattle.engine.specs.Body.{Body, body, associations_in, rows}
+use Rattle.engine.specs.Body.{Body, body_of, associations_in, rows}
 use Rattle.engine.proofs.Every.{both, never}
 use Rattle.fgo_state.proofs.Counts.{associations_few}
 use Rattle.fgo_spec.specs.Lists.{has}
@@ -44,23 +45,23 @@ module _ (next : ℕ) (columns : List ℕ) (b : Body) (n j : ℕ) where
       alone x h (inr f) = rw f (or-true (eqb x 0))
 
 pub overflow_add-j : goal.overflow_add-j
-overflow_add-j c = omega (arith, associations_few (body c.args.kind c.args.s.now) c.requires.0)
+overflow_add-j c = omega (arith, associations_few (body_of c.args.b.now) c.requires.0)
 
 pub returns-then-stands_in : goal.returns-then-stands_in
 returns-then-stands_in c =
-    let b = body c.args.kind c.args.s.now in
-    twice _ _ b _ _ (λ z. c.if-x-ne0.true (c.id_at-x.ensures ∙ z)) (sym (stood 0 _ b _ _ c.id_at-x.ensures c.association_count.ensures c.stands_in.ensures) ∙ c.if-stands_in.true)
+    let b = body_of c.args.b.now in
+    twice _ _ b _ _ (λ z. c.if-x-ne0.true (c.id_at-x.ensures ∙ z)) (sym (stood 0 _ b _ _ c.id_at-x.ensures c.association_count.ensures.count c.stands_in.ensures) ∙ c.if-stands_in.true)
 
-pub returns-then-next-x : goal.returns-then-next-x
-returns-then-next-x c = large _ _ _ _ _ (omega (arith, c.if-next-x.true, c.id_at-x.ensures))
+pub returns-then-le : goal.returns-then-le
+returns-then-le c = large _ _ _ _ _ (omega (arith, (id_to c.args.next.0 c.id_at-x.result.0 c.le.ensures c.if-le.true), c.id_at-x.ensures))
 
 pub returns : goal.returns
 returns c =
-    let b = body c.args.kind c.args.s.now in
+    let b = body_of c.args.b.now in
     fits _ _ b _ _
     (elim c.if-x-ne0.branch [
-      | then-x-ne0+else-stands_in w ↦ inr (sym (stood 0 _ b _ _ c.id_at-x.ensures w.association_count.ensures w.stands_in.ensures) ∙ w.if-stands_in.false)
+      | then-x-ne0+else-stands_in w ↦ inr (sym (stood 0 _ b _ _ c.id_at-x.ensures w.association_count.ensures.count w.stands_in.ensures) ∙ w.if-stands_in.false)
       | else-x-ne0 w ↦ inl (sym c.id_at-x.ensures ∙ w.if-x-ne0.false)
     ])
-    (omega (arith, c.if-next-x.false, c.id_at-x.ensures))
+    (omega (arith, (id_past c.args.next.0 c.id_at-x.result.0 c.le.ensures c.if-le.false), c.id_at-x.ensures))
     (c.loose_ok.ensures ∙ ap (λ (a : Association). loose_ok a.track c.id_at-x.result.0) (c.association.ensures.1 c.requires.0) ∙ ap (loose_ok (association_in b c.args.j).track) c.id_at-x.ensures)

@@ -7,6 +7,7 @@ use lib.Dec.{leb, ltb}
 use borrow.Author.Tests.{leb-true, ltb-true, le-leb, lt-ltb}
 use mir.Syntax.{w64}
 use mir.Facts.{to_z-of_z}
+use Rattle.engine.proofs.Ids.{id_to, id_past}
 use Rattle.bounds.specs.Bounds.{HEIGHTS}
 use Rattle.engine.specs.Body.{time_ok}
 use Rattle.engine.proofs.Every.{both, never}
@@ -57,11 +58,11 @@ module _ (first next : ℕ) (tracks : List ℕ) (k : ℕ) where
       (passed (leb (part_height_count tracks k) HEIGHTS) (le-leb _ _ p.most_height)
       (passed (ltb (part_last_frame tracks k) first) (lt-ltb _ _ p.earlier) e))))))
 
-pub returns-then-id-before : goal.returns-then-id-before
-returns-then-id-before c = never _ (λ h. let p = part_of _ _ _ _ h in omega (arith, c.if-id-before.true, c.part_id-id.ensures, c.requires.1))
+pub returns-then-le : goal.returns-then-le
+returns-then-le c = never _ (λ h. let p = part_of _ _ _ _ h in omega (arith, (id_to c.part_id-id.result.0 c.args.before.0 c.le.ensures c.if-le.true), c.part_id-id.ensures, c.requires.1))
 
-pub returns-then-next-id : goal.returns-then-next-id
-returns-then-next-id c = never _ (λ h. let p = part_of _ _ _ _ h in omega (arith, c.if-next-id.true, c.part_id-id.ensures))
+pub returns-then-le-2 : goal.returns-then-le-2
+returns-then-le-2 c = never _ (λ h. let p = part_of _ _ _ _ h in omega (arith, (id_to c.args.next.0 c.part_id-id.result.0 c.le-2.ensures c.if-le-2.true), c.part_id-id.ensures))
 
 pub returns-then-count-eq0 : goal.returns-then-count-eq0
 returns-then-count-eq0 c = never _ (λ h. let p = part_of _ _ _ _ h in omega (arith, c.if-count-eq0.true, c.part_count-count.ensures))
@@ -75,19 +76,19 @@ returns-then-heights-eq0 c = never _ (λ h. let p = part_of _ _ _ _ h in omega (
 pub returns-then-heights : goal.returns-then-heights
 returns-then-heights c = never _ (λ h. let p = part_of _ _ _ _ h in omega (arith, c.if-heights.true, c.part_height_count-heights.ensures))
 
-pub returns-then-first-part_last_frame : goal.returns-then-first-part_last_frame
-returns-then-first-part_last_frame c = never _ (λ h. let p = part_of _ _ _ _ h in omega (arith, c.if-first-part_last_frame.true, c.part_last_frame.ensures))
+pub returns-then-le-3 : goal.returns-then-le-3
+returns-then-le-3 c = never _ (λ h. let p = part_of _ _ _ _ h in omega (arith, (id_to c.args.first.0 c.part_last_frame.result.0 c.le-3.ensures c.if-le-3.true), c.part_last_frame.ensures))
 
 pub returns : goal.returns
 returns c =
     part-last _ _ _ _
     (record {
-      rises = omega (arith, c.if-id-before.false, c.part_id-id.ensures, c.requires.1);
-      known = omega (arith, c.if-next-id.false, c.part_id-id.ensures);
+      rises = omega (arith, (id_past c.part_id-id.result.0 c.args.before.0 c.le.ensures c.if-le.false), c.part_id-id.ensures, c.requires.1);
+      known = omega (arith, (id_past c.args.next.0 c.part_id-id.result.0 c.le-2.ensures c.if-le-2.false), c.part_id-id.ensures);
       some_count = omega (arith, c.if-count-eq0.false, c.part_count-count.ensures);
       most_count = omega (arith, c.if-first-count.false, c.part_count-count.ensures);
       some_height = omega (arith, c.if-heights-eq0.false, c.part_height_count-heights.ensures);
       most_height = omega (arith, c.if-heights.false, c.part_height_count-heights.ensures);
-      earlier = omega (arith, c.if-first-part_last_frame.false, c.part_last_frame.ensures);
+      earlier = omega (arith, (id_past c.args.first.0 c.part_last_frame.result.0 c.le-3.ensures c.if-le-3.false), c.part_last_frame.ensures);
     })
     (c.time_ok.ensures ∙ ap time_ok (to_z-of_z {w = w64} (record { sfits = c.part_last_ns.type_inv }) ∙ c.part_last_ns.ensures))

@@ -3,6 +3,7 @@ use native.Mathlib.Omega.{arith}
 use mathlib.Core.Path.{◌≡◌, refl, sym, ap, ◌∙◌, subst}
 use lib.ListN.{length}
 use borrow.Author.Rules.{rules}
+use Rattle.engine.proofs.Ids.{same_id, other_id}
 use Rattle.bounds.specs.Bounds.{OWNERS}
 use Rattle.fgo_state.specs.Memory.{engine_at, owners_in}
 use Rattle.fgo_place.proofs.Owners.{owning, Passed, passed_none, passed_more, assigned_here, assigned_end, assigned_full}
@@ -11,8 +12,8 @@ use Rattle.fgo_place.proofs.place.assign.Goals as goal
 pub loop-k-init : goal.loop-k-init
 loop-k-init c = (omega arith, refl, passed_none c.args.owners.now c.args.e.0 c.args.owned c.args.x.0)
 
-pub returns-then-engine_at-e : goal.returns-then-engine_at-e
-returns-then-engine_at-e c = let f = c.args in
+pub returns-then-eq : goal.returns-then-eq
+returns-then-eq c = let f = c.args in
     let l = c.loop-k in
     let long : length f.owners.now ≡ OWNERS = search rules in
     let h = c.loop-k.invariant in
@@ -21,7 +22,7 @@ returns-then-engine_at-e c = let f = c.args in
       few = few;
       owners = ap (λ z. owners_in z f.owned) o
           ∙ assigned_here f.owners.now f.e.0 f.owned f.x.0 l.k c.loop-k-test.true few long
-          (ap (λ z. engine_at z l.k) (sym h.1) ∙ sym c.engine_at.ensures ∙ c.if-engine_at-e.true) h.2;
+          (ap (λ z. engine_at z l.k) (sym h.1) ∙ sym c.engine_at.ensures ∙ (same_id c.eq.ensures c.if-eq.true)) h.2;
     }
 
 pub loop-k-preserved : goal.loop-k-preserved
@@ -32,7 +33,7 @@ loop-k-preserved c = let f = c.args in
       omega arith,
       h.1,
       passed_more f.owners.now f.e.0 f.owned f.x.0 l.k c.loop-k-test.true
-          (λ d. c.if-engine_at-e.false (c.engine_at.ensures ∙ ap (λ z. engine_at z l.k) h.1 ∙ d)) h.2,
+          (λ d. (other_id c.eq.ensures c.if-eq.false) (c.engine_at.ensures ∙ ap (λ z. engine_at z l.k) h.1 ∙ d)) h.2,
     )
 
 pub returns-then-owned-lt-OWNED : goal.returns-then-owned-lt-OWNED

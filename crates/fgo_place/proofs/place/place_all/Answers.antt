@@ -5,7 +5,7 @@ use mathlib.Core.Path.{◌≡◌, refl, ap, ◌∙◌, subst}
 use lib.ListN.{take}
 use lib.Seq.{take_all}
 use borrow.Author.Rules.{rules}
-use Rattle.engine.specs.Body.{body, frame_in, associations_in}
+use Rattle.engine.specs.Body.{body_of, frame_in, associations_in}
 use Rattle.fgo_place.specs.Placing.{placed_all, Placed, begins}
 use Rattle.fgo_state.proofs.Counts.{associations_long, associations_few}
 use Rattle.fgo_place.proofs.PlacingSteps.{placed-more}
@@ -23,7 +23,7 @@ loop-j-init c = let f = c.args in
 pub place_one-p-requires : goal.place_one-p-requires
 place_one-p-requires c = let v = c.loop-j.invariant in
     let h = c.requires in
-    let few = associations_few (body c.args.kind c.args.s.now) h.0 in
+    let few = associations_few (body_of c.args.b.now) h.0 in
     let taken = c.loop-j-test.true in
     let count = c.association_count-j-end.ensures in
     (omega arith, v.2.few, omega arith)
@@ -32,13 +32,13 @@ pub loop-j-preserved : goal.loop-j-preserved
 loop-j-preserved c = let f = c.args in
     let l = c.loop-j in
     let v = c.loop-j.invariant in
-    let few = associations_few (body c.args.kind c.args.s.now) c.requires.0 in
+    let few = associations_few (body_of c.args.b.now) c.requires.0 in
     let taken = c.loop-j-test.true in
     let count = c.association_count-j-end.ensures in
     let more = c.place_one-p.ensures.next in
     let step =
-    ap (λ (k : ℕ). placed_all f.next.0 (take k (frame_in (body f.kind f.s.now)).associations) (begins f.owners.now f.owned f.next.0)) (add-one l.j)
-    ∙ placed-more f.next.0 (frame_in (body f.kind f.s.now)).associations l.j (begins f.owners.now f.owned f.next.0) (rw (associations_long (body f.kind f.s.now)) (omega arith)) in (
+    ap (λ (k : ℕ). placed_all f.next.0 (take k (frame_in (body_of f.b.now)).associations) (begins f.owners.now f.owned f.next.0)) (add-one l.j)
+    ∙ placed-more f.next.0 (frame_in (body_of f.b.now)).associations l.j (begins f.owners.now f.owned f.next.0) (rw (associations_long (body_of f.b.now)) (omega arith)) in (
       omega arith,
       omega arith,
       rw (step, ← c.association.ensures.1 c.requires.0) (c.place_one-p.ensures.placed _ v.2),
@@ -50,10 +50,10 @@ returns c = let f = c.args in
     let v = c.loop-j.invariant in
     let left = c.loop-j-test.false in
     let count = c.association_count-j-end.ensures in
-    let same : c.loop-j.j ≡ associations_in (body f.kind f.s.now) = omega arith in
-    let all : take (associations_in (body f.kind f.s.now)) (frame_in (body f.kind f.s.now)).associations ≡ (frame_in (body f.kind f.s.now)).associations =
-    take_all (associations_in (body f.kind f.s.now)) (frame_in (body f.kind f.s.now)).associations (rw (associations_long (body f.kind f.s.now)) (omega arith)) in
+    let same : c.loop-j.j ≡ associations_in (body_of f.b.now) = omega arith in
+    let all : take (associations_in (body_of f.b.now)) (frame_in (body_of f.b.now)).associations ≡ (frame_in (body_of f.b.now)).associations =
+    take_all (associations_in (body_of f.b.now)) (frame_in (body_of f.b.now)).associations (rw (associations_long (body_of f.b.now)) (omega arith)) in
     rw all at
     (subst
-    (λ (k : ℕ). Placed k (placed_all f.next.0 (take k (frame_in (body f.kind f.s.now)).associations) (begins f.owners.now f.owned f.next.0)) l.p l.owners l.ids)
+    (λ (k : ℕ). Placed k (placed_all f.next.0 (take k (frame_in (body_of f.b.now)).associations) (begins f.owners.now f.owned f.next.0)) l.p l.owners l.ids)
     same v.2)

@@ -1,7 +1,7 @@
 use Prim.Native.Nat.{◌<◌}
 use native.Mathlib.Omega.{arith}
 use mathlib.Core.Path.{◌∙◌}
-use Rattle.engine.specs.Body.{body, associations_in}
+use Rattle.engine.specs.Body.{body_of, associations_in}
 use Rattle.fgo_state.proofs.GatheringScan.{numbers_none, numbers-room, numbers-held, numbers-clutter, numbers-all}
 use Rattle.fgo_state.proofs.gather.dot_scan.Goals as goal
 use Rattle.fgo_state.proofs.gather.dot_scan.Goals.{then-id_at-gt0, else-id_at-gt0}
@@ -35,7 +35,7 @@ loop-j-preserved c =
     let v = c.loop-j in
     let e = c.association_count-j-end.ensures in
     let l = c.loop-j-test.true in
-    let few : v.j < associations_in (body a.kind a.s.now) = omega arith in
+    let few : v.j < associations_in (body_of a.b.now) = omega arith in
     let i = c.id_at.ensures in
     elim c.if-id_at-gt0.branch [
       | then-id_at-gt0 w ↦ numbers-held _ _ _ _ _ _ c.requires.1 v.invariant few i w.if-id_at-gt0.true (w.dots-is ∙ w.put_dot.ensures) w.p-is

@@ -9,7 +9,6 @@ use borrow.Rule.Slice.PartMut.{put_mid}
 use Rattle.std.proofs.lemmas.List.{length-replicate}
 use Rattle.bounds.specs.Bounds.{STARTS}
 use Rattle.buffers.specs.Buffers.{over}
-use Rattle.fgo_state.proofs.Columns.{body_read}
 use Rattle.fgo_state.proofs.GatheringHeld.{held_none, held_fits, held_more, held_all}
 use Rattle.fgo_state.proofs.gather.gather.Goals as goal
 
@@ -18,12 +17,12 @@ loop-k-init c = (omega arith, held_none _ _ _ _ _ c.args.starts.now)
 
 pub gather_scan-p-requires : goal.gather_scan-p-requires
 gather_scan-p-requires c =
-    held_fits _ _ _ _ _ c.requires c.loop-k.invariant.1 c.loop-k-test.true c.gather_scan-arg-1.given.0.1 c.gather_scan-arg-in-loop-k-1.given.0.1 (body_read _ _ _ c.kind_of.ensures c.body_in.ensures)
+    held_fits _ _ _ _ _ c.requires c.loop-k.invariant.1 c.loop-k-test.true (search rules) (search rules) c.body.ensures
 
 pub loop-k-preserved : goal.loop-k-preserved
 loop-k-preserved c = (
   omega (arith, c.loop-k-test.true),
-  held_more _ _ _ _ _ c.requires c.loop-k.invariant.1 c.loop-k-test.true c.gather_scan-arg-1.given.0.1 c.gather_scan-arg-in-loop-k-1.given.0.1 (body_read _ _ _ c.kind_of.ensures c.body_in.ensures) c.gather_scan-p.ensures refl,
+  held_more _ _ _ _ _ c.requires c.loop-k.invariant.1 c.loop-k-test.true (search rules) (search rules) c.body.ensures c.gather_scan-p.ensures refl,
 )
 
 -- the starts from place o on, filled with p

@@ -1,5 +1,5 @@
 use native.Mathlib.Omega.{arith}
-use Rattle.fgo_state.proofs.Columns.{body_read}
+use borrow.Author.Rules.{rules}
 use Rattle.fgo_state.proofs.GatheringHeld.{numbers_held_none, numbers_held_fits, numbers-held-more}
 use Rattle.fgo_state.proofs.gather.gather_dots.Goals as goal
 
@@ -8,10 +8,10 @@ loop-k-init c = (omega arith, numbers_held_none _ _ _ _ _)
 
 pub dot_scan-p-requires : goal.dot_scan-p-requires
 dot_scan-p-requires c =
-    numbers_held_fits _ _ _ _ _ c.requires c.loop-k.invariant.1 c.loop-k-test.true c.dot_scan-arg-1.given.0.1 (body_read _ _ _ c.kind_of.ensures c.body_in.ensures)
+    numbers_held_fits _ _ _ _ _ c.requires c.loop-k.invariant.1 c.loop-k-test.true (search rules) c.body.ensures
 
 pub loop-k-preserved : goal.loop-k-preserved
 loop-k-preserved c = (
   omega (arith, c.loop-k-test.true),
-  numbers-held-more _ _ _ _ _ c.requires c.loop-k.invariant.1 c.loop-k-test.true c.dot_scan-arg-1.given.0.1 (body_read _ _ _ c.kind_of.ensures c.body_in.ensures) (c.dot_scan-p.ensures.count, c.dot_scan-p.ensures.numbers),
+  numbers-held-more _ _ _ _ _ c.requires c.loop-k.invariant.1 c.loop-k-test.true (search rules) c.body.ensures (c.dot_scan-p.ensures.count, c.dot_scan-p.ensures.numbers),
 )

@@ -1,6 +1,6 @@
 use Prim.Native.Nat.{◌<◌}
 use native.Mathlib.Omega.{arith}
-use Rattle.engine.specs.Body.{body, associations_in}
+use Rattle.engine.specs.Body.{body_of, associations_in}
 use Rattle.fgo_state.proofs.GatheringScan.{gathers_none, gathers_room, gathers_held, gathers_clutter, gathers_all}
 use Rattle.fgo_state.proofs.gather.gather_scan.Goals as goal
 use Rattle.fgo_state.proofs.gather.gather_scan.Goals.{then-id-gt0, else-id-gt0}
@@ -64,7 +64,7 @@ loop-j-preserved c =
     let v = c.loop-j in
     let e = c.association_count-j-end.ensures in
     let l = c.loop-j-test.true in
-    let few : v.j < associations_in (body a.kind a.s.now) = omega arith in
+    let few : v.j < associations_in (body_of a.b.now) = omega arith in
     let i = c.id_at-id.ensures in
     elim c.if-id-gt0.branch [
       | then-id-gt0 w ↦ gathers_held _ _ _ _ _ _ c.requires v.invariant few i w.if-id-gt0.true (w.engine_of.ensures c.requires.passes) w.ids-is w.engines-is w.p-is

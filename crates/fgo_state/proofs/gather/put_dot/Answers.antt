@@ -5,7 +5,7 @@ use mir.Facts.{to_z-of_z}
 use Rattle.scalar.specs.Scalar.{seconds_of}
 use Rattle.engine.specs.declared.types.Association.{Association}
 use Rattle.engine.specs.Frame.{no_observation}
-use Rattle.engine.specs.Body.{body, frame_in}
+use Rattle.engine.specs.Body.{body_of, frame_in}
 use Rattle.fgo_spec.specs.Windows.{detection_of}
 use Rattle.fgo_state.specs.Memory.{association_in}
 use Rattle.fgo_state.proofs.gather.put_dot.Goals as goal
@@ -14,10 +14,10 @@ pub returns : goal.returns
 unfolding detection_of
 returns c =
     let a = c.args in
-    let b = body a.kind a.s.now in
+    let b = body_of a.b.now in
     let f = frame_in b in
     let h = c.requires.0 in
     let o : c.observation-d.result ≡ get_or f.observations (association_in b a.j).index.0 no_observation =
     c.observation-d.ensures.1 h ∙ ap (λ (x : Association). get_or f.observations x.index.0 no_observation) (c.association.ensures.1 h) in
-    let t : c.seconds-t.result ≡ seconds_of f.time = c.seconds-t.ensures ∙ ap seconds_of (to_z-of_z {w = w64} (record { sfits = c.time_of.type_inv }) ∙ c.time_of.ensures.1 h) in
+    let t : c.seconds-t.result ≡ seconds_of f.time = c.seconds-t.ensures ∙ ap seconds_of (to_z-of_z {w = w64} (record { sfits = c.time.type_inv }) ∙ c.time.ensures.1 h) in
     c.put.ensures ∙ rw (o, t, c.position_variance.ensures)

@@ -2,6 +2,7 @@ use Prim.Native.Nat.{ℕ, ◌+◌, ◌-◌, ◌≤◌, ◌<◌}
 use native.Mathlib.Omega.{arith}
 use mathlib.Core.Path.{◌≡◌, refl, sym, ap, ◌∙◌}
 use mathlib.Core.List.{List}
+use Rattle.engine.proofs.Ids.{same_id, other_id}
 use Rattle.engine.specs.Body.{rows}
 use Rattle.fgo_spec.specs.Lists.{find}
 use Rattle.fgo_state.specs.Memory.{engine_at, owner_at, owner_entry, or_none}
@@ -20,11 +21,11 @@ module _ (owners : List ℕ) (e owned k : ℕ) where
   unfolding find
   ended h = ap (λ l. or_none (find e l)) (rows_end (owner_entry owners) k owned k h)
 
-pub returns-then-engine_at-e : goal.returns-then-engine_at-e
-returns-then-engine_at-e c = c.owner_at.ensures ∙ sym (ap or_none c.loop-k.invariant ∙ found c.args.owners.now _ c.args.owned c.loop-k.k (omega arith) (sym c.if-engine_at-e.true ∙ c.engine_at.ensures))
+pub returns-then-eq : goal.returns-then-eq
+returns-then-eq c = c.owner_at.ensures ∙ sym (ap or_none c.loop-k.invariant ∙ found c.args.owners.now _ c.args.owned c.loop-k.k (omega arith) (sym (same_id c.eq.ensures c.if-eq.true) ∙ c.engine_at.ensures))
 
 pub loop-k-preserved : goal.loop-k-preserved
-loop-k-preserved c = c.loop-k.invariant ∙ past c.args.owners.now _ c.args.owned c.loop-k.k (omega arith) (λ z. c.if-engine_at-e.false (c.engine_at.ensures ∙ sym z))
+loop-k-preserved c = c.loop-k.invariant ∙ past c.args.owners.now _ c.args.owned c.loop-k.k (omega arith) (λ z. other_id c.eq.ensures c.if-eq.false (c.engine_at.ensures ∙ sym z))
 
 pub returns : goal.returns
 returns c = sym (ap or_none c.loop-k.invariant ∙ ended c.args.owners.now _ c.args.owned c.loop-k.k (omega arith))

@@ -5,4 +5,5 @@ use Rattle.playback.proofs.play.run_over.Goals as goal
 pub run-requires : goal.run-requires
 run-requires g c =
     let a = c.args in
-    (c.requires, opened_serves _ (window a.window.now a.values.now) c.in_ok-state.was c.open.ensures)
+    let p = c.new-player.ensures in
+    rw (p.refiner, p.sink) (c.requires, opened_serves _ (window a.window.now a.values.now) c.in_ok-state.was c.open.ensures)

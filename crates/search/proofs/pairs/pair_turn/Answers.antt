@@ -8,7 +8,7 @@ pub returns-then-pair_rests : goal.returns-then-pair_rests
 returns-then-pair_rests c =
     let s = c.args in
     let p = c.requires in
-    record { turned = turn_rests s.t p.0 p.1 p.4 p.3 (c.pair_rests.ensures c.if-pair_rests.true); swept = p.4; grows = grows_none s.list.now.count s.course.now.moved }
+    record { turned = turn_rests s.course.now.tally p.0 p.1 p.4 p.3 (c.pair_rests.ensures c.if-pair_rests.true); swept = p.4; grows = grows_none s.list.now.count s.course.now.moved }
 
 pub close_rows-requires : goal.close_rows-requires
 close_rows-requires c =
@@ -20,10 +20,10 @@ pub returns-then-close_rows : goal.returns-then-close_rows
 returns-then-close_rows c =
     let p = c.requires in
     let r = c.pair_step.ensures in
-    record { turned = turn_steps c.args.t p.0 p.1 p.4 c.close_rows.ensures c.if-close_rows.true r.step r.grows r.rests; swept = r.swept; grows = r.grows }
+    record { turned = turn_steps c.args.course.now.tally p.0 p.1 p.4 c.close_rows.ensures c.if-close_rows.true r.step r.grows r.rests; swept = r.swept; grows = r.grows }
 
-pub returns : goal.returns
-returns c =
+pub returns-else-close_rows : goal.returns-else-close_rows
+returns-else-close_rows c =
     let s = c.args in
     let p = c.requires in
-    record { turned = turn_apart s.t p.0 p.1 p.4 c.close_rows.ensures c.if-close_rows.false; swept = p.4; grows = grows_none s.list.now.count s.course.now.moved }
+    record { turned = turn_apart s.course.now.tally p.0 p.1 p.4 c.close_rows.ensures c.if-close_rows.false; swept = p.4; grows = grows_none s.list.now.count s.course.now.moved }

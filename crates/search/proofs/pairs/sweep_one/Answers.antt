@@ -5,15 +5,15 @@ use Rattle.search.proofs.pairs.sweep_one.Goals as goal
 pub loop-j-init : goal.loop-j-init
 loop-j-init c = let p = c.requires in one-start p.1 p.0 p.3
 
-pub pair_turn-t-requires : goal.pair_turn-t-requires
-pair_turn-t-requires c =
+pub pair_turn-requires : goal.pair_turn-requires
+pair_turn-requires c =
     let p = c.requires in
     let o = c.loop-j.invariant in
     (o.after, c.loop-j-test.true, p.1, p.2, o.stands)
 
 pub loop-j-preserved : goal.loop-j-preserved
 loop-j-preserved c =
-    let r = c.pair_turn-t.ensures in
+    let r = c.pair_turn.ensures in
     one_next c.requires.1 c.loop-j.invariant c.loop-j-test.true r.turned r.swept r.grows
 
 pub returns : goal.returns

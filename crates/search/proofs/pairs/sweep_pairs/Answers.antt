@@ -5,14 +5,14 @@ use Rattle.search.proofs.pairs.sweep_pairs.Goals as goal
 pub loop-i-init : goal.loop-i-init
 loop-i-init c = let p = c.requires in all_start p.0 p.2
 
-pub sweep_one-t-requires : goal.sweep_one-t-requires
-sweep_one-t-requires c =
+pub sweep_one-requires : goal.sweep_one-requires
+sweep_one-requires c =
     let p = c.requires in
     (c.loop-i-test.true, p.0, p.1, c.loop-i.invariant.stands)
 
 pub loop-i-preserved : goal.loop-i-preserved
 loop-i-preserved c =
-    let r = c.sweep_one-t.ensures in
+    let r = c.sweep_one.ensures in
     all-step c.requires.0 c.loop-i.invariant c.loop-i-test.true r.swept_one r.swept r.grows
 
 pub returns : goal.returns

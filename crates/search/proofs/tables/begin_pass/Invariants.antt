@@ -6,4 +6,4 @@ use Rattle.search.proofs.tables.begin_pass.Given as goal
 abbrev pub invariant-loop-i : goal.invariant-loop-i
 invariant-loop-i l =
     Carried (scene_in l.scene) l.last.count l.last.next_id.0 l.last.table l.last.moved l.list.table l.ids l.i l.course.costs l.list.due
-    × (l.list.count ≡ l.initial.list.count) × (l.list.table ≡ l.initial.list.table) × (l.list.rows ≡ l.initial.list.rows)
+    × (l.list.count ≡ l.initial.list.count) × (l.list.table ≡ l.initial.list.table) × (l.list.rows ≡ l.initial.list.rows) × (l.course.tally ≡ l.initial.course.tally)

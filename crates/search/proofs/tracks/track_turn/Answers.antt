@@ -9,7 +9,7 @@ returns-then-track_rests c =
     let s = c.args in
     let p = c.requires in
     let f = c.track_rests.ensures c.if-track_rests.true in
-    let r = visits_past p.1 p.0 p.4 s.t p.2 f.0 (f.1, f.2) in
+    let r = visits_past p.1 p.0 p.4 s.course.now.tally p.2 f.0 (f.1, f.2) in
     record { step = r.0; visits = r.1; grows = grows_none s.list.now.count s.course.now.moved }
 
 pub row_now-requires : goal.row_now-requires
@@ -33,6 +33,6 @@ returns c =
     let begins = s.scene.now.able.starts in
     record {
       step = r.step;
-      visits = visits_on p.1 p.0 p.4 s.t begins p.3 r.step r.stepped (λ h. sym (c.cost_now-base.ensures.kept h));
-      grows = visits_grow p.1 p.0 p.4 s.t begins p.3 r.step r.stepped;
+      visits = visits_on p.1 p.0 p.4 s.course.now.tally begins p.3 r.step r.stepped (λ h. sym (c.cost_now-base.ensures.kept h));
+      grows = visits_grow p.1 p.0 p.4 s.course.now.tally begins p.3 r.step r.stepped;
     }

@@ -5,8 +5,8 @@ use Rattle.search.proofs.tracks.visit_tracks.Goals as goal
 pub loop-i-init : goal.loop-i-init
 loop-i-init c = let p = c.requires in visit-start p.0 p.2
 
-pub track_turn-t-requires : goal.track_turn-t-requires
-track_turn-t-requires c =
+pub track_turn-requires : goal.track_turn-requires
+track_turn-requires c =
     let p = c.requires in
     let o = c.loop-i.invariant in
     (c.loop-i-test.true, p.0, p.1, o.from, o.visits)
@@ -14,7 +14,7 @@ track_turn-t-requires c =
 pub loop-i-preserved : goal.loop-i-preserved
 loop-i-preserved c =
     let p = c.requires in
-    let r = c.track_turn-t.ensures in
+    let r = c.track_turn.ensures in
     visit-step p.0 c.loop-i.invariant c.args.scene.now.able.starts c.loop-i-test.true r.step r.visits r.grows
 
 pub returns : goal.returns

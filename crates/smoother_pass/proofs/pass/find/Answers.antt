@@ -5,7 +5,6 @@ use mathlib.Core.Bool.{Bool, true, false, cond}
 use mathlib.Core.Option.{none, some}
 use native.Mathlib.Omega.{arith}
 use lib.Dec.{eqb}
-use borrow.Author.Tests.{eq-eqb, ne_eqb}
 use Rattle.smoother_frame.specs.Frame.{id_word}
 use Rattle.smoother_pass.specs.Pass.{last_at}
 use Rattle.smoother_pass.proofs.pass.find.Goals as goal
@@ -21,14 +20,15 @@ ended : (id : ℕ) (w : List ℕ) (k : ℕ) → k ≤ 0 → last_at id w k ≡ n
 unfolding last_at
 ended id w k h = let n : k ≡ 0 = omega arith in rw n
 
-pub loop-i-init : goal.loop-i-init
-loop-i-init c = ap (last_at c.args.id.0 c.args.frame.now.words) c.counts-i.ensures.tracks
-
-pub returns-then-track_id-id : goal.returns-then-track_id-id
-returns-then-track_id-id c = sym (step _ _ c.loop-i.i c.loop-i-test.true true (eq-eqb _ _ (sym c.track_id.ensures ∙ c.if-track_id-id.true))) ∙ c.loop-i.invariant
+pub returns-then-eq : goal.returns-then-eq
+returns-then-eq c =
+    let e = ap (λ (n : ℕ). eqb n c.args.id.0) (sym c.track_id.ensures) ∙ sym c.eq.ensures ∙ c.if-eq.true in
+    sym (step _ _ c.loop-i.i c.loop-i-test.true true e) ∙ c.loop-i.invariant
 
 pub loop-i-preserved : goal.loop-i-preserved
-loop-i-preserved c = sym (step _ _ c.loop-i.i c.loop-i-test.true false (ne_eqb _ _ (λ e. c.if-track_id-id.false (c.track_id.ensures ∙ e)))) ∙ c.loop-i.invariant
+loop-i-preserved c =
+    let e = ap (λ (n : ℕ). eqb n c.args.id.0) (sym c.track_id.ensures) ∙ sym c.eq.ensures ∙ c.if-eq.false in
+    sym (step _ _ c.loop-i.i c.loop-i-test.true false e) ∙ c.loop-i.invariant
 
 pub returns : goal.returns
 returns c = sym (ended _ _ c.loop-i.i c.loop-i-test.false) ∙ c.loop-i.invariant

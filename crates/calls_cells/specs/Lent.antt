@@ -1,0 +1,35 @@
+-- What a caller lends for output, and the frame that the refiner gave last. Definitions only.
+use Rattle.std.specs.Prelude.{ℕ, ◌≤◌, ◌≡◌, List, length, take, drop, Float}
+use Rattle.buffers.specs.Answer.{Written}
+use Rattle.buffers.specs.declared.FrameSize.{FrameSize}
+use Rattle.calls_cells.specs.declared.lent.Output.{Output}
+use Rattle.calls_cells.specs.declared.lent.LastFrame.{LastFrame}
+
+-- what of the output buffers is lent
+abbrev pub words_lent : Output → List ℕ
+words_lent o = take o.lent.words o.words
+
+abbrev pub numbers_lent : Output → List Float
+numbers_lent o = take o.lent.numbers o.numbers
+
+-- so much of two buffers can be lent
+pub record Lends (lent : FrameSize) (ws : List ℕ) (ns : List Float) : Type 0 where
+  pub words : lent.words ≤ length ws
+  pub numbers : lent.numbers ≤ length ns
+
+-- so much of them was: that was done to it, and the rest stays
+pub record Lent (Done : List ℕ → List Float → List ℕ → List Float → Type 0) (lent : FrameSize)
+    (ws : List ℕ) (ns : List Float) (ws' : List ℕ) (ns' : List Float) : Type 0 where
+  pub done : Done (take lent.words ws) (take lent.numbers ns) (take lent.words ws') (take lent.numbers ns')
+  pub words : drop lent.words ws' ≡ drop lent.words ws
+  pub numbers : drop lent.numbers ns' ≡ drop lent.numbers ns
+
+-- from one to the next: as much is lent, and what is not lent stays
+pub record RestStays (o o' : Output) : Type 0 where
+  pub lent : o'.lent ≡ o.lent
+  pub words : drop o.lent.words o'.words ≡ drop o.lent.words o.words
+  pub numbers : drop o.lent.numbers o'.numbers ≡ drop o.lent.numbers o.numbers
+
+-- the frame that the refiner gave last
+abbrev pub last_frame : LastFrame → Written
+last_frame l = record { words = take l.size.words l.words; numbers = take l.size.numbers l.numbers }

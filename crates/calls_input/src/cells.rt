@@ -1,0 +1,119 @@
+// The cells of what a caller keeps: README's table of places.
+ghost use Rattle.std.specs.Prelude.{◌≡◌};
+ghost use Rattle.calls_input.specs.Input.{refiner_place, refiner_cells, refiner_has, smoother_place, smoother_cells, smoother_has};
+
+use bounds::{BODIES, COLUMNS, FILTERS, OWNERS, PARTS, REFINER, SMOOTHER, VALUES, WINDOW};
+
+// Where a cell of the refiner's caller stands: among the refiner's fields, or in one of the arrays of its memory.
+#[derive(Clone, Copy)]
+pub enum RefinerPlace {
+    Fields,
+    Bodies,
+    Columns,
+    Owners,
+    Parts,
+    Filters,
+}
+
+// Where one of the smoother's caller does: among the smoother's fields, or among the window's words or numbers.
+#[derive(Clone, Copy)]
+pub enum SmootherPlace {
+    Fields,
+    Window,
+    Values,
+}
+
+// One cell, and what is written there.
+#[derive(Clone, Copy)]
+pub struct Cell<P> {
+    pub place: P,
+    pub index: usize,
+    pub value: u64,
+}
+
+// There is no place of this number.
+#[derive(Clone, Copy)]
+pub struct NoPlace;
+
+// A place by its number.
+impl TryFrom<u64> for RefinerPlace {
+    type Error = NoPlace;
+
+    ghost try_from_gives = { λ n r. r ≡ refiner_place n };
+
+    fn try_from(n: u64) -> Result<RefinerPlace, NoPlace> {
+        match n {
+            0 => Ok(RefinerPlace::Fields),
+            1 => Ok(RefinerPlace::Bodies),
+            2 => Ok(RefinerPlace::Columns),
+            3 => Ok(RefinerPlace::Owners),
+            4 => Ok(RefinerPlace::Parts),
+            5 => Ok(RefinerPlace::Filters),
+            _ => Err(NoPlace),
+        }
+    }
+}
+
+impl TryFrom<u64> for SmootherPlace {
+    type Error = NoPlace;
+
+    ghost try_from_gives = { λ n r. r ≡ smoother_place n };
+
+    fn try_from(n: u64) -> Result<SmootherPlace, NoPlace> {
+        match n {
+            0 => Ok(SmootherPlace::Fields),
+            1 => Ok(SmootherPlace::Window),
+            2 => Ok(SmootherPlace::Values),
+            _ => Err(NoPlace),
+        }
+    }
+}
+
+impl RefinerPlace {
+    // How many cells it has.
+    fn cells(self) -> usize
+        ensures { result ≡ refiner_cells self }
+    {
+        match self {
+            RefinerPlace::Fields => REFINER,
+            RefinerPlace::Bodies => BODIES,
+            RefinerPlace::Columns => COLUMNS,
+            RefinerPlace::Owners => OWNERS,
+            RefinerPlace::Parts => PARTS,
+            RefinerPlace::Filters => FILTERS,
+        }
+    }
+}
+
+impl SmootherPlace {
+    // How many cells it has.
+    fn cells(self) -> usize
+        ensures { result ≡ smoother_cells self }
+    {
+        match self {
+            SmootherPlace::Fields => SMOOTHER,
+            SmootherPlace::Window => WINDOW,
+            SmootherPlace::Values => VALUES,
+        }
+    }
+}
+
+// The refiner's caller has this cell, and a byte of bodies is at most 255.
+pub(crate) fn refiner_has(cell: Cell<RefinerPlace>) -> bool
+    ensures { result ≡ refiner_has cell }
+{
+    if cell.place.cells() <= cell.index {
+        return false;
+    }
+    match cell.place {
+        RefinerPlace::Bodies => cell.value <= 255,
+        _ => true,
+    }
+}
+
+// The smoother's caller has this one.
+pub(crate) fn smoother_has(cell: Cell<SmootherPlace>) -> bool
+    ensures { result ≡ smoother_has cell }
+{
+    cell.index < cell.place.cells()
+}
