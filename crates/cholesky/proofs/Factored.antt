@@ -1,17 +1,13 @@
 -- What six roots make the columns of Cholesky's factor. Assumes nothing.
-use mathlib.Core.Path.{◌≡◌, refl, sym, ap, ◌∙◌}
-use mathlib.Core.Bool.{Bool, true, false, ◌&&◌, true≢false}
+use mathlib.Core.Path.{◌≡◌, refl, ap, ◌∙◌}
+use mathlib.Core.Bool.{Bool}
 use mathlib.Core.List.{List, [], ◌∷◌}
 use Prim.Native.Nat.{ℕ}
 use Rattle.scalar.specs.Num.{Num}
 use Rattle.linalg.specs.Grown.{grown, tabulate}
 use Rattle.linalg.specs.Matrix.{matrix}
-use Rattle.linalg.specs.Cholesky.{less, low, reduced, divided, factor_column, columns, cholesky, above6, positive}
+use Rattle.linalg.specs.Cholesky.{low, reduced, divided, factor_column, columns, cholesky, above6, positive}
 use Rattle.linalg.proofs.Grown.{grows}
-
-both : (x y : Bool) → (x && y) ≡ true → (x ≡ true) × (y ≡ true)
-both true y e = (refl, e)
-both false y e = absurd (true≢false (sym e))
 
 -- columns 0, .., 5, each divided by the number on its diagonal
 module _ (N : Num) (a : List N.F) (r0 r1 r2 r3 r4 r5 : N.F) where
@@ -32,15 +28,6 @@ module _ (N : Num) (a : List N.F) (r0 r1 r2 r3 r4 r5 : N.F) where
 
   abbrev pub by5 : List (List N.F)
   by5 = divided N a [] 0 r0 ∷ divided N a by0 1 r1 ∷ divided N a by1 2 r2 ∷ divided N a by2 3 r3 ∷ divided N a by3 4 r4 ∷ divided N a by4 5 r5 ∷ []
-
-  -- each pivot is above 0
-  pub record Pivots : Type 0 where
-    pub p0 : N.lt N.zero (reduced N a [] 0 0) ≡ true
-    pub p1 : N.lt N.zero (reduced N a by0 1 1) ≡ true
-    pub p2 : N.lt N.zero (reduced N a by1 2 2) ≡ true
-    pub p3 : N.lt N.zero (reduced N a by2 3 3) ≡ true
-    pub p4 : N.lt N.zero (reduced N a by3 4 4) ≡ true
-    pub p5 : N.lt N.zero (reduced N a by4 5 5) ≡ true
 
   module _
       (e0 : r0 ≡ N.root (reduced N a [] 0 0))
@@ -69,23 +56,7 @@ module _ (N : Num) (a : List N.F) (r0 r1 r2 r3 r4 r5 : N.F) where
     unfolding cholesky
     factored = ap (λ cs. matrix N (λ i j. low N cs i j)) rooted
 
-    judged : above6 N (reduced N a by5 0 0) (reduced N a by5 1 1) (reduced N a by5 2 2) (reduced N a by5 3 3) (reduced N a by5 4 4) (reduced N a by5 5 5) ≡ positive N a
+    pub judged : (b : Bool) → b ≡ above6 N (reduced N a by5 0 0) (reduced N a by5 1 1) (reduced N a by5 2 2) (reduced N a by5 3 3) (reduced N a by5 4 4) (reduced N a by5 5 5) → b ≡ positive N a
     unfolding positive
-    judged =
-        ap (λ cs. above6 N (reduced N a cs 0 0) (reduced N a cs 1 1) (reduced N a cs 2 2) (reduced N a cs 3 3) (reduced N a cs 4 4) (reduced N a cs 5 5)) rooted
-
-    -- where no pivot fails, each is above 0
-    pub pivots : positive N a ≡ true → Pivots
-    unfolding less
-    pivots p =
-        let (c0, q0) = both _ _ (judged ∙ p) in
-        let (c1, q1) = both _ _ q0 in
-        let (c2, q2) = both _ _ q1 in
-        let (c3, q3) = both _ _ q2 in
-        let (c4, c5) = both _ _ q3 in
-        record { p0 = c0; p1 = c1; p2 = c2; p3 = c3; p4 = c4; p5 = c5 }
-
-    -- and the other way round
-    pub accepted : Pivots → positive N a ≡ true
-    unfolding less
-    accepted p = sym judged ∙ simp (p.p0, p.p1, p.p2, p.p3, p.p4, p.p5)
+    judged b e =
+        e ∙ ap (λ cs. above6 N (reduced N a cs 0 0) (reduced N a cs 1 1) (reduced N a cs 2 2) (reduced N a cs 3 3) (reduced N a cs 4 4) (reduced N a cs 5 5)) rooted

@@ -1,8 +1,8 @@
 // Cholesky's factor of a matrix, and the inverse by it.
 #![tactic(auto)]
 
-ghost use Rattle.std.specs.Prelude.{◌≡◌, ◌+◌, ◌*◌, ◌≤◌, ◌<◌, true};
-ghost use Rattle.std.specs.Option.{SomeIff};
+ghost use Rattle.std.specs.Prelude.{◌≡◌, ◌+◌, ◌*◌, ◌≤◌, ◌<◌, true, false};
+ghost use Rattle.std.specs.Result.{MatchResult};
 ghost use Rattle.scalar.specs.F64.{f64};
 ghost use Rattle.linalg.specs.Cholesky as Cholesky;
 ghost use Rattle.linalg.specs.Rows as Rows;
@@ -10,52 +10,67 @@ ghost use Rattle.linalg.specs.Rows as Rows;
 use linalg::rows::{put_row, row};
 use std::array::from_fn;
 
-// The root of a pivot, which has to be above 0.
-fn root(pivot: f64) -> Option<f64>
-    ensures { SomeIff result (f64.lt f64.zero pivot ≡ true) (f64.root pivot) }
+// All six are above 0.
+fn above6(d0: f64, d1: f64, d2: f64, d3: f64, d4: f64, d5: f64) -> bool
+    ensures { result ≡ Cholesky.above6 f64 d0 d1 d2 d3 d4 d5 }
 {
-    if 0.0 < pivot {
-        Some(sqrt::sqrt(pivot))
-    } else {
-        None
+    if 0.0 < d0 {
+        if 0.0 < d1 {
+            if 0.0 < d2 {
+                if 0.0 < d3 {
+                    if 0.0 < d4 {
+                        return 0.0 < d5;
+                    }
+                }
+            }
+        }
     }
+    false
 }
 
 // Cholesky's factor, by columns of the lower triangle: column j subtracts L(j,k)·column k, k rising, and the root of the pivot divides it.
-// A pivot that is not above 0 fails.
+// A pivot that is not above 0 fails; what the definition gives then, which nobody should use, is the error.
 #[rattlefmt::skip]
-pub fn cholesky6(a: &[f64; 36]) -> Option<[f64; 36]>
-    ensures { SomeIff result (Cholesky.positive f64 a.now ≡ true) (Cholesky.cholesky f64 a.now) }
+pub fn cholesky6(a: &[f64; 36]) -> Result<[f64; 36], [f64; 36]>
+    ensures { MatchResult result (λ l. (Cholesky.positive f64 a.now ≡ true) × (l ≡ Cholesky.cholesky f64 a.now))
+        (λ l. (Cholesky.positive f64 a.now ≡ false) × (l ≡ Cholesky.cholesky f64 a.now)) }
 {
-    let l00 = root(a[0])?;
+    let d0 = a[0];
+    let l00 = sqrt::sqrt(d0);
     let l10 = a[6] / l00;
     let l20 = a[12] / l00;
     let l30 = a[18] / l00;
     let l40 = a[24] / l00;
     let l50 = a[30] / l00;
-    let l11 = root(a[7] - l10 * l10)?;
+    let d1 = a[7] - l10 * l10;
+    let l11 = sqrt::sqrt(d1);
     let l21 = (a[13] - l10 * l20) / l11;
     let l31 = (a[19] - l10 * l30) / l11;
     let l41 = (a[25] - l10 * l40) / l11;
     let l51 = (a[31] - l10 * l50) / l11;
-    let l22 = root(a[14] - l20 * l20 - l21 * l21)?;
+    let d2 = a[14] - l20 * l20 - l21 * l21;
+    let l22 = sqrt::sqrt(d2);
     let l32 = (a[20] - l20 * l30 - l21 * l31) / l22;
     let l42 = (a[26] - l20 * l40 - l21 * l41) / l22;
     let l52 = (a[32] - l20 * l50 - l21 * l51) / l22;
-    let l33 = root(a[21] - l30 * l30 - l31 * l31 - l32 * l32)?;
+    let d3 = a[21] - l30 * l30 - l31 * l31 - l32 * l32;
+    let l33 = sqrt::sqrt(d3);
     let l43 = (a[27] - l30 * l40 - l31 * l41 - l32 * l42) / l33;
     let l53 = (a[33] - l30 * l50 - l31 * l51 - l32 * l52) / l33;
-    let l44 = root(a[28] - l40 * l40 - l41 * l41 - l42 * l42 - l43 * l43)?;
+    let d4 = a[28] - l40 * l40 - l41 * l41 - l42 * l42 - l43 * l43;
+    let l44 = sqrt::sqrt(d4);
     let l54 = (a[34] - l40 * l50 - l41 * l51 - l42 * l52 - l43 * l53) / l44;
-    let l55 = root(a[35] - l50 * l50 - l51 * l51 - l52 * l52 - l53 * l53 - l54 * l54)?;
-    Some([
+    let d5 = a[35] - l50 * l50 - l51 * l51 - l52 * l52 - l53 * l53 - l54 * l54;
+    let l55 = sqrt::sqrt(d5);
+    let l = [
         l00, 0.0, 0.0, 0.0, 0.0, 0.0,
         l10, l11, 0.0, 0.0, 0.0, 0.0,
         l20, l21, l22, 0.0, 0.0, 0.0,
         l30, l31, l32, l33, 0.0, 0.0,
         l40, l41, l42, l43, l44, 0.0,
         l50, l51, l52, l53, l54, l55,
-    ])
+    ];
+    if above6(d0, d1, d2, d3, d4, d5) { Ok(l) } else { Err(l) }
 }
 
 // r less s times row i of w.

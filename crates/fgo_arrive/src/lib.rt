@@ -73,7 +73,7 @@ pub fn arrive(r: &mut FixedLagRefiner, b: &Body<'_>, m: &mut Memory)
     ensures parts { m.new.parts ≡ m.old.parts }
 {
     m.scans.typed();
-    scans::are_bytes(b.bytes);
+    let _bytes = scans::are_bytes(b.bytes);
     hold(r, b, &mut m.scans, &mut m.owners);
     let t = search_held(r, m);
     r.next_id = t.next_id;

@@ -6,13 +6,20 @@ use crate::fields;
 use fgo_spec::moves::FgoCounters;
 use refusals::Refusal;
 
-// `refused` and the number of a refusal.
+// `refused` and a number.
+pub fn put_refused_number(out: &mut [u8], n: usize, number: u8) -> usize
+    ensures { Puts (refused_line number) n out.old out.new result }
+{
+    let a = fields::put_text(out, n, b"refused");
+    let b = fields::put_decimal(out, a, u64::from(number));
+    fields::put_text(out, b, b"\n")
+}
+
+// The same of a refusal.
 pub fn put_refused(out: &mut [u8], n: usize, refusal: Refusal) -> usize
     ensures { Puts (refused_line (number_of refusal)) n out.old out.new result }
 {
-    let a = fields::put_text(out, n, b"refused");
-    let b = fields::put_decimal(out, a, u64::from(u8::from(refusal)));
-    fields::put_text(out, b, b"\n")
+    put_refused_number(out, n, u8::from(refusal))
 }
 
 // `counters` swaps, merges, splits, drops.

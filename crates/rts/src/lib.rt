@@ -89,7 +89,7 @@ pub fn back(
         return Step::Skipped;
     }
     let p_pred = predicted(q, dt, p);
-    if let Some(l) = cholesky6(&p_pred) {
+    if let Ok(l) = cholesky6(&p_pred) {
         let g = gain(dt, p, &l);
         *xs = smoothed_x(dt, x, &g, xs);
         *ps = smoothed_p(p, &p_pred, &g, ps);

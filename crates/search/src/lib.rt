@@ -1,9 +1,9 @@
 // The search: passes over the pairs of tracks that come close, and over the tracks.
 #![tactic(auto)]
 
-pub mod marks;
-pub mod pairs;
+mod marks;
+mod pairs;
 pub mod pass;
-pub mod scene;
-pub mod tables;
-pub mod tracks;
+mod scene;
+mod tables;
+mod tracks;
