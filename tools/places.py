@@ -45,8 +45,9 @@ def functions():
                 depth += {'(': 1, ')': -1}.get(text[i], 0)
                 i += 1
             params = [p for p in re.split(r',(?![^<\[(]*[>\])])', text[m.end():i - 1]) if p.strip()]
-            body = re.search(r'\n(\s*)\{\n(.*?)\n\1\}', text[i:], re.S)
-            shape = re.sub(r'\b(u8|u64|usize|i64|f64|\d[\w.]*)\b', '_', body.group(2)) if body else ''
+            indent = re.match(r'\n*( *)', m.group(0)).group(1)
+            body = re.search(r'[^\n;]*\{\n(.*?)\n' + indent + r'\}', text[i:], re.S)
+            shape = re.sub(r'\b(u8|u64|usize|i64|f64|\d[\w.]*)\b', '_', body.group(1)) if body else ''
             yield path, text[:m.start()].count('\n') + 2, m.group(1), params, re.sub(r'\s+', ' ', shape).strip()
 
 
@@ -75,7 +76,7 @@ COUNTS = [
     ('4', 'conversions by a function of their own', places(r'fn (to_|from_|number\b|default\b|\w+_of\(b: u8)')),
     ('5', 'functions of more than seven parameters', wide(7)),
     ('6', 'places of a flat array by a stride', places(r'\b(ROW|PART|OWNER|COLUMN|FILTER|DOT|LOG|STATE|TRACK|LINK|BODY)\b \* ')),
-    ('7', 'matches that choose a step by a value kept for it', places(r'match (sink|form|call|place)\b')),
+    ('7', 'matches that choose a step by a value kept for it', places(r'match (sink|form|call|place|cell\.place)\b|if let Sink::')),
 ]
 
 for point, what, found in COUNTS:
