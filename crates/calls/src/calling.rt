@@ -56,8 +56,8 @@ impl Desk {
 }
 
 // A call of the refiner, to which so much of the output buffers is lent.
-// As it is: a function of its own cuts the buffers, since of a struct's field it is known what a call leaves there where it is lent whole, and not where a part
-// of it is lent beside a part of another.
+// As it is: a function of its own cuts the buffers. Cut where the call stands, the proof did not close: of a field it is known what a call leaves there where
+// it is lent whole, and not where a part of it is lent beside a part of another.
 fn call_refiner(
     refiner: &mut LentRefiner,
     call: RefinerCall,

@@ -18,6 +18,7 @@ fn play(rt: &(impl Print + Eprint), s: &[u8]) {
     let mut out = [0u8; TEXT];
     let mut console = Console::new();
     let mut at: usize = 0;
+    // As it is: a loop by the length that each call has, which no range says.
     while at < s.len() {
         let n = calls_input::next_at(s, at);
         let end = calling::call(&mut desk, n.call, &s[n.from..n.end], &mut out);

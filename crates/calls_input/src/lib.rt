@@ -186,6 +186,7 @@ fn write_smoother(s: &[u8]) -> Call
 }
 
 // The call of a code.
+// As it is: numbers, which are the codes of README's list.
 fn called(code: u64, s: &[u8]) -> Call
     ensures { result ≡ call_by code s.now }
 {

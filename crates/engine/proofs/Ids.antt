@@ -4,8 +4,9 @@ use mathlib.Core.Path.{◌≡◌, refl, sym, ◌∙◌}
 use mathlib.Core.Bool.{Bool, true, false, true≢false}
 use lib.Dec.{eqb, ltb}
 use native.Mathlib.Omega.{arith}
-use borrow.Author.Tests.{eqb-true, eqb-false, ltb-true, ltb-false}
+use borrow.Author.Tests.{eqb-true, eqb-false, ltb-false}
 use Rattle.std.proofs.Common.{is_le, nat_cmp}
+use Rattle.std.proofs.lemmas.Map.Keys.{le_from_is_le}
 
 module _ {a b : ℕ} {t : Bool} where
   pub same_id : t ≡ eqb a b → t ≡ true → a ≡ b
@@ -16,12 +17,7 @@ module _ {a b : ℕ} {t : Bool} where
 
 module _ (a b : ℕ) {t : Bool} where
   pub id_to : t ≡ is_le (nat_cmp a b) → t ≡ true → a ≤ b
-  id_to e h = go (ltb a b) (eqb a b) refl refl (sym e ∙ h)
-    where
-      go : (p q : Bool) → ltb a b ≡ p → eqb a b ≡ q → is_le (nat_cmp a b) ≡ true → a ≤ b
-      go true q l z g = omega (arith, ltb-true a b l)
-      go false true l z g = omega (arith, eqb-true a b z)
-      go false false l z g = absurd (true≢false (sym (rw (l, z) at g)))
+  id_to e h = le_from_is_le a b (sym e ∙ h)
 
   pub id_past : t ≡ is_le (nat_cmp a b) → t ≡ false → b < a
   id_past e h = go (ltb a b) (eqb a b) refl refl (sym e ∙ h)

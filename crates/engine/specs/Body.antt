@@ -1,5 +1,6 @@
 -- Document 01, "Frame body", and refusals 5, 6 and 7. Definitions only.
-use Rattle.std.specs.Prelude.{ℕ, zero, suc, ◌+◌, ◌-◌, ◌*◌, ◌<◌, ◌≡◌, List, [], ◌∷◌, Bool, true, cond, ◌&&◌, not, length, get_or, leb, ltb, eqb, ℤ, pos, nat_abs}
+use Rattle.std.specs.Prelude.{ℕ, zero, suc, ◌+◌, ◌-◌, ◌*◌, ◌<◌, ◌≡◌, List, [], ◌∷◌, Bool}
+use Rattle.std.specs.Prelude.{true, cond, ◌&&◌, not, length, get_or, leb, ltb, eqb, ℤ, pos, nat_abs}
 use Rattle.std.specs.Float.{binary64}
 use Rattle.std.specs.Float.Ieee.{of_bits}
 use Rattle.bounds.specs.Bounds.{TIME, ENGINES, SENSORS, OBSERVATIONS, ASSOCIATIONS, HEADER, ENGINE, SENSOR, OBSERVATION, ASSOCIATION}

@@ -104,6 +104,7 @@ fn no_association() -> Association
     }
 }
 
+// A clause `small` bounds what is answered, so that no sum of counts and places overflows.
 impl<'a> Body<'a> {
     // The bytes of the header.
     pub fn header_size(&self) -> usize

@@ -40,7 +40,8 @@ pub record Followed (c : FgoConfig) (ops : List (Op Body)) : Type 0 where
   -- With each engine id at most once a frame: where dots of an engine id stand under x, and the track x still lives (it has a frozen part or a window), the
   -- next one that is pushed comes under x too.
   pub together :
-      (b : Body) (s : Scan) → standing c (ops ++ (pushed b ∷ [])) ≡ standing c ops ++ (s ∷ []) → All Unrepeated (run c (ops ++ (pushed b ∷ []))).accepted →
+      (b : Body) (s : Scan) → standing c (ops ++ (pushed b ∷ [])) ≡ standing c ops ++ (s ∷ []) →
+      All Unrepeated (run c (ops ++ (pushed b ∷ []))).accepted →
       (e x y : ℕ) → 0 < x → Memᴰ (e, x) (sightings (standing c ops)) → T (live (run c ops).state.prefixes (run c ops).state.scans x) →
       Memᴰ (e, y) (sightings (s ∷ [])) → y ≡ x
 

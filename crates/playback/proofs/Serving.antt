@@ -22,24 +22,24 @@ use Rattle.histories.specs.Smoothed.{smoothing}
 use Rattle.histories.specs.Joined.{Call, Same, Reached}
 use Rattle.histories.proofs.CallsLaw.{more}
 use Rattle.histories.proofs.JoinedLaw.{known, settings}
-use Rattle.playback.specs.declared.sink.Output.{Output}
+use Rattle.playback.specs.declared.sink.FrameBuffers.{FrameBuffers}
 use Rattle.playback.specs.declared.sink.Sink.{Sink}
 use Rattle.playback.specs.declared.sink.Sink.TheVariants.{Short, Full, Smoother}
-use Rattle.playback.specs.Told.{empty_output, Tells, Stays, Smooths, Prints}
+use Rattle.playback.specs.Told.{empty_buffers, Tells, Stays, Smooths, Prints}
 use Rattle.playback.specs.Played.{Smoothed, Serves}
 
 -- ---- what is told
 
 pub tells :
-    {o : Op Written} {s : FixedLagSmoother} {w : Window} {b : Output} {p : Pushed} {w' : Window} {ws : List ℕ} {ns : List Float} {out out' : List ℕ} {end : ℕ} →
-    b ≡ empty_output → Promised o s w b.words b.numbers p w' ws ns → length out ≡ TEXT → Puts (full_answer p.answer ws ns) 0 out out' end →
+    {o : Op Written} {s : FixedLagSmoother} {w : Window} {b : FrameBuffers} {p : Pushed} {w' : Window} {ws : List ℕ} {ns : List Float} {out out' : List ℕ} {end : ℕ} →
+    b ≡ empty_buffers → Promised o s w b.words b.numbers p w' ws ns → length out ≡ TEXT → Puts (full_answer p.answer ws ns) 0 out out' end →
     Tells s w p.state w' out' end o
 tells {o} {s} {w} {p = p} {w'} {ws} {ns} e h room q =
     record {
       given = p;
       words = ws;
       numbers = ns;
-      promised = subst (λ (b : Output). Promised o s w b.words b.numbers p w' ws ns) e h;
+      promised = subst (λ (b : FrameBuffers). Promised o s w b.words b.numbers p w' ws ns) e h;
       state = refl;
       text = ready q (full_answer_few ws ns p.answer (shown (λ f. f) state_in h.ends)) (omega (arith, room));
     }
@@ -56,7 +56,7 @@ unfolding state_in
 held_is s w = frames_long s w.words w.numbers 0 s.held
 
 -- empty output buffers for the longest frame are long enough
-enough : roomy (length empty_output.words) (length empty_output.numbers) ≡ true
+enough : roomy (length empty_buffers.words) (length empty_buffers.numbers) ≡ true
 enough = λ i. roomy (length-replicate {A = ℕ} WORDS 0 i) (length-replicate NUMBERS nil i)
 
 -- a take leaves one frame fewer, if one is held
@@ -66,15 +66,15 @@ take-fewer t [] h = absurd (omega arith)
 take-fewer t (f ∷ fs) h = refl
 
 module _ (o : Op Written) (s : FixedLagSmoother) (w : Window) {p : Pushed} {w' : Window} {ws : List ℕ} {ns : List Float}
-    (l : Smoothed s w) (h : Promised o s w empty_output.words empty_output.numbers p w' ws ns) where
+    (l : Smoothed s w) (h : Promised o s w empty_buffers.words empty_buffers.numbers p w' ws ns) where
   -- the call
   abbrev call : Call
   call =
       record {
         sent = o;
         lent = w;
-        words = empty_output.words;
-        numbers = empty_output.numbers;
+        words = empty_buffers.words;
+        numbers = empty_buffers.numbers;
         answer = p.answer;
         value = p.state;
         memory = w';
@@ -117,12 +117,12 @@ module _ {s : FixedLagSmoother} {w : Window} {s' : FixedLagSmoother} {w' : Windo
 -- ---- an answer of the refiner
 
 module _ (s : FixedLagSmoother) (w : Window) (s' : FixedLagSmoother) (w' : Window) (out' : List ℕ) (end : ℕ) where
-  smooths-on : (answer : Answer) (b : Output) → Smoothed s w → Smooths s w s' w' out' end answer b → Smoothed s' w'
+  smooths-on : (answer : Answer) (b : FrameBuffers) → Smoothed s w → Smooths s w s' w' out' end answer b → Smoothed s' w'
   smooths-on (Refused n) b l h = stays_on l h
   smooths-on Held b l h = stays_on l h
   smooths-on (Frame m n) b l h = tells_on l h
 
-  smooths-within : (answer : Answer) (b : Output) → Smooths s w s' w' out' end answer b → end ≤ length out'
+  smooths-within : (answer : Answer) (b : FrameBuffers) → Smooths s w s' w' out' end answer b → end ≤ length out'
   smooths-within (Refused n) b h = h.text.within
   smooths-within Held b h = h.text.within
   smooths-within (Frame m n) b h = h.text.within
@@ -130,12 +130,12 @@ module _ (s : FixedLagSmoother) (w : Window) (s' : FixedLagSmoother) (w' : Windo
 -- ---- a sink
 
 module _ (w : Window) (k' : Sink) (w' : Window) (out' : List ℕ) (end : ℕ) where
-  pub prints_on : (k : Sink) (answer : Answer) (b : Output) → Serves k w → Prints w k' w' out' end k answer b → Serves k' w'
+  pub prints_on : (k : Sink) (answer : Answer) (b : FrameBuffers) → Serves k w → Prints w k' w' out' end k answer b → Serves k' w'
   prints_on Short answer b l h = subst (λ k. Serves k w') (sym h.sink) tt
   prints_on Full answer b l h = subst (λ k. Serves k w') (sym h.sink) tt
   prints_on (Smoother s) answer b l h = subst (λ k. Serves k w') (sym h.sink) (smooths-on s w h.state w' out' end answer b l h.smooths)
 
-  pub prints_within : (k : Sink) (answer : Answer) (b : Output) → Prints w k' w' out' end k answer b → end ≤ length out'
+  pub prints_within : (k : Sink) (answer : Answer) (b : FrameBuffers) → Prints w k' w' out' end k answer b → end ≤ length out'
   prints_within Short answer b h = h.text.within
   prints_within Full answer b h = h.text.within
   prints_within (Smoother s) answer b h = smooths-within s w h.state w' out' end answer b h.smooths

@@ -7,7 +7,7 @@ use Rattle.print.specs.Text.{Ready, refused_line, counters_line, short_answer, f
 use Rattle.smoother_frame.specs.Frame.{frame}
 use Rattle.smoother_window.specs.declared.FixedLagSmoother.{FixedLagSmoother}
 use Rattle.smoother.specs.Promise.{Window, Promised, Pushed}
-use Rattle.playback.specs.declared.sink.Output.{Output}
+use Rattle.playback.specs.declared.sink.FrameBuffers.{FrameBuffers}
 use Rattle.playback.specs.declared.sink.Sink.{Sink}
 use Rattle.playback.specs.declared.sink.Sink.TheVariants.{Short, Full, Smoother}
 use Rattle.fgo.specs.Promise.{Counted, NotCounted, Moves}
@@ -18,8 +18,8 @@ counted_line (NotCounted n) = refused_line n
 counted_line (Moves k) = counters_line k
 
 -- output buffers that were never used
-abbrev pub empty_output : Output
-empty_output = record { words = replicate WORDS 0; numbers = replicate NUMBERS nil }
+abbrev pub empty_buffers : FrameBuffers
+empty_buffers = record { words = replicate WORDS 0; numbers = replicate NUMBERS nil }
 
 -- of a smoother s with the window w: what is left of them, the lent bytes, and where the text in them ends
 module _ (s : FixedLagSmoother) (w : Window) (s' : FixedLagSmoother) (w' : Window) (out' : List ℕ) (end : ℕ) where
@@ -28,7 +28,7 @@ module _ (s : FixedLagSmoother) (w : Window) (s' : FixedLagSmoother) (w' : Windo
     pub given : Pushed
     pub words : List ℕ
     pub numbers : List Float
-    pub promised : Promised o s w empty_output.words empty_output.numbers given w' words numbers
+    pub promised : Promised o s w empty_buffers.words empty_buffers.numbers given w' words numbers
     pub state : s' ≡ given.state
     pub text : Ready (full_answer given.answer words numbers) out' end
 
@@ -39,7 +39,7 @@ module _ (s : FixedLagSmoother) (w : Window) (s' : FixedLagSmoother) (w' : Windo
     pub text : Ready line out' end
 
   -- an answer of the refiner, whose frame stands at the front of the output buffers b, comes to it: a refusal is told, and a frame is pushed
-  abbrev pub Smooths : Answer → Output → Type 0
+  abbrev pub Smooths : Answer → FrameBuffers → Type 0
   Smooths (Refused n) b = Stays (refused_line n)
   Smooths Held b = Stays []
   Smooths (Frame m n) b = Tells (pushed (frame (take m b.words) (take n b.numbers)))
@@ -53,12 +53,12 @@ module _ (w : Window) (k' : Sink) (w' : Window) (out' : List ℕ) (end : ℕ) wh
     pub text : Ready lines out' end
 
   -- to a smoother
-  pub record Passes (s : FixedLagSmoother) (answer : Answer) (b : Output) : Type 0 where
+  pub record Passes (s : FixedLagSmoother) (answer : Answer) (b : FrameBuffers) : Type 0 where
     pub state : FixedLagSmoother
     pub sink : k' ≡ Smoother state
     pub smooths : Smooths s w state w' out' end answer b
 
-  abbrev pub Prints : Sink → Answer → Output → Type 0
+  abbrev pub Prints : Sink → Answer → FrameBuffers → Type 0
   Prints Short answer b = Puts Short (short_answer answer b.words b.numbers)
   Prints Full answer b = Puts Full (full_answer answer b.words b.numbers)
   Prints (Smoother s) answer b = Passes s answer b

@@ -7,25 +7,25 @@ ghost use Rattle.buffers.specs.Answer.{answer_in, pushed, taken};
 ghost use Rattle.print.specs.Printed.{Shown, Counted};
 ghost use Rattle.smoother_frame.specs.Frame.{frame as frame_of};
 ghost use Rattle.smoother.specs.Promise as Smoothing;
-ghost use Rattle.playback.specs.Told.{empty_output, Tells, Smooths, Prints};
+ghost use Rattle.playback.specs.Told.{empty_buffers, Tells, Smooths, Prints};
 
 use bounds::{NUMBERS, TEXT, WORDS};
 use buffers::Answer;
 use print::{answers, lines};
 use smoother_window::FixedLagSmoother;
 
-// Output buffers, with room for the longest frame.
+// FrameBuffers buffers, with room for the longest frame.
 #[derive(Drop)]
-pub struct Output {
+pub struct FrameBuffers {
     pub words: [u64; WORDS],
     pub numbers: [f64; NUMBERS],
 }
 
-impl Output {
-    pub fn new() -> Output
-        ensures { result ≡ empty_output }
+impl FrameBuffers {
+    pub fn new() -> FrameBuffers
+        ensures { result ≡ empty_buffers }
     {
-        Output {
+        FrameBuffers {
             words: [0; WORDS],
             numbers: [0.0; NUMBERS],
         }
@@ -54,7 +54,7 @@ fn smooth_one(
     ensures { Tells state.old (Smoothing.window window.old values.old) state.new (Smoothing.window window.new values.new) text.new result
         (pushed (frame_of words.now numbers.now)) }
 {
-    let mut smoothed = Output::new();
+    let mut smoothed = FrameBuffers::new();
     let answer = smoother::push(
         state,
         window,
@@ -76,7 +76,7 @@ pub fn take_smoothed(
 ) -> usize
     ensures { Tells state.old (Smoothing.window window.now values.now) state.new (Smoothing.window window.now values.now) text.new result taken }
 {
-    let mut smoothed = Output::new();
+    let mut smoothed = FrameBuffers::new();
     let answer = smoother::take(
         state,
         window,
@@ -93,7 +93,7 @@ pub fn take_smoothed(
 fn put_smoothed(
     state: &mut FixedLagSmoother,
     answer: Answer,
-    output: &Output,
+    output: &FrameBuffers,
     window: &mut [u64],
     values: &mut [f64],
     text: &mut [u8; TEXT],
@@ -121,7 +121,7 @@ impl Sink {
     pub fn put_answer(
         &mut self,
         answer: Answer,
-        output: &Output,
+        output: &FrameBuffers,
         window: &mut [u64],
         values: &mut [f64],
         text: &mut [u8; TEXT],

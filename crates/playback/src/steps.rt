@@ -15,7 +15,7 @@ ghost use Rattle.playback.specs.Told.{counted_line};
 ghost use Rattle.playback.specs.Played.{pushes, Led, Leads, Fewer, TakesAll, Smoothed, Serves, Emptied};
 
 use crate::sink;
-use crate::sink::{Output, Sink};
+use crate::sink::{FrameBuffers, Sink};
 use bounds::TEXT;
 use buffers::Answer;
 use console::Console;
@@ -33,7 +33,7 @@ pub struct Player {
     pub refiner: FixedLagRefiner,
     pub sink: Sink,
     pub memory: Memory,
-    pub output: Output,
+    pub output: FrameBuffers,
     pub text: [u8; TEXT],
     pub console: Console,
 }
@@ -60,6 +60,7 @@ fn smooth_rest(
     requires { Smoothed state.old (Smoothing.window window.now values.now) }
     ensures { state.new.held ≡ 0 }
 {
+    // As it is: a loop until none is held, which no range says.
     while 0 < state.held {
         let end = sink::take_smoothed(state, window, values, text);
         console.write(rt, &text[..end]);
@@ -76,7 +77,7 @@ impl Player {
             refiner,
             sink,
             memory: Memory::new(),
-            output: Output::new(),
+            output: FrameBuffers::new(),
             text: [0; TEXT],
             console: Console::new(),
         }
@@ -182,6 +183,7 @@ impl Player {
         ensures serves { Serves self.new.sink (Smoothing.window window.new values.new) }
         ensures takes_all { TakesAll self.old.refiner self.old.memory self.new.refiner self.new.memory }
     {
+        // As it is: a loop until none is held, which no range says.
         while 0 < self.refiner.held {
             self.take_one(rt, window, values);
         }

@@ -17,6 +17,7 @@ fn both(rt: &(impl Print + Eprint), s: &[u8]) {
 
 fn play_all(rt: &(impl Print + Eprint), s: &[u8]) {
     let mut at = 0;
+    // As it is: a loop by the length that each recording has, which no range says.
     while at < s.len() {
         if s.len() - at < 4 {
             return;

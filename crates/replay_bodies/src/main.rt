@@ -81,6 +81,7 @@ fn print_body(rt: &impl Print, b: &Body<'_>) -> io::Result<()> {
 
 fn print_bodies(rt: &impl Print, s: &[u8]) -> io::Result<()> {
     let mut at = 0;
+    // As it is: a loop by the length that each body has, which no range says.
     while at < s.len() {
         if s.len() - at < 2 {
             return Ok(());
@@ -105,6 +106,7 @@ fn read_full(input: &mut impl Read, buf: &mut [u8]) -> usize
     ensures { result ≤ length buf.new }
 {
     let mut n: usize = 0;
+    // As it is: a loop by as many bytes as a read gives, which no range says.
     while n < buf.len() {
         let Ok(more) = input.read(&mut buf[n..]) else {
             return n;

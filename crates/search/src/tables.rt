@@ -54,7 +54,7 @@ struct Entry {
 }
 
 // The first place, from one on, whose id is not below x; n where there is none.
-// As it is: a loop and no `position`, since `from` may lie past n, where there is no slice.
+// As it is: a loop, since `position` counts from `from` on and has a None for n: no plainer.
 fn seek(x: RefinedId, from: usize, n: usize, table: &[u64; DETECTIONS]) -> usize
     requires { n ≤ DETECTIONS }
 {

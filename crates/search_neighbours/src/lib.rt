@@ -81,7 +81,7 @@ pub fn close_scans<'a>(
 }
 
 // Two entries of the table, both below DETECTIONS, have equal or consecutive scans somewhere.
-// As it is: the rows are read by a stride, as search_rows lays them out.
+// As it is: four bytes of the table of rows by their places; cutting the two rows out of it is no plainer.
 pub fn meet(rows: &[u8; ROWS], i: usize, j: usize) -> bool
     requires { (i < DETECTIONS) × (j < DETECTIONS) × (length rows.now ≡ ROWS) }
     ensures { result ≡ meets rows.now i j }

@@ -150,6 +150,7 @@ pub struct Targets {
 }
 
 // The next id, the moves counted, the passes that ran, and whether the last one made a move.
+// As it is: a flag, which says that alone and stands beside no value that it is about.
 #[derive(Clone, Copy)]
 pub struct Tally {
     pub next_id: RefinedId,

@@ -68,7 +68,6 @@ fn slot_in(x: RefinedId, a: usize, b: usize, ids: &[u64; DETECTIONS]) -> usize
 }
 
 // The row of x. It asks for starts that rise to DETECTIONS at most.
-// As it is: bytes by a stride, since the rows of a search are read for each pair and fit a cache so.
 pub fn fill_row<'a>(
     x: RefinedId,
     starts: &'a [usize; STARTS],
@@ -105,6 +104,7 @@ pub fn end_of(row: &[usize; SCANS]) -> usize
 }
 
 // A row, its first scan and its end, as entry i of the table. It asks for a row whose entries fit a byte.
+// As it is: bytes at a stride, of which an entry is one slice; that it is a struct of bytes was not tried.
 fn put_entry(i: usize, row: &[usize; SCANS], rows: &mut [u8; ROWS])
     requires { (i < DETECTIONS) × (length row.now ≡ SCANS) × ((k : ℕ) → k < SCANS → get_or row.now k 0 < 2 ^ 8) × (length rows.old ≡ ROWS) }
     ensures { rows.new ≡ take (ROW * i) rows.old ++ (entry_of row.now ++ drop (ROW * i + ROW) rows.old) }

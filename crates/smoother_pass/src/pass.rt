@@ -61,7 +61,7 @@ fn step_back(q: f64, dt: f64, a: &TrackState, later: Option<TrackState>) -> Opti
 }
 
 // The pass over the held frames from the k-th on, which has the id at track i; nothing where a Cholesky fails.
-// As it is: a recursion, which goes back over the chain as it returns, since there is no heap to keep a list of its states in.
+// As it is: a recursion, which goes back over the chain as it returns; a loop would fill an array of states and walk it back, which is no plainer.
 fn pass(held: &HeldFrames<'_>, id: RefinedId, k: usize, i: usize) -> Option<TrackState>
     requires there { k < (state_of held.now).held }
     requires found { last_at id.0 (frame_of held.now k).words (track_count (frame_of held.now k).words) ≡ some i }

@@ -1,5 +1,6 @@
 -- The window: where each held frame lies in the lent buffers. Slots of equal size go round, one frame in each. Definitions only.
-use Rattle.std.specs.Prelude.{ℕ, zero, suc, ◌+◌, ◌-◌, ◌*◌, ◌%◌, ◌≤◌, ◌<◌, ◌≡◌, Bool, true, ◌&&◌, List, [], ◌∷◌, ◌++◌, length, take, drop, Float}
+use Rattle.std.specs.Prelude.{ℕ, zero, suc, ◌+◌, ◌-◌, ◌*◌, ◌%◌, ◌≤◌, ◌<◌, ◌≡◌}
+use Rattle.std.specs.Prelude.{Bool, true, ◌&&◌, List, [], ◌∷◌, ◌++◌, length, take, drop, Float}
 use Rattle.bounds.specs.Bounds.{LAG, TRACKS, ASSOCIATIONS, SENSORS, words_for, numbers_for}
 use Rattle.buffers.specs.Answer.{Written}
 use Rattle.smoother_frame.specs.Frame.{frame, track_count, association_count, sensor_count, words_long, numbers_long, well_formed}

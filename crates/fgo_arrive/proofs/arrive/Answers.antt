@@ -14,12 +14,12 @@ hold-requires c =
 pub search_held-t-requires : goal.search_held-t-requires
 search_held-t-requires c =
     let a = c.args in
-    searches a.r.now a.m.now (body_of a.b.now) c.requires c.typed.ensures.bytes c.are_bytes-bytes.ensures _ _ _ _ c.hold.ensures
+    searches a.r.now a.m.now (body_of a.b.now) c.requires c.typed.ensures.bytes c.are_bytes-bytes.ensures.bytes _ _ _ _ c.hold.ensures
 
 pub keep_owners-r-requires : goal.keep_owners-r-requires
 keep_owners-r-requires c =
     let a = c.args in
-    let h = searches a.r.now a.m.now (body_of a.b.now) c.requires c.typed.ensures.bytes c.are_bytes-bytes.ensures _ _ _ _ c.hold.ensures in
+    let h = searches a.r.now a.m.now (body_of a.b.now) c.requires c.typed.ensures.bytes c.are_bytes-bytes.ensures.bytes _ _ _ _ c.hold.ensures in
     (h.held.early, h.frozen, h.owners)
 
 pub returns-clause-arrived : goal.returns-clause-arrived
@@ -32,4 +32,4 @@ returns-clause-arrived c =
     let keeps = rw (e, p) at c.keep_owners-r.ensures in
     subst (Arrived a.r.now a.m.now (body_of a.b.now) (after u c.keep_owners-r.result c.search_held-t.result))
     (λ i. record { scans = record { bodies = sym e i; columns = n.scans.columns }; owners = c.keep_owners-r.new.owners; parts = sym p i })
-    (arrives a.r.now a.m.now (body_of a.b.now) c.requires c.typed.ensures.bytes c.are_bytes-bytes.ensures _ _ _ _ c.hold.ensures _ _ _ _ _ c.search_held-t.ensures.found keeps)
+    (arrives a.r.now a.m.now (body_of a.b.now) c.requires c.typed.ensures.bytes c.are_bytes-bytes.ensures.bytes _ _ _ _ c.hold.ensures _ _ _ _ _ c.search_held-t.ensures.found keeps)
