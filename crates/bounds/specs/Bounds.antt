@@ -166,25 +166,9 @@ JOINED = OWNED + ASSOCIATIONS
 abbrev pub STARTS : ℕ
 STARTS = SCANS + 1
 
--- The numbers of a dot: x, y, the variance of its position, and its scan's time in seconds.
-abbrev pub DOT : ℕ
-DOT = 4
-
--- Those of all dots.
-abbrev pub DOTS : ℕ
-DOTS = DETECTIONS * DOT
-
 -- Logarithms that are kept at most.
 abbrev pub KEPT : ℕ
 KEPT = 256
-
--- The bytes of a row: a place for each scan, its first scan and its end.
-abbrev pub ROW : ℕ
-ROW = SCANS + 2
-
--- Those of all rows.
-abbrev pub ROWS : ℕ
-ROWS = DETECTIONS * ROW
 
 -- ---- an emitted frame
 

@@ -133,20 +133,8 @@ pub const JOINED: usize = OWNED + ASSOCIATIONS;
 // Where each scan's detections begin, and where the last one's end.
 pub const STARTS: usize = SCANS + 1;
 
-// The numbers of a dot: x, y, the variance of its position, and its scan's time in seconds.
-pub const DOT: usize = 4;
-
-// Those of all dots.
-pub const DOTS: usize = DETECTIONS * DOT;
-
 // Logarithms that are kept at most.
 pub const KEPT: usize = 256;
-
-// The bytes of a row: a place for each scan, its first scan and its end.
-pub const ROW: usize = SCANS + 2;
-
-// Those of all rows.
-pub const ROWS: usize = DETECTIONS * ROW;
 
 // ---- an emitted frame
 

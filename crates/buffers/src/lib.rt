@@ -1,8 +1,8 @@
 // The buffers that a caller lends for a frame: words and numbers put into one, when both are long enough, and the answer that says how much of them a frame
-// takes. Refiner and smoother answer alike.
+// takes. Refiner and smoother answer alike. And an array read out of a list.
 #![tactic(auto)]
 
-ghost use Rattle.std.specs.Prelude.{◌≡◌, ◌+◌, ◌≤◌, length};
+ghost use Rattle.std.specs.Prelude.{◌≡◌, ◌+◌, ◌≤◌, length, take, drop};
 ghost use Rattle.buffers.specs.Buffers.{over};
 ghost use Rattle.buffers.specs.Answer.{roomy};
 
@@ -19,11 +19,19 @@ pub struct FrameSize {
 // What push and take answer: a refusal; or nothing where the frame is held, and nothing was written; or a frame.
 pub type Answer = Result<Option<FrameSize>, Refusal>;
 
-// Output buffers of these lengths have room for any frame; 4 where they have not.
+// Whether output buffers of these lengths have room for any frame.
 pub fn is_roomy(words: usize, numbers: usize) -> bool
     ensures { result ≡ roomy words numbers }
 {
     WORDS <= words && NUMBERS <= numbers
+}
+
+// N elements of a list, from a place on; they must be there.
+pub fn array_at<T: Copy, const N: usize>(list: &[T], at: usize) -> [T; N]
+    requires { at + N ≤ length list.now }
+    ensures { result ≡ take N (drop at list.now) }
+{
+    *list[at..].first_chunk().unwrap()
 }
 
 // A list over another one, from place o on; it must fit. Every other place stays as it was.

@@ -23,11 +23,11 @@ ends a b end out (Refiner refiner.Counters) f h = h.refines.text_is.within
 ends a b end out (Refiner (refiner.Write c)) f h = h.refines.text_is.within
 ends a b end out (Smoother smoother.Open) f h = h.smooths.text_is.within
 ends a b end out (Smoother smoother.PushLast) f h = h.smooths.text_is.within
-ends a b end out (Smoother (smoother.Push n m)) f h = h.smooths.text_is.within
+ends a b end out (Smoother (smoother.Push size)) f h = h.smooths.text_is.within
 ends a b end out (Smoother smoother.Take) f h = h.smooths.text_is.within
 ends a b end out (Smoother (smoother.Write c)) f h = h.smooths.text_is.within
-ends a b end out (Lend w x) f h = h.told.within
-ends a b end out (LendWindow w x) f h = h.told.within
+ends a b end out (Lend size) f h = h.told.within
+ends a b end out (LendWindow size) f h = h.told.within
 ends a b end out Digest f h = h.told.within
 ends a b end out Bad f h = h.told.within
 

@@ -2,6 +2,8 @@
 use Rattle.std.specs.Prelude.{ℕ, ◌≡◌, List, [], replicate, from_bits}
 use Rattle.std.specs.Float.{binary64}
 use Rattle.bounds.specs.Bounds.{WORDS, NUMBERS, WINDOW, VALUES, LENT_WORDS, LENT_NUMBERS, REFINER, SMOOTHER}
+use Rattle.buffers.specs.declared.FrameSize.{FrameSize}
+use Rattle.smoother_window.specs.declared.size.WindowSize.{WindowSize}
 use Rattle.digest.specs.Digest.{BASIS}
 use Rattle.fgo_state.specs.Memory.{no_memory}
 use Rattle.print.specs.Text.{Ready, digest_line, bad_line}
@@ -26,7 +28,7 @@ pub record First (d : Desk) : Type 0 where
   pub room : d.stages.smoother.window.room ≡ Asked (record { words = 0; numbers = 0 })
   pub window_words : d.stages.smoother.window.words ≡ replicate WINDOW 0
   pub window_values : d.stages.smoother.window.values ≡ replicate VALUES (from_bits binary64 0)
-  pub lent : d.output.lent ≡ record { words = WORDS; numbers = NUMBERS }
+  pub lent : d.output.size ≡ record { words = WORDS; numbers = NUMBERS }
   pub words : d.output.words ≡ replicate LENT_WORDS 0
   pub numbers : d.output.numbers ≡ replicate LENT_NUMBERS (from_bits binary64 0)
 
@@ -61,17 +63,17 @@ module _ (a b : Desk) (end : ℕ) (out : List ℕ) where
     pub told : Ready text out end
 
   -- only how much of the output buffers is lent changes, and nothing is printed
-  pub record LendsOutput (words numbers : ℕ) : Type 0 where
+  pub record LendsOutput (size : FrameSize) : Type 0 where
     pub stages : b.stages ≡ a.stages
-    pub lent : b.output.lent ≡ record { words = words; numbers = numbers }
+    pub lent : b.output.size ≡ size
     pub buffers : (b.output.words ≡ a.output.words) × (b.output.numbers ≡ a.output.numbers)
     pub told : Ready [] out end
 
   -- only how much of the window is lent changes, and nothing is printed
-  pub record LendsWindow (words numbers : ℕ) : Type 0 where
+  pub record LendsWindow (size : WindowSize) : Type 0 where
     pub refiner : b.stages.refiner ≡ a.stages.refiner
     pub smoother : b.stages.smoother.state ≡ a.stages.smoother.state
-    pub room : b.stages.smoother.window.room ≡ Said (record { words = words; numbers = numbers })
+    pub room : b.stages.smoother.window.room ≡ Said size
     pub window : window_in b.stages.smoother.window ≡ window_in a.stages.smoother.window
     pub output : b.output ≡ a.output
     pub told : Ready [] out end
@@ -80,7 +82,7 @@ module _ (a b : Desk) (end : ℕ) (out : List ℕ) where
   abbrev pub Does : Call → List ℕ → Type 0
   Does (Refiner c) f = CallsRefiner c f
   Does (Smoother c) f = CallsSmoother c f
-  Does (Lend w x) f = LendsOutput w x
-  Does (LendWindow w x) f = LendsWindow w x
+  Does (Lend size) f = LendsOutput size
+  Does (LendWindow size) f = LendsWindow size
   Does Digest f = Says (digest_text a)
   Does Bad f = Says bad_line

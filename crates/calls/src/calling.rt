@@ -1,4 +1,7 @@
 // All that a caller keeps, and the calls one by one.
+//
+// As it is: words, numbers and out go to each function side by side. Of a struct of `&mut` slices it is not known what is written through them, so with one
+// the proofs do not close; fgo_emit's `put_frame` says the same.
 ghost use Rattle.std.specs.Prelude.{◌≡◌, ◌≤◌, length};
 ghost use Rattle.bounds.specs.Bounds.{TEXT};
 ghost use Rattle.print.specs.Text.{Ready};
@@ -9,25 +12,27 @@ ghost use Rattle.calls_refiner.specs.Refining.{Refines};
 ghost use Rattle.calls_smoother.specs.Smoothing.{Smooths};
 ghost use Rattle.calls.specs.Calling.{First, Does, digest_text};
 
-use bounds::{REFINER, SMOOTHER};
+use bounds::{REFINER, SMOOTHER, TEXT};
 use buffers::FrameSize;
+use calls_cells::cells::Fields;
+use calls_cells::hashing;
 use calls_cells::lent::{LastFrame, Output};
-use calls_cells::{cells, hashing};
 use calls_input::{Call, RefinerCall, SmootherCall};
 use calls_refiner::LentRefiner;
 use calls_smoother::window::{LentSmoother, LentWindow};
-use fgo_state::state::Memory;
+use fgo_state::state::{FixedLagRefiner, Memory};
 use print::lines;
-use smoother_window::size::WindowSize;
+use smoother_window::FixedLagSmoother;
 
-// The refiner, whose frames the smoother is pushed, and the smoother.
+// Refiner and smoother, which is pushed the refiner's frames.
 #[derive(Drop)]
 pub struct Stages {
     pub refiner: LentRefiner,
     pub smoother: LentSmoother,
 }
 
-// All that a caller keeps: these, and the output buffers.
+// All that the program keeps from one call to the next: refiner and smoother, each with the memory that is lent to it, and the output buffers, which are lent
+// to both.
 #[derive(Drop)]
 pub struct Desk {
     pub stages: Stages,
@@ -40,12 +45,12 @@ impl Desk {
         ensures { First result }
     {
         let refiner = LentRefiner {
-            state: cells::refiner_of(&[0; REFINER]),
+            state: FixedLagRefiner::of(&[0; REFINER]),
             memory: Memory::new(),
             last: LastFrame::new(),
         };
         let smoother = LentSmoother {
-            state: cells::smoother_of(&[0; SMOOTHER]),
+            state: FixedLagSmoother::of(&[0; SMOOTHER]),
             window: LentWindow::new(),
         };
         Desk {
@@ -65,10 +70,10 @@ fn call_refiner(
     lent: FrameSize,
     words: &mut [u64],
     numbers: &mut [f64],
-    out: &mut [u8],
+    out: &mut [u8; TEXT],
 ) -> usize
     requires lends { Lends lent words.old numbers.old }
-    requires sane { Sane (calls.Refiner call) s.now × (TEXT ≤ length out.old) }
+    requires sane { Sane (calls.Refiner call) s.now }
     ensures { Lent (λ ws ns ws' ns'. Refines refiner.old ws ns refiner.new ws' ns' result out.new call s.now)
         lent words.old numbers.old words.new numbers.new }
 {
@@ -82,7 +87,7 @@ fn call_refiner(
     )
 }
 
-// A call of the smoother; so for it.
+// A call of the smoother, to which so much of the output buffers is lent. It cuts them for the same reason.
 fn call_smoother(
     stages: &mut Stages,
     call: SmootherCall,
@@ -90,10 +95,10 @@ fn call_smoother(
     lent: FrameSize,
     words: &mut [u64],
     numbers: &mut [f64],
-    out: &mut [u8],
+    out: &mut [u8; TEXT],
 ) -> usize
     requires lends { Lends lent words.old numbers.old }
-    requires sane { Sane (calls.Smoother call) s.now × (TEXT ≤ length out.old) }
+    requires sane { Sane (calls.Smoother call) s.now }
     ensures refiner { stages.new.refiner ≡ stages.old.refiner }
     ensures smooths { Lent (λ ws ns ws' ns'. Smooths stages.old.smoother ws ns stages.new.smoother ws' ns' result out.new
         call s.now (last_frame stages.old.refiner.last)) lent words.old numbers.old words.new numbers.new }
@@ -110,8 +115,7 @@ fn call_smoother(
 }
 
 // The digest.
-fn tell_digest(d: &Desk, out: &mut [u8]) -> usize
-    requires { TEXT ≤ length out.old }
+fn tell_digest(d: &Desk, out: &mut [u8; TEXT]) -> usize
     ensures { Ready (digest_text d.now) out.new result }
 {
     let refiner = &d.stages.refiner;
@@ -135,12 +139,12 @@ fn tell_digest(d: &Desk, out: &mut [u8]) -> usize
 }
 
 // A call, with what follows it: what it prints is put at the start of out, and it gives where that ends.
-#[tactic(auto, using(print::proofs::Fitting::ready, print::proofs::Fitting::bad_few))]
 pub fn call(d: &mut Desk, call: Call, s: &[u8], out: &mut [u8]) -> usize
     requires { Sane call s.now × (TEXT ≤ length out.old) }
     ensures { Does d.old d.new result out.new call s.now }
 {
-    let lent = d.output.lent;
+    let text = out.first_chunk_mut().unwrap();
+    let lent = d.output.size;
     match call {
         Call::Refiner(c) => call_refiner(
             &mut d.stages.refiner,
@@ -149,7 +153,7 @@ pub fn call(d: &mut Desk, call: Call, s: &[u8], out: &mut [u8]) -> usize
             lent,
             &mut d.output.words,
             &mut d.output.numbers,
-            out,
+            text,
         ),
         Call::Smoother(c) => call_smoother(
             &mut d.stages,
@@ -158,18 +162,17 @@ pub fn call(d: &mut Desk, call: Call, s: &[u8], out: &mut [u8]) -> usize
             lent,
             &mut d.output.words,
             &mut d.output.numbers,
-            out,
+            text,
         ),
-        Call::Lend { words, numbers } => {
-            d.output.lend(FrameSize { words, numbers });
+        Call::Lend(size) => {
+            d.output.lend(size);
             0
         }
-        Call::LendWindow { words, numbers } => {
-            let window = &mut d.stages.smoother.window;
-            window.lend(WindowSize { words, numbers });
+        Call::LendWindow(size) => {
+            d.stages.smoother.window.lend(size);
             0
         }
-        Call::Digest => tell_digest(d, out),
-        Call::Bad => lines::put_bad(out),
+        Call::Digest => tell_digest(d, text),
+        Call::Bad => lines::put_bad(text),
     }
 }

@@ -12,6 +12,9 @@ use print::lines;
 // A list of the greatest length, and one byte that tells a longer one.
 const INPUT: usize = CALLS + 1;
 
+// Room for the line of a bad call.
+const BAD: usize = 16;
+
 // The calls of a list that is not too long, one after the other; a bad one ends it.
 fn play(rt: &(impl Print + Eprint), s: &[u8]) {
     let mut desk = Desk::new();
@@ -32,7 +35,7 @@ fn play(rt: &(impl Print + Eprint), s: &[u8]) {
 
 // A bad call alone.
 fn print_bad(rt: &(impl Print + Eprint)) {
-    let mut out = [0u8; 16];
+    let mut out = [0u8; BAD];
     let end = lines::put_bad(&mut out);
     let mut console = Console::new();
     console.write(rt, &out[..end]);

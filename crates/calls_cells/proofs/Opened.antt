@@ -1,14 +1,23 @@
 -- What an opening leaves and prints, by what it answers. Assumes nothing.
 use Prim.Native.Nat.{ℕ, zero, suc, ◌≤◌}
 use native.Mathlib.Omega.{arith}
-use mathlib.Core.Path.{◌≡◌, refl}
-use mathlib.Core.List.{List}
+use mathlib.Core.Path.{◌≡◌, refl, ◌∙◌}
+use mathlib.Core.List.{List, ◌++◌}
 use lib.ListN.{length}
+use Rattle.std.proofs.lemmas.List.{length-append, take-append-le}
 use Rattle.bounds.specs.Bounds.{TEXT}
 use Rattle.buffers.specs.Answer.{opened, unopened, opened_by}
 use Rattle.print.specs.Text.{Puts, Ready, refused_line, opened_line}
 use Rattle.print.proofs.Fitting.{refused_few, opened_few, ready}
 use Rattle.calls_cells.specs.Opening.{opening, opening_text}
+
+-- a text that is ready in the front of a buffer is ready in the buffer
+pub ready_in : {text front : List ℕ} {e : ℕ} (rest : List ℕ) → Ready text front e → Ready text (front ++ rest) e
+ready_in {text} {front} {e} rest r =
+    record {
+      within = omega (arith, r.within, length-append front rest);
+      stands = take-append-le e front rest r.within ∙ r.stands;
+    }
 
 module _ {out out' : List ℕ} {e : ℕ} (room : TEXT ≤ length out) where
   pub refused_ready : (n code : ℕ) → code ≡ n → Puts (refused_line code) 0 out out' e → Ready (refused_line n) out' e

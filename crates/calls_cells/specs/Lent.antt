@@ -1,16 +1,20 @@
 -- What a caller lends for output, and the frame that the refiner gave last. Definitions only.
 use Rattle.std.specs.Prelude.{ℕ, ◌≤◌, ◌≡◌, List, length, take, drop, Float}
+use Rattle.bounds.specs.Bounds.{WORDS, NUMBERS, LENT_WORDS, LENT_NUMBERS}
 use Rattle.buffers.specs.Answer.{Written}
 use Rattle.buffers.specs.declared.FrameSize.{FrameSize}
-use Rattle.calls_cells.specs.declared.lent.Output.{Output}
-use Rattle.calls_cells.specs.declared.lent.LastFrame.{LastFrame}
+use Rattle.calls_cells.specs.declared.lent.FrameRoom.{FrameRoom}
 
--- what of the output buffers is lent
+-- the output buffers
+abbrev pub Output : Type 0
+Output = FrameRoom LENT_WORDS LENT_NUMBERS
+
+-- what of them is lent
 abbrev pub words_lent : Output → List ℕ
-words_lent o = take o.lent.words o.words
+words_lent o = take o.size.words o.words
 
 abbrev pub numbers_lent : Output → List Float
-numbers_lent o = take o.lent.numbers o.numbers
+numbers_lent o = take o.size.numbers o.numbers
 
 -- so much of two buffers can be lent
 pub record Lends (lent : FrameSize) (ws : List ℕ) (ns : List Float) : Type 0 where
@@ -26,10 +30,10 @@ pub record Lent (Done : List ℕ → List Float → List ℕ → List Float → 
 
 -- from one to the next: as much is lent, and what is not lent stays
 pub record RestStays (o o' : Output) : Type 0 where
-  pub lent : o'.lent ≡ o.lent
-  pub words : drop o.lent.words o'.words ≡ drop o.lent.words o.words
-  pub numbers : drop o.lent.numbers o'.numbers ≡ drop o.lent.numbers o.numbers
+  pub lent : o'.size ≡ o.size
+  pub words : drop o.size.words o'.words ≡ drop o.size.words o.words
+  pub numbers : drop o.size.numbers o'.numbers ≡ drop o.size.numbers o.numbers
 
 -- the frame that the refiner gave last
-abbrev pub last_frame : LastFrame → Written
+abbrev pub last_frame : FrameRoom WORDS NUMBERS → Written
 last_frame l = record { words = take l.size.words l.words; numbers = take l.size.numbers l.numbers }

@@ -1,5 +1,5 @@
 // A refiner and a smoother as cells: their fields as words, in the order of README's table, and back.
-ghost use Rattle.std.specs.Prelude.{◌≡◌, length};
+ghost use Rattle.std.specs.Prelude.{◌≡◌, ◌<◌, ◌≤◌, ℕ, List, set};
 ghost use Rattle.bounds.specs.Bounds.{REFINER};
 ghost use Rattle.calls_cells.specs.Cells.{refiner_fields, config_of, refiner_of, smoother_fields, smoother_of};
 
@@ -11,38 +11,34 @@ use fgo_state::state::FixedLagRefiner;
 use scalar::bits;
 use smoother_window::{FixedLagSmoother, SmootherConfig};
 
-// The fields of a refiner.
-pub fn refiner_fields(r: FixedLagRefiner) -> [u64; REFINER]
-    ensures { result ≡ refiner_fields r }
-{
-    let c = r.config;
-    [
-        c.lag_frames as u64,
-        bits::to_bits(c.radius_m),
-        bits::to_bits(c.birth_cost),
-        bits::to_bits(c.miss_cost),
-        bits::to_bits(c.clutter_cost),
-        bits::to_bits(c.accel_spectral_density),
-        bits::to_bits(c.position_sigma_m),
-        bits::to_bits(c.initial_velocity_variance),
-        bits::to_word(c.coast_ns),
-        bits::to_word(c.forget_after_ns),
-        c.max_passes as u64,
-        r.first.0,
-        r.held as u64,
-        r.frozen as u64,
-        r.owned as u64,
-        r.next_id.0,
-        r.counters.swaps,
-        r.counters.merges,
-        r.counters.splits,
-        r.counters.drops,
-    ]
+// What is kept as so many words: its fields, in that order, and back.
+pub trait Fields<const N: usize>: Copy {
+    ghost words: { Self → List ℕ };
+
+    ghost of_words: { List ℕ → Self };
+
+    // The fields.
+    fn fields(self) -> [u64; N]
+        ensures { result ≡ words self };
+
+    // What has such fields.
+    fn of(f: &[u64; N]) -> Self
+        ensures { result ≡ of_words f.now };
+
+    // One of them, written.
+    fn write_field(&mut self, index: usize, value: u64)
+        requires { (index < N) × (N ≤ REFINER) }
+        ensures { self.new ≡ of_words (set (words self.old) index value) }
+    {
+        let mut fields = self.fields();
+        fields[index] = value;
+        *self = Self::of(&fields);
+    }
 }
 
 // The settings of such fields.
-fn config_of(f: &[u64]) -> FgoConfig
-    requires { length f.now ≡ REFINER }
+#[tactic(auto, unfolding(crate::specs::Cells::config_of))]
+fn config_of(f: &[u64; REFINER]) -> FgoConfig
     ensures { result ≡ config_of f.now }
 {
     FgoConfig {
@@ -60,53 +56,86 @@ fn config_of(f: &[u64]) -> FgoConfig
     }
 }
 
-// The refiner of such fields.
-pub fn refiner_of(f: &[u64; REFINER]) -> FixedLagRefiner
-    ensures { result ≡ refiner_of f.now }
-{
-    let config = config_of(f);
-    let counters = FgoCounters {
-        swaps: f[16],
-        merges: f[17],
-        splits: f[18],
-        drops: f[19],
-    };
-    FixedLagRefiner {
-        config,
-        first: ScanIndex(f[11]),
-        held: f[12] as usize,
-        frozen: f[13] as usize,
-        owned: f[14] as usize,
-        next_id: RefinedId(f[15]),
-        counters,
+impl Fields<REFINER> for FixedLagRefiner {
+    ghost words = { refiner_fields };
+
+    ghost of_words = { refiner_of };
+
+    #[tactic(auto, unfolding(crate::specs::Cells::refiner_fields))]
+    fn fields(self) -> [u64; REFINER] {
+        let c = self.config;
+        [
+            c.lag_frames as u64,
+            bits::to_bits(c.radius_m),
+            bits::to_bits(c.birth_cost),
+            bits::to_bits(c.miss_cost),
+            bits::to_bits(c.clutter_cost),
+            bits::to_bits(c.accel_spectral_density),
+            bits::to_bits(c.position_sigma_m),
+            bits::to_bits(c.initial_velocity_variance),
+            bits::to_word(c.coast_ns),
+            bits::to_word(c.forget_after_ns),
+            c.max_passes as u64,
+            self.first.0,
+            self.held as u64,
+            self.frozen as u64,
+            self.owned as u64,
+            self.next_id.0,
+            self.counters.swaps,
+            self.counters.merges,
+            self.counters.splits,
+            self.counters.drops,
+        ]
+    }
+
+    #[tactic(auto, unfolding(crate::specs::Cells::refiner_of))]
+    fn of(f: &[u64; REFINER]) -> FixedLagRefiner {
+        let config = config_of(f);
+        let counters = FgoCounters {
+            swaps: f[16],
+            merges: f[17],
+            splits: f[18],
+            drops: f[19],
+        };
+        FixedLagRefiner {
+            config,
+            first: ScanIndex(f[11]),
+            held: f[12] as usize,
+            frozen: f[13] as usize,
+            owned: f[14] as usize,
+            next_id: RefinedId(f[15]),
+            counters,
+        }
     }
 }
 
-// The fields of a smoother.
-pub fn smoother_fields(s: FixedLagSmoother) -> [u64; SMOOTHER]
-    ensures { result ≡ smoother_fields s }
-{
-    [
-        s.config.lag_frames as u64,
-        bits::to_bits(s.config.accel_spectral_density),
-        s.config.max_tracks as u64,
-        s.first as u64,
-        s.held as u64,
-    ]
-}
+impl Fields<SMOOTHER> for FixedLagSmoother {
+    ghost words = { smoother_fields };
 
-// The smoother of such fields.
-pub fn smoother_of(f: &[u64; SMOOTHER]) -> FixedLagSmoother
-    ensures { result ≡ smoother_of f.now }
-{
-    let config = SmootherConfig {
-        lag_frames: f[0] as usize,
-        accel_spectral_density: bits::from_bits(f[1]),
-        max_tracks: f[2] as usize,
-    };
-    FixedLagSmoother {
-        config,
-        first: f[3] as usize,
-        held: f[4] as usize,
+    ghost of_words = { smoother_of };
+
+    #[tactic(auto, unfolding(crate::specs::Cells::smoother_fields))]
+    fn fields(self) -> [u64; SMOOTHER] {
+        [
+            self.config.lag_frames as u64,
+            bits::to_bits(self.config.accel_spectral_density),
+            self.config.max_tracks as u64,
+            self.first as u64,
+            self.held as u64,
+        ]
+    }
+
+    #[tactic(auto, unfolding(crate::specs::Cells::smoother_of))]
+    fn of(f: &[u64; SMOOTHER]) -> FixedLagSmoother {
+        let config = SmootherConfig {
+            lag_frames: f[0] as usize,
+            accel_spectral_density: bits::from_bits(f[1]),
+            max_tracks: f[2] as usize,
+        };
+        FixedLagSmoother {
+            config,
+            first: f[3] as usize,
+            held: f[4] as usize,
+        }
     }
 }

@@ -5,12 +5,13 @@ ghost use Rattle.smoother.specs.Promise as Smoothing;
 ghost use Rattle.digest.specs.Digest.{BASIS};
 ghost use Rattle.calls_cells.specs.Hashing.{refiner_hash, smoother_hash, buffers_hash};
 
-use crate::cells;
+use crate::cells::Fields;
 use fgo_state::state::FixedLagRefiner;
 use smoother_window::FixedLagSmoother;
 
 // Two buffers, after a hash.
-fn hash_buffers<'a>(h: u64, words: &'a [u64], numbers: &'a [f64]) -> u64
+#[tactic(auto, using(crate::proofs::Chain::chain))]
+fn hash_buffers(h: u64, words: &[u64], numbers: &[f64]) -> u64
     ensures { result ≡ buffers_hash h words.now numbers.now }
 {
     digest::hash_numbers(digest::hash_words(h, words), numbers)
@@ -24,7 +25,8 @@ pub fn hash_output(words: &[u64], numbers: &[f64]) -> u64
 }
 
 // A refiner with its memory.
-// As it is: five lists and no `Memory`, since a digest is of lists of any length.
+// As it is: five lists of any length. A `Memory`, whose arrays are of one length each, would ask more of callers.
+#[tactic(auto, using(crate::proofs::Chain::chain), unfolding(crate::specs::Hashing::refiner_hash))]
 pub fn hash_refiner(
     r: FixedLagRefiner,
     bodies: &[u8],
@@ -35,7 +37,7 @@ pub fn hash_refiner(
 ) -> u64
     ensures { result ≡ refiner_hash r (memory bodies.now columns.now owners.now tracks.now filters.now) }
 {
-    let fields = cells::refiner_fields(r);
+    let fields = r.fields();
     let a = digest::hash_words(digest::begin(), &fields);
     let b = digest::hash_bytes(a, bodies);
     let c = digest::hash_words(b, columns);
@@ -44,9 +46,10 @@ pub fn hash_refiner(
 }
 
 // A smoother with its window.
-pub fn hash_smoother<'a>(s: FixedLagSmoother, window: &'a [u64], values: &'a [f64]) -> u64
+#[tactic(auto, using(crate::proofs::Chain::chain), unfolding(crate::specs::Hashing::smoother_hash))]
+pub fn hash_smoother(s: FixedLagSmoother, window: &[u64], values: &[f64]) -> u64
     ensures { result ≡ smoother_hash s (Smoothing.window window.now values.now) }
 {
-    let fields = cells::smoother_fields(s);
+    let fields = s.fields();
     hash_buffers(digest::hash_words(digest::begin(), &fields), window, values)
 }

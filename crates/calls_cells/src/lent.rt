@@ -6,51 +6,59 @@ ghost use Rattle.bounds.specs.Bounds.{WORDS, NUMBERS, LENT_WORDS, LENT_NUMBERS};
 use bounds::{LENT_NUMBERS, LENT_WORDS, NUMBERS, WORDS};
 use buffers::FrameSize;
 
-// The output buffers: so many of their words and numbers are lent.
+// Two buffers, and how much of them, from the front on, is in use.
 #[derive(Drop)]
-pub struct Output {
-    pub lent: FrameSize,
-    pub words: [u64; LENT_WORDS],
-    pub numbers: [f64; LENT_NUMBERS],
-    pub ghost few_words: { lent.words ≤ LENT_WORDS },
-    pub ghost few_numbers: { lent.numbers ≤ LENT_NUMBERS },
+pub struct FrameRoom<const W: usize, const N: usize> {
+    pub size: FrameSize,
+    pub words: [u64; W],
+    pub numbers: [f64; N],
+    pub ghost few_words: { size.words ≤ W },
+    pub ghost few_numbers: { size.numbers ≤ N },
 }
 
+// The output buffers: so many of their words and numbers are lent.
+pub type Output = FrameRoom<LENT_WORDS, LENT_NUMBERS>;
+
 // The frame that the refiner gave last: so many words and numbers, at the front of these.
-#[derive(Drop)]
-pub struct LastFrame {
-    pub size: FrameSize,
-    pub words: [u64; WORDS],
-    pub numbers: [f64; NUMBERS],
-    pub ghost few_words: { size.words ≤ WORDS },
-    pub ghost few_numbers: { size.numbers ≤ NUMBERS },
+pub type LastFrame = FrameRoom<WORDS, NUMBERS>;
+
+impl<const W: usize, const N: usize> FrameRoom<W, N> {
+    // All zero, and so much in use.
+    fn of(size: FrameSize) -> FrameRoom<W, N>
+        requires { (size.words ≤ W) × (size.numbers ≤ N) }
+        ensures size { result.size ≡ size }
+        ensures words { result.words ≡ replicate W 0 }
+        ensures numbers { result.numbers ≡ replicate N (from_bits binary64 0) }
+    {
+        FrameRoom {
+            size,
+            words: [0; W],
+            numbers: [0.0; N],
+        }
+    }
 }
 
 impl Output {
     // All zero, and so much lent as a frame may ask for.
     pub fn new() -> Output
-        ensures lent { result.lent ≡ record { words = WORDS; numbers = NUMBERS } }
+        ensures lent { result.size ≡ record { words = WORDS; numbers = NUMBERS } }
         ensures words { result.words ≡ replicate LENT_WORDS 0 }
         ensures numbers { result.numbers ≡ replicate LENT_NUMBERS (from_bits binary64 0) }
     {
-        Output {
-            lent: FrameSize {
-                words: WORDS,
-                numbers: NUMBERS,
-            },
-            words: [0; LENT_WORDS],
-            numbers: [0.0; LENT_NUMBERS],
-        }
+        FrameRoom::of(FrameSize {
+            words: WORDS,
+            numbers: NUMBERS,
+        })
     }
 
     // So much is lent from now on.
     pub fn lend(&mut self, lent: FrameSize)
         requires { (lent.words ≤ LENT_WORDS) × (lent.numbers ≤ LENT_NUMBERS) }
-        ensures lent { self.new.lent ≡ lent }
+        ensures lent { self.new.size ≡ lent }
         ensures words { self.new.words ≡ self.old.words }
         ensures numbers { self.new.numbers ≡ self.old.numbers }
     {
-        self.lent = lent;
+        self.size = lent;
     }
 }
 
@@ -59,13 +67,9 @@ impl LastFrame {
     pub fn new() -> LastFrame
         ensures { result.size ≡ record { words = 0; numbers = 0 } }
     {
-        LastFrame {
-            size: FrameSize {
-                words: 0,
-                numbers: 0,
-            },
-            words: [0; WORDS],
-            numbers: [0.0; NUMBERS],
-        }
+        FrameRoom::of(FrameSize {
+            words: 0,
+            numbers: 0,
+        })
     }
 }

@@ -10,29 +10,28 @@ use borrow.Author.Tests.{leb-true, le-leb, eqb-true}
 use Rattle.bounds.specs.Bounds.{SETTING, SETTINGS, WINDOW, VALUES, CALL, LENT_WORDS, LENT_NUMBERS}
 use Rattle.engine.specs.Little.{little}
 use Rattle.engine.proofs.Every.{both}
-use Rattle.std.specs.Prelude.{Result, Ok, Err}
+use Rattle.std.specs.Prelude.{Result, Ok, Err, Option, None}
+use Rattle.std.specs.Bool.{then_some}
+use Rattle.std.specs.Option.{unwrap_or, option_map, option_and_then}
+use Rattle.calls_input.specs.declared.cells.Cell.{Cell}
 use Rattle.calls_input.specs.declared.cells.NoPlace.{NoPlace}
-use Rattle.calls_input.specs.declared.cells.RefinerPlace.{RefinerPlace}
-use Rattle.calls_input.specs.declared.cells.SmootherPlace.{SmootherPlace}
 use Rattle.calls_input.specs.declared.Call.{Call}
 use Rattle.calls_input.specs.declared.Call.TheVariants.{Bad}
 use Rattle.calls_input.specs.declared.Next.{Next}
 use Rattle.calls_input.specs.Input.{
   number,
-  sized,
   within,
+  lengths,
   cell_in,
+  cell_by,
+  cell,
+  sized,
+  pushing,
   refiner_place,
   refiner_has,
-  refiner_write,
   smoother_place,
   smoother_has,
-  smoother_write,
-  lending,
-  lending_window,
-  pushing,
-  writing_refiner,
-  writing_smoother,
+  call_in,
   call_by,
   bad_at,
   next_at,
@@ -42,7 +41,7 @@ use Rattle.calls_input.specs.Input.{
 -- ---- what follows a call
 
 -- two lengths that are within bounds
-pub within_bounds : (f : List ℕ) (words numbers : ℕ) → within f words numbers ≡ true → (number f 0 ≤ words) × (number f 1 ≤ numbers)
+within_bounds : (f : List ℕ) (words numbers : ℕ) → within f words numbers ≡ true → (number f 0 ≤ words) × (number f 1 ≤ numbers)
 within_bounds f words numbers h =
     let k = both (leb (number f 0) words) (leb (number f 1) numbers) h in
     (leb-true (number f 0) words k.0, leb-true (number f 1) numbers k.1)
@@ -51,71 +50,83 @@ within_bounds f words numbers h =
 record Fine (c : Call) (f : List ℕ) : Type 0 where
   pub sane : Sane c f
 
+-- if it is one
+abbrev FineIn : Option Call → List ℕ → Type 0
+FineIn o f = Fine (unwrap_or o Bad) f
+
 -- a bad one is
 bad : {f : List ℕ} → Fine Bad f
 bad = record { sane = tt {0} }
 
 -- one of two
-pick : (b : Bool) {x y : Call} {f : List ℕ} → (b ≡ true → Fine x f) → Fine y f → Fine (cond b x y) f
-pick true h k = h refl
-pick false h k = k
+pick : (b : Bool) (x y : Option Call) {f : List ℕ} → (b ≡ true → FineIn x f) → FineIn y f → FineIn (cond b x y) f
+pick true x y h k = h refl
+pick false x y h k = k
 
 module _ (f : List ℕ) where
-  sized-fine : (n : ℕ) {c : Call} → (length f ≡ n → Fine c f) → Fine (sized f n c) f
-  sized-fine n h = pick (eqb (length f) n) (λ e. h (eqb-true (length f) n e)) bad
+  sized-fine : (n : ℕ) {c : Call} → (length f ≡ n → Fine c f) → FineIn (sized f n c) f
+  sized-fine n {c} h = by (eqb (length f) n) (λ e. h (eqb-true (length f) n e))
+    where
+      by : (b : Bool) → (b ≡ true → Fine c f) → FineIn (then_some b c) f
+      by true k = k refl
+      by false k = bad
 
-  lending-fine : Fine (lending f) f
-  unfolding lending
-  lending-fine =
-      sized-fine (SETTING * 2)
-      (λ e. pick (within f LENT_WORDS LENT_NUMBERS) (λ h. record { sane = within_bounds f LENT_WORDS LENT_NUMBERS h }) bad)
+  -- a call by the two lengths that it begins with
+  lengths-fine :
+      {S : Type 0} (words numbers : ℕ) (size : ℕ × ℕ → S) (call : S → Option Call) →
+      (number f 0 ≤ words → number f 1 ≤ numbers → FineIn (call (size (number f 0, number f 1))) f) →
+      FineIn (option_and_then call (option_map size (lengths f words numbers))) f
+  lengths-fine words numbers size call h = by (leb (SETTING * 2) (length f) && within f words numbers) refl
+    where
+      by :
+          (b : Bool) →
+          leb (SETTING * 2) (length f) && within f words numbers ≡ b →
+          FineIn (option_and_then call (option_map size (then_some b (number f 0, number f 1)))) f
+      by true e =
+          let w = within_bounds f words numbers (both (leb (SETTING * 2) (length f)) (within f words numbers) e).1 in
+          h w.0 w.1
+      by false e = bad
 
-  window-fine : Fine (lending_window f) f
-  unfolding lending_window
-  window-fine = sized-fine (SETTING * 2) (λ e. pick (within f WINDOW VALUES) (λ h. record { sane = within_bounds f WINDOW VALUES h }) bad)
-
-  pushing-fine : Fine (pushing f) f
+  pushing-fine : FineIn (pushing f) f
   unfolding pushing
-  pushing-fine =
-      pick (leb (SETTING * 2) (length f) && within f LENT_WORDS LENT_NUMBERS)
-      (λ h.
-      let k = both (leb (SETTING * 2) (length f)) (within f LENT_WORDS LENT_NUMBERS) h in
-      let w = within_bounds f LENT_WORDS LENT_NUMBERS k.1 in
-      sized-fine (SETTING * (2 + number f 0 + number f 1)) (λ e. record { sane = (w.0, w.1, e) }))
-      bad
+  pushing-fine = lengths-fine LENT_WORDS LENT_NUMBERS _ _ (λ w x. sized-fine _ (λ e. record { sane = (w, x, e) }))
 
-  refiner-fine : Fine (writing_refiner f) f
-  unfolding writing_refiner
-  refiner-fine = sized-fine (SETTING * 3) (λ e. by (refiner_place (number f 0)))
+  -- a call that writes a cell
+  cell-fine :
+      {P : Type 0} (place : ℕ → Result P NoPlace) (has : Cell P → Bool) (write : Cell P → Call) →
+      ((c : Cell P) → has c ≡ true → Fine (write c) f) →
+      FineIn (option_map write (cell f place has)) f
+  cell-fine {P} place has write h = at (eqb (length f) (SETTING * 3))
     where
-      by : (r : Result RefinerPlace NoPlace) → Fine (refiner_write f r) f
-      by (Ok p) = pick (refiner_has (cell_in f p)) (λ h. record { sane = h }) bad
+      taken : (p : P) (b : Bool) → has (cell_in f p) ≡ b → FineIn (option_map write (then_some b (cell_in f p))) f
+      taken p true e = h (cell_in f p) e
+      taken p false e = bad
+
+      by : (r : Result P NoPlace) → FineIn (option_map write (cell_by f has r)) f
+      by (Ok p) = taken p (has (cell_in f p)) refl
       by (Err e) = bad
 
-  smoother-fine : Fine (writing_smoother f) f
-  unfolding writing_smoother
-  smoother-fine = sized-fine (SETTING * 3) (λ e. by (smoother_place (number f 0)))
-    where
-      by : (r : Result SmootherPlace NoPlace) → Fine (smoother_write f r) f
-      by (Ok p) = pick (smoother_has (cell_in f p)) (λ h. record { sane = h }) bad
-      by (Err e) = bad
+      at : (b : Bool) → FineIn (option_map write (cond b (cell_by f has (place (number f 0))) None)) f
+      at true = by (place (number f 0))
+      at false = bad
 
   -- the call of a code
   call-fine : (code : ℕ) → Fine (call_by code f) f
-  unfolding call_by
+  unfolding call_in
   call-fine code =
-      pick (eqb code 1) (λ e. sized-fine SETTINGS (λ h. record { sane = h }))
-      (pick (eqb code 2) (λ e. record { sane = tt {0} })
-      (pick (eqb code 4) (λ e. sized-fine 0 (λ h. record { sane = tt {0} }))
-      (pick (eqb code 5) (λ e. sized-fine 0 (λ h. record { sane = tt {0} }))
-      (pick (eqb code 6) (λ e. lending-fine)
-      (pick (eqb code 7) (λ e. refiner-fine)
-      (pick (eqb code 9) (λ e. sized-fine 0 (λ h. record { sane = tt {0} }))
-      (pick (eqb code 11) (λ e. sized-fine (SETTING * 3) (λ h. record { sane = h }))
-      (pick (eqb code 12) (λ e. sized-fine 0 (λ h. record { sane = tt {0} }))
-      (pick (eqb code 13) (λ e. pushing-fine)
-      (pick (eqb code 14) (λ e. sized-fine 0 (λ h. record { sane = tt {0} }))
-      (pick (eqb code 16) (λ e. window-fine) (pick (eqb code 17) (λ e. smoother-fine) bad))))))))))))
+      pick (eqb code 1) _ _ (λ e. sized-fine SETTINGS (λ h. record { sane = h }))
+      (pick (eqb code 2) _ _ (λ e. record { sane = tt {0} })
+      (pick (eqb code 4) _ _ (λ e. sized-fine 0 (λ h. record { sane = tt {0} }))
+      (pick (eqb code 5) _ _ (λ e. sized-fine 0 (λ h. record { sane = tt {0} }))
+      (pick (eqb code 6) _ _ (λ e. lengths-fine LENT_WORDS LENT_NUMBERS _ _ (λ w x. sized-fine (SETTING * 2) (λ h. record { sane = (w, x) })))
+      (pick (eqb code 7) _ _ (λ e. cell-fine refiner_place refiner_has _ (λ c h. record { sane = h }))
+      (pick (eqb code 9) _ _ (λ e. sized-fine 0 (λ h. record { sane = tt {0} }))
+      (pick (eqb code 11) _ _ (λ e. sized-fine (SETTING * 3) (λ h. record { sane = h }))
+      (pick (eqb code 12) _ _ (λ e. sized-fine 0 (λ h. record { sane = tt {0} }))
+      (pick (eqb code 13) _ _ (λ e. pushing-fine)
+      (pick (eqb code 14) _ _ (λ e. sized-fine 0 (λ h. record { sane = tt {0} }))
+      (pick (eqb code 16) _ _ (λ e. lengths-fine WINDOW VALUES _ _ (λ w x. sized-fine (SETTING * 2) (λ h. record { sane = (w, x) })))
+      (pick (eqb code 17) _ _ (λ e. cell-fine smoother_place smoother_has _ (λ c h. record { sane = h })) bad))))))))))))
 
 -- ---- the call at a place
 

@@ -1,7 +1,12 @@
 -- The list of calls on standard input, as README's table has it: what each call is. Definitions only.
-use Rattle.std.specs.Prelude.{ℕ, ◌+◌, ◌*◌, ◌≤◌, ◌≡◌, Bool, true, cond, ◌&&◌, List, length, take, drop, leb, ltb, eqb, Result, Ok, Err}
+use Rattle.std.specs.Prelude.{ℕ, ◌+◌, ◌*◌, ◌≤◌, ◌≡◌, Bool, true, cond, ◌&&◌, List, length, take, drop, leb, ltb, eqb}
+use Rattle.std.specs.Prelude.{Result, Ok, Err, Option, Some, None}
+use Rattle.std.specs.Bool.{then_some}
+use Rattle.std.specs.Option.{unwrap_or, option_map, option_and_then}
 use Rattle.bounds.specs.Bounds.{SETTING, SETTINGS, BODIES, COLUMNS, OWNERS, PARTS, FILTERS, WINDOW, VALUES}
 use Rattle.bounds.specs.Bounds.{CALL, LENT_WORDS, LENT_NUMBERS, REFINER, SMOOTHER}
+use Rattle.buffers.specs.declared.FrameSize.{FrameSize}
+use Rattle.smoother_window.specs.declared.size.WindowSize.{WindowSize}
 use Rattle.engine.specs.Little.{little}
 use Rattle.calls_input.specs.declared.cells.Cell.{Cell}
 use Rattle.calls_input.specs.declared.cells.NoPlace.{NoPlace}
@@ -70,65 +75,67 @@ module _ (f : List ℕ) where
   abbrev pub number : ℕ → ℕ
   number i = little SETTING f (SETTING * i)
 
-  -- a call after which just so many bytes follow
-  abbrev pub sized : ℕ → Call → Call
-  sized n c = cond (eqb (length f) n) c Bad
-
   -- two lengths, at most these
   abbrev pub within : ℕ → ℕ → Bool
   within words numbers = leb (number 0) words && leb (number 1) numbers
+
+  -- the two lengths that it begins with, at most these
+  abbrev pub lengths : ℕ → ℕ → Option (ℕ × ℕ)
+  lengths words numbers = then_some (leb (SETTING * 2) (length f) && within words numbers) (number 0, number 1)
 
   -- the cell of a place
   abbrev pub cell_in : {P : Type 0} → P → Cell P
   cell_in place = record { place = place; index = number 1; value = number 2 }
 
-  -- the cell of a place is written, where the caller has it
-  abbrev pub refiner_write : Result RefinerPlace NoPlace → Call
-  refiner_write (Ok p) = cond (refiner_has (cell_in p)) (Refiner (refiner.Write (cell_in p))) Bad
-  refiner_write (Err e) = Bad
+  -- the cell that it writes, "u64 place, u64 index, u64 value", by what place a number is and which cells the caller has
+  abbrev pub cell_by : {P : Type 0} → (Cell P → Bool) → Result P NoPlace → Option (Cell P)
+  cell_by has (Ok p) = then_some (has (cell_in p)) (cell_in p)
+  cell_by has (Err e) = None
 
-  -- the same, of the smoother's
-  abbrev pub smoother_write : Result SmootherPlace NoPlace → Call
-  smoother_write (Ok p) = cond (smoother_has (cell_in p)) (Smoother (smoother.Write (cell_in p))) Bad
-  smoother_write (Err e) = Bad
+  -- and nothing else
+  abbrev pub cell : {P : Type 0} → (ℕ → Result P NoPlace) → (Cell P → Bool) → Option (Cell P)
+  cell place has = cond (eqb (length f) (SETTING * 3)) (cell_by has (place (number 0))) None
 
-  -- 6: "u64 words, u64 numbers; at most 4,096 and 8,192"
-  unfoldable pub lending : Call
-  lending = sized (SETTING * 2) (cond (within LENT_WORDS LENT_NUMBERS) (Lend (number 0) (number 1)) Bad)
+  -- a call after which just so many bytes follow
+  abbrev pub sized : ℕ → Call → Option Call
+  sized n c = then_some (eqb (length f) n) c
 
-  -- 16: "u64 words, u64 numbers; at most those of lag 16 and C 128"
-  unfoldable pub lending_window : Call
-  lending_window = sized (SETTING * 2) (cond (within WINDOW VALUES) (LendWindow (number 0) (number 1)) Bad)
+  -- of output buffers, or of a frame: "at most 4,096 and 8,192"
+  abbrev pub frame_size : Option FrameSize
+  frame_size = option_map (λ n. record { words = n.0; numbers = n.1 }) (lengths LENT_WORDS LENT_NUMBERS)
+
+  -- of a window: "at most those of lag 16 and C 128"
+  abbrev pub window_size : Option WindowSize
+  window_size = option_map (λ n. record { words = n.0; numbers = n.1 }) (lengths WINDOW VALUES)
+
+  -- 6 and 16: "u64 words, u64 numbers"
+  abbrev pub lending : {S : Type 0} → (S → Call) → Option S → Option Call
+  lending call = option_and_then (λ size. sized (SETTING * 2) (call size))
 
   -- 13: "u64 number of words, u64 number of numbers, then these; at most 4,096 and 8,192"
-  unfoldable pub pushing : Call
-  pushing =
-      cond (leb (SETTING * 2) (length f) && within LENT_WORDS LENT_NUMBERS)
-      (sized (SETTING * (2 + number 0 + number 1)) (Smoother (smoother.Push (number 0) (number 1))))
-      Bad
+  unfoldable pub pushing : Option Call
+  pushing = option_and_then (λ size. sized (SETTING * (2 + size.words + size.numbers)) (Smoother (smoother.Push size))) frame_size
 
-  -- 7: "u64 place, u64 index, u64 value"
-  unfoldable pub writing_refiner : Call
-  writing_refiner = sized (SETTING * 3) (refiner_write (refiner_place (number 0)))
-
-  -- 17: "u64 place, u64 index, u64 value"
-  unfoldable pub writing_smoother : Call
-  writing_smoother = sized (SETTING * 3) (smoother_write (smoother_place (number 0)))
-
--- the call of a code, and what follows it
-unfoldable pub call_by : ℕ → List ℕ → Call
-call_by code f =
+-- the call of a code, and what follows it, where it is one of README's table
+unfoldable pub call_in : ℕ → List ℕ → Option Call
+call_in code f =
     cond (eqb code 1) (sized f SETTINGS (Refiner refiner.Open))
-    (cond (eqb code 2) (Refiner refiner.Push)
+    (cond (eqb code 2) (Some (Refiner refiner.Push))
     (cond (eqb code 4) (sized f 0 (Refiner refiner.Take))
     (cond (eqb code 5) (sized f 0 (Refiner refiner.Counters))
-    (cond (eqb code 6) (lending f)
-    (cond (eqb code 7) (writing_refiner f)
+    (cond (eqb code 6) (lending f Lend (frame_size f))
+    (cond (eqb code 7) (option_map (λ c. Refiner (refiner.Write c)) (cell f refiner_place refiner_has))
     (cond (eqb code 9) (sized f 0 Digest)
     (cond (eqb code 11) (sized f (SETTING * 3) (Smoother smoother.Open))
     (cond (eqb code 12) (sized f 0 (Smoother smoother.PushLast))
     (cond (eqb code 13) (pushing f)
-    (cond (eqb code 14) (sized f 0 (Smoother smoother.Take)) (cond (eqb code 16) (lending_window f) (cond (eqb code 17) (writing_smoother f) Bad))))))))))))
+    (cond (eqb code 14) (sized f 0 (Smoother smoother.Take))
+    (cond (eqb code 16) (lending f LendWindow (window_size f))
+    (cond (eqb code 17) (option_map (λ c. Smoother (smoother.Write c)) (cell f smoother_place smoother_has)) None))))))))))))
+
+-- that call, or else a bad one
+abbrev pub call_by : ℕ → List ℕ → Call
+call_by code f = unwrap_or (call_in code f) Bad
 
 -- ---- the list
 
@@ -155,10 +162,11 @@ Sane (Refiner refiner.Counters) f = Unit {0}
 Sane (Refiner (refiner.Write c)) f = refiner_has c ≡ true
 Sane (Smoother smoother.Open) f = length f ≡ SETTING * 3
 Sane (Smoother smoother.PushLast) f = Unit {0}
-Sane (Smoother (smoother.Push w x)) f = (w ≤ LENT_WORDS) × (x ≤ LENT_NUMBERS) × (length f ≡ SETTING * (2 + w + x))
+Sane (Smoother (smoother.Push size)) f =
+    (size.words ≤ LENT_WORDS) × (size.numbers ≤ LENT_NUMBERS) × (length f ≡ SETTING * (2 + size.words + size.numbers))
 Sane (Smoother smoother.Take) f = Unit {0}
 Sane (Smoother (smoother.Write c)) f = smoother_has c ≡ true
-Sane (Lend w x) f = (w ≤ LENT_WORDS) × (x ≤ LENT_NUMBERS)
-Sane (LendWindow w x) f = (w ≤ WINDOW) × (x ≤ VALUES)
+Sane (Lend size) f = (size.words ≤ LENT_WORDS) × (size.numbers ≤ LENT_NUMBERS)
+Sane (LendWindow size) f = (size.words ≤ WINDOW) × (size.numbers ≤ VALUES)
 Sane Digest f = Unit {0}
 Sane Bad f = Unit {0}

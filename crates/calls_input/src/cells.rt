@@ -1,5 +1,5 @@
 // The cells of what a caller keeps: README's table of places.
-ghost use Rattle.std.specs.Prelude.{◌≡◌};
+ghost use Rattle.std.specs.Prelude.{◌≡◌, ℕ};
 ghost use Rattle.calls_input.specs.Input.{refiner_place, refiner_cells, refiner_has, smoother_place, smoother_cells, smoother_has};
 
 use bounds::{BODIES, COLUMNS, FILTERS, OWNERS, PARTS, REFINER, SMOOTHER, VALUES, WINDOW};
@@ -15,7 +15,7 @@ pub enum RefinerPlace {
     Filters,
 }
 
-// Where one of the smoother's caller does: among the smoother's fields, or among the window's words or numbers.
+// Where a cell of the smoother's caller stands: among the smoother's fields, or among the window's words or numbers.
 #[derive(Clone, Copy)]
 pub enum SmootherPlace {
     Fields,
@@ -34,6 +34,31 @@ pub struct Cell<P> {
 // There is no place of this number.
 #[derive(Clone, Copy)]
 pub struct NoPlace;
+
+// A place by its number, and which cells a caller has there.
+pub trait Place: TryFrom<u64, Error = NoPlace> + Copy {
+    ghost use Rattle.std.specs.Prelude.{Bool, Result};
+    ghost use Rattle.calls_input.specs.declared.cells.Cell.{Cell};
+    ghost use Rattle.calls_input.specs.declared.cells.NoPlace.{NoPlace};
+
+    ghost place: { ℕ → Result Self NoPlace };
+
+    ghost cells: { Self → ℕ };
+
+    ghost has: { Cell Self → Bool };
+
+    // How many cells it has.
+    fn cells(self) -> usize
+        ensures { result ≡ cells self };
+
+    // The caller has this cell.
+    // As it is: in each impl. By default it would need a second function, of what a cell can hold, which asks something of one place of nine.
+    fn has(cell: Cell<Self>) -> bool
+        ensures { result ≡ has cell };
+
+    // What is read by a number is its place.
+    ghost reads: { (n : ℕ) (r : Result Self NoPlace) → Self.try_from_gives n r → r ≡ place n };
+}
 
 // A place by its number.
 impl TryFrom<u64> for RefinerPlace {
@@ -69,11 +94,16 @@ impl TryFrom<u64> for SmootherPlace {
     }
 }
 
-impl RefinerPlace {
-    // How many cells it has.
-    fn cells(self) -> usize
-        ensures { result ≡ refiner_cells self }
-    {
+impl Place for RefinerPlace {
+    ghost place = { refiner_place };
+
+    ghost cells = { refiner_cells };
+
+    ghost has = { refiner_has };
+
+    ghost reads = { λ n r e. e };
+
+    fn cells(self) -> usize {
         match self {
             RefinerPlace::Fields => REFINER,
             RefinerPlace::Bodies => BODIES,
@@ -83,37 +113,39 @@ impl RefinerPlace {
             RefinerPlace::Filters => FILTERS,
         }
     }
+
+    // A byte of bodies is at most 255.
+    fn has(cell: Cell<RefinerPlace>) -> bool
+        ensures { result ≡ refiner_has cell }
+    {
+        cell.index < cell.place.cells()
+            && match cell.place {
+                RefinerPlace::Bodies => cell.value <= 255,
+                _ => true,
+            }
+    }
 }
 
-impl SmootherPlace {
-    // How many cells it has.
-    fn cells(self) -> usize
-        ensures { result ≡ smoother_cells self }
-    {
+impl Place for SmootherPlace {
+    ghost place = { smoother_place };
+
+    ghost cells = { smoother_cells };
+
+    ghost has = { smoother_has };
+
+    ghost reads = { λ n r e. e };
+
+    fn cells(self) -> usize {
         match self {
             SmootherPlace::Fields => SMOOTHER,
             SmootherPlace::Window => WINDOW,
             SmootherPlace::Values => VALUES,
         }
     }
-}
 
-// The refiner's caller has this cell, and a byte of bodies is at most 255.
-pub(crate) fn refiner_has(cell: Cell<RefinerPlace>) -> bool
-    ensures { result ≡ refiner_has cell }
-{
-    if cell.place.cells() <= cell.index {
-        return false;
+    fn has(cell: Cell<SmootherPlace>) -> bool
+        ensures { result ≡ smoother_has cell }
+    {
+        cell.index < cell.place.cells()
     }
-    match cell.place {
-        RefinerPlace::Bodies => cell.value <= 255,
-        _ => true,
-    }
-}
-
-// The smoother's caller has this one.
-pub(crate) fn smoother_has(cell: Cell<SmootherPlace>) -> bool
-    ensures { result ≡ smoother_has cell }
-{
-    cell.index < cell.place.cells()
 }

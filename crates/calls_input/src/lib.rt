@@ -6,12 +6,13 @@ pub mod cells;
 
 ghost use Rattle.std.specs.Prelude.{◌≡◌, ◌+◌, ◌*◌, ◌≤◌, length};
 ghost use Rattle.bounds.specs.Bounds.{SETTING};
-ghost use Rattle.calls_input.specs.Input.{number, within, cell_in};
-ghost use Rattle.calls_input.specs.Input.{sized, lending, lending_window, pushing, writing_refiner, writing_smoother, call_by, bad_at, next_at};
+ghost use Rattle.calls_input.specs.Input.{number, lengths, frame_size, window_size, cell, sized, pushing, call_in, bad_at, next_at};
 
 use bounds::{CALL, LENT_NUMBERS, LENT_WORDS, SETTING, SETTINGS, VALUES, WINDOW};
-use cells::{Cell, RefinerPlace, SmootherPlace, refiner_has, smoother_has};
+use buffers::FrameSize;
+use cells::{Cell, Place, RefinerPlace, SmootherPlace};
 use engine::little;
+use smoother_window::size::WindowSize;
 
 // A call of the refiner.
 #[derive(Clone, Copy)]
@@ -23,23 +24,23 @@ pub enum RefinerCall {
     Write(Cell<RefinerPlace>),
 }
 
-// A call of the smoother: it is pushed the frame that the refiner gave last, or one of so many words and numbers.
+// A call of the smoother: it is pushed the frame that the refiner gave last, or one of this size.
 #[derive(Clone, Copy)]
 pub enum SmootherCall {
     Open,
     PushLast,
-    Push { words: usize, numbers: usize },
+    Push(FrameSize),
     Take,
     Write(Cell<SmootherPlace>),
 }
 
-// A call: of refiner or smoother; or from now on output buffers, or a window, of these lengths are lent.
+// A call: of refiner or smoother; or from now on so much of the output buffers, or of the window, is lent.
 #[derive(Clone, Copy)]
 pub enum Call {
     Refiner(RefinerCall),
     Smoother(SmootherCall),
-    Lend { words: usize, numbers: usize },
-    LendWindow { words: usize, numbers: usize },
+    Lend(FrameSize),
+    LendWindow(WindowSize),
     Digest,
     Bad,
 }
@@ -62,149 +63,89 @@ fn number_at(s: &[u8], i: usize) -> u64
     little::u64_at(s, SETTING * i)
 }
 
-// Two lengths, at most these.
-fn is_within(s: &[u8], words: usize, numbers: usize) -> bool
-    requires { SETTING * 2 ≤ length s.now }
-    ensures { result ≡ within s.now words numbers }
+// The two lengths that it begins with, of words and of numbers: none where they are not there, or longer than these.
+fn lengths(s: &[u8], words: usize, numbers: usize) -> Option<(usize, usize)>
+    ensures { result ≡ lengths s.now words numbers }
 {
-    if (words as u64) < number_at(s, 0) {
-        return false;
+    if s.len() < SETTING * 2 {
+        return None;
     }
-    number_at(s, 1) <= numbers as u64
+    let w = number_at(s, 0);
+    let x = number_at(s, 1);
+    (w <= words as u64 && x <= numbers as u64).then_some((w as usize, x as usize))
 }
 
-// The cell of a place.
-fn cell_in<P>(s: &[u8], place: P) -> Cell<P>
-    requires { SETTING * 3 ≤ length s.now }
-    ensures { result ≡ cell_in s.now place }
+// The two lengths of output buffers, or of a frame.
+fn frame_size(s: &[u8]) -> Option<FrameSize>
+    ensures { result ≡ frame_size s.now }
 {
-    Cell {
-        place,
+    let (words, numbers) = lengths(s, LENT_WORDS, LENT_NUMBERS)?;
+    Some(FrameSize { words, numbers })
+}
+
+// Those of a window.
+fn window_size(s: &[u8]) -> Option<WindowSize>
+    ensures { result ≡ window_size s.now }
+{
+    let (words, numbers) = lengths(s, WINDOW, VALUES)?;
+    Some(WindowSize { words, numbers })
+}
+
+// The cell that it writes, and nothing else: none where the caller has no such cell.
+fn cell<P: Place>(s: &[u8]) -> Option<Cell<P>>
+    ensures { result ≡ cell s.now P.place P.has }
+{
+    if s.len() != SETTING * 3 {
+        return None;
+    }
+    let cell = Cell {
+        place: P::try_from(number_at(s, 0)).ok()?,
         index: number_at(s, 1) as usize,
         value: number_at(s, 2),
-    }
+    };
+    P::has(cell).then_some(cell)
 }
 
 // ---- calls by what follows them
 
 // A call after which just so many bytes follow.
-fn sized_call(s: &[u8], n: usize, call: Call) -> Call
+fn sized_call(s: &[u8], n: usize, call: Call) -> Option<Call>
     ensures { result ≡ sized s.now n call }
 {
-    if s.len() != n {
-        return Call::Bad;
-    }
-    call
-}
-
-// Output buffers are lent.
-fn lend(s: &[u8]) -> Call
-    ensures { result ≡ lending s.now }
-{
-    if s.len() != SETTING * 2 {
-        return Call::Bad;
-    }
-    if !is_within(s, LENT_WORDS, LENT_NUMBERS) {
-        return Call::Bad;
-    }
-    Call::Lend {
-        words: number_at(s, 0) as usize,
-        numbers: number_at(s, 1) as usize,
-    }
-}
-
-// A window is lent.
-fn lend_window(s: &[u8]) -> Call
-    ensures { result ≡ lending_window s.now }
-{
-    if s.len() != SETTING * 2 {
-        return Call::Bad;
-    }
-    if !is_within(s, WINDOW, VALUES) {
-        return Call::Bad;
-    }
-    Call::LendWindow {
-        words: number_at(s, 0) as usize,
-        numbers: number_at(s, 1) as usize,
-    }
+    (s.len() == n).then_some(call)
 }
 
 // A frame is pushed to the smoother.
-fn push_frame(s: &[u8]) -> Call
+#[tactic(auto, unfolding(crate::specs::Input::pushing))]
+fn push_frame(s: &[u8]) -> Option<Call>
     ensures { result ≡ pushing s.now }
 {
-    if s.len() < SETTING * 2 {
-        return Call::Bad;
-    }
-    if !is_within(s, LENT_WORDS, LENT_NUMBERS) {
-        return Call::Bad;
-    }
-    let words = number_at(s, 0) as usize;
-    let numbers = number_at(s, 1) as usize;
-    if s.len() != SETTING * (2 + words + numbers) {
-        return Call::Bad;
-    }
-    Call::Smoother(SmootherCall::Push { words, numbers })
-}
-
-// A cell of the refiner's is written.
-fn write_refiner(s: &[u8]) -> Call
-    ensures { result ≡ writing_refiner s.now }
-{
-    if s.len() != SETTING * 3 {
-        return Call::Bad;
-    }
-    match RefinerPlace::try_from(number_at(s, 0)) {
-        Ok(place) => {
-            let cell = cell_in(s, place);
-            if !refiner_has(cell) {
-                return Call::Bad;
-            }
-            Call::Refiner(RefinerCall::Write(cell))
-        }
-        Err(_) => Call::Bad,
-    }
-}
-
-// A cell of the smoother's is written.
-fn write_smoother(s: &[u8]) -> Call
-    ensures { result ≡ writing_smoother s.now }
-{
-    if s.len() != SETTING * 3 {
-        return Call::Bad;
-    }
-    match SmootherPlace::try_from(number_at(s, 0)) {
-        Ok(place) => {
-            let cell = cell_in(s, place);
-            if !smoother_has(cell) {
-                return Call::Bad;
-            }
-            Call::Smoother(SmootherCall::Write(cell))
-        }
-        Err(_) => Call::Bad,
-    }
+    let size = frame_size(s)?;
+    let call = Call::Smoother(SmootherCall::Push(size));
+    sized_call(s, SETTING * (2 + size.words + size.numbers), call)
 }
 
 // The call of a code.
 // As it is: numbers, which are the codes of README's list.
-fn called(code: u64, s: &[u8]) -> Call
-    ensures { result ≡ call_by code s.now }
+#[tactic(auto, unfolding(crate::specs::Input::call_in))]
+fn called(code: u64, s: &[u8]) -> Option<Call>
+    ensures { result ≡ call_in code s.now }
 {
     match code {
         1 => sized_call(s, SETTINGS, Call::Refiner(RefinerCall::Open)),
-        2 => Call::Refiner(RefinerCall::Push),
+        2 => Some(Call::Refiner(RefinerCall::Push)),
         4 => sized_call(s, 0, Call::Refiner(RefinerCall::Take)),
         5 => sized_call(s, 0, Call::Refiner(RefinerCall::Counters)),
-        6 => lend(s),
-        7 => write_refiner(s),
+        6 => sized_call(s, SETTING * 2, Call::Lend(frame_size(s)?)),
+        7 => Some(Call::Refiner(RefinerCall::Write(cell(s)?))),
         9 => sized_call(s, 0, Call::Digest),
         11 => sized_call(s, SETTING * 3, Call::Smoother(SmootherCall::Open)),
         12 => sized_call(s, 0, Call::Smoother(SmootherCall::PushLast)),
         13 => push_frame(s),
         14 => sized_call(s, 0, Call::Smoother(SmootherCall::Take)),
-        16 => lend_window(s),
-        17 => write_smoother(s),
-        _ => Call::Bad,
+        16 => sized_call(s, SETTING * 2, Call::LendWindow(window_size(s)?)),
+        17 => Some(Call::Smoother(SmootherCall::Write(cell(s)?))),
+        _ => None,
     }
 }
 
@@ -235,6 +176,6 @@ pub fn next_at(s: &[u8], at: usize) -> Next
         return bad_at(s);
     }
     let end = from + size;
-    let call = called(code, &s[from..end]);
+    let call = called(code, &s[from..end]).unwrap_or(Call::Bad);
     Next { call, from, end }
 }

@@ -2,7 +2,7 @@
 use Prim.Native.Nat.{ℕ, zero, suc, ◌≤◌}
 use native.Mathlib.Omega.{arith}
 use mathlib.Core.Path.{◌≡◌, sym, ◌∙◌}
-use mathlib.Core.List.{List}
+use mathlib.Core.List.{List, ◌++◌}
 use lib.ListN.{length, take}
 use lib.Seq.{length-take-le}
 use Rattle.bounds.specs.Bounds.{TEXT}
@@ -12,8 +12,16 @@ use Rattle.fgo.specs.Promise.{counted_by, NotCounted, Moves}
 use Rattle.print.specs.Text.{Puts, Ready, refused_line, counters_line}
 use Rattle.print.proofs.Fitting.{counters_few, ready}
 use Rattle.print.proofs.Showing.{front}
-use Rattle.calls_cells.proofs.Opened.{refused_ready}
-use Rattle.calls_refiner.specs.Refining.{counting_text}
+use Rattle.calls_cells.proofs.Opened.{refused_ready, ready_in}
+use Rattle.std.specs.Prelude.{Float}
+use Rattle.buffers.specs.Answer.{Op}
+use Rattle.engine.specs.Body.{Body}
+use Rattle.fgo_state.specs.declared.state.FixedLagRefiner.{FixedLagRefiner}
+use Rattle.fgo_state.specs.declared.state.Memory.{Memory}
+use Rattle.calls_input.specs.declared.RefinerCall.{RefinerCall}
+use Rattle.calls_input.specs.declared.RefinerCall.TheVariants.{Open, Push, Take, Counters, Write}
+use Rattle.calls_refiner.specs.declared.LentRefiner.{LentRefiner}
+use Rattle.calls_refiner.specs.Refining.{counting_text, Tells, Answers, Refines}
 
 -- ---- the moves made so far, or a refusal
 
@@ -32,3 +40,32 @@ module _ {out out' : List ℕ} {e : ℕ} (room : TEXT ≤ length out) where
 -- what is put from the front of one list to the front of another stands there
 pub kept : {A : Type 0} (n : ℕ) (l k k' : List A) → n ≤ length l → k' ≡ over 0 (take n l) k → take n k' ≡ take n l
 kept n l k k' h e = let long : n ≡ length (take n l) = sym (length-take-le n l h) in (λ i. take (long i) (e i)) ∙ front (take n l) k
+
+-- ---- a call that prints to the front of a buffer prints to the buffer
+
+module _ {r r' : LentRefiner} {ws ws' : List ℕ} {ns ns' : List Float} {end : ℕ} {front : List ℕ} (rest : List ℕ) where
+  tells_in :
+      {state : FixedLagRefiner} {memory : Memory} {text : List ℕ} →
+      Tells r ws ns r' ws' ns' end front state memory text →
+      Tells r ws ns r' ws' ns' end (front ++ rest) state memory text
+  tells_in t =
+      record {
+        refiner_is = t.refiner_is;
+        memory_is = t.memory_is;
+        words = t.words;
+        numbers = t.numbers;
+        last_is = t.last_is;
+        text_is = ready_in rest t.text_is;
+      }
+
+  pub answers_in : {op : Op Body} → Answers r ws ns r' ws' ns' end front op → Answers r ws ns r' ws' ns' end (front ++ rest) op
+  answers_in a = record { given = a.given; promised = a.promised; frame = a.frame; text_is = ready_in rest a.text_is }
+
+-- any call
+module _ (r r' : LentRefiner) (ws ws' : List ℕ) (ns ns' : List Float) (end : ℕ) (front rest : List ℕ) where
+  pub refines_in : (c : RefinerCall) (f : List ℕ) → Refines r ws ns r' ws' ns' end front c f → Refines r ws ns r' ws' ns' end (front ++ rest) c f
+  refines_in Open f h = tells_in rest h
+  refines_in Push f h = answers_in rest h
+  refines_in Take f h = answers_in rest h
+  refines_in Counters f h = tells_in rest h
+  refines_in (Write c) f h = tells_in rest h

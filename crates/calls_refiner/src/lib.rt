@@ -1,8 +1,11 @@
 // The calls of a refiner. What a call prints is put at the start of out, and a call gives where that ends.
+//
+// As it is: words, numbers and out go to each function side by side. Of a struct of `&mut` slices it is not known what is written through them, so with one
+// the proofs do not close; fgo_emit's `put_frame` says the same.
 #![tactic(auto)]
 
-ghost use Rattle.std.specs.Prelude.{◌≡◌, true, ◌≤◌, ◌<◌, length, set};
-ghost use Rattle.bounds.specs.Bounds.{SETTINGS, TEXT, REFINER};
+ghost use Rattle.std.specs.Prelude.{◌≡◌, true, ◌≤◌, length};
+ghost use Rattle.bounds.specs.Bounds.{SETTINGS, TEXT};
 ghost use Rattle.buffers.specs.Answer.{answer_in, pushed, taken};
 ghost use Rattle.engine.specs.declared.types.BodyKind.TheVariants.{Narrow};
 ghost use Rattle.engine.specs.Body.{body as body_in};
@@ -12,13 +15,13 @@ ghost use Rattle.print.specs.Printed.{Shown};
 ghost use Rattle.print.specs.Text.{Ready, call_answer};
 ghost use Rattle.calls_input.specs.declared.Call.TheVariants as calls;
 ghost use Rattle.calls_input.specs.Input.{refiner_has, Sane};
-ghost use Rattle.calls_cells.specs.Cells.{refiner_fields, refiner_of};
 ghost use Rattle.calls_cells.specs.Lent.{last_frame};
 ghost use Rattle.calls_cells.specs.Opening.{opening, opening_text};
 ghost use Rattle.calls_refiner.specs.Refining.{kept_after, counting_text, refiner_with, memory_with, Answers, Refines};
 
+use bounds::TEXT;
 use buffers::{Answer, put};
-use calls_cells::cells;
+use calls_cells::cells::Fields;
 use calls_cells::lent::LastFrame;
 use calls_input::RefinerCall;
 use calls_input::cells::{Cell, RefinerPlace};
@@ -28,7 +31,7 @@ use fgo_state::state::{FixedLagRefiner, Memory};
 use print::{answers, lines};
 use scalar::bits;
 
-// A refiner, the memory that is lent to it, and the frame that it gave last.
+// The refiner as one caller has it: its fields, the memory that the caller lends it at every call, and the frame that it gave last.
 #[derive(Drop)]
 pub struct LentRefiner {
     pub state: FixedLagRefiner,
@@ -39,8 +42,8 @@ pub struct LentRefiner {
 // ---- opening
 
 // A refiner is opened with these settings; a refusal leaves the one there was.
-fn open(r: &mut FixedLagRefiner, s: &[u8], out: &mut [u8]) -> usize
-    requires { (length s.now ≡ SETTINGS) × (TEXT ≤ length out.old) }
+fn open(r: &mut FixedLagRefiner, s: &[u8], out: &mut [u8; TEXT]) -> usize
+    requires { length s.now ≡ SETTINGS }
     ensures refiner { r.new ≡ opening (open_refusal (settings s.now)) (new_by (settings s.now)) r.old }
     ensures text { Ready (opening_text (open_refusal (settings s.now))) out.new result }
 {
@@ -74,9 +77,9 @@ fn tell(
     last: &mut LastFrame,
     words: &[u64],
     numbers: &[f64],
-    out: &mut [u8],
+    out: &mut [u8; TEXT],
 ) -> usize
-    requires { Shown (answer_in answer) words.now numbers.now × (TEXT ≤ length out.old) }
+    requires { Shown (answer_in answer) words.now numbers.now }
     ensures frame { last_frame last.new ≡ kept_after (answer_in answer) words.now numbers.now (last_frame last.old) }
     ensures text { Ready (call_answer (answer_in answer) words.now numbers.now) out.new result }
 {
@@ -90,9 +93,8 @@ fn push(
     s: &[u8],
     words: &mut [u64],
     numbers: &mut [f64],
-    out: &mut [u8],
+    out: &mut [u8; TEXT],
 ) -> usize
-    requires { TEXT ≤ length out.old }
     ensures { Answers refiner.old words.old numbers.old refiner.new words.new numbers.new result out.new (pushed (body_in Narrow s.now)) }
 {
     let body = Body {
@@ -110,8 +112,12 @@ fn push(
 }
 
 // The oldest frame is taken.
-fn take(refiner: &mut LentRefiner, words: &mut [u64], numbers: &mut [f64], out: &mut [u8]) -> usize
-    requires { TEXT ≤ length out.old }
+fn take(
+    refiner: &mut LentRefiner,
+    words: &mut [u64],
+    numbers: &mut [f64],
+    out: &mut [u8; TEXT],
+) -> usize
     ensures { Answers refiner.old words.old numbers.old refiner.new words.new numbers.new result out.new taken }
 {
     let answer = fgo::take(&mut refiner.state, &mut refiner.memory, words, numbers);
@@ -121,24 +127,13 @@ fn take(refiner: &mut LentRefiner, words: &mut [u64], numbers: &mut [f64], out: 
 // ---- the other calls
 
 // The moves made so far.
-fn count(r: &FixedLagRefiner, memory: &Memory, out: &mut [u8]) -> usize
-    requires { TEXT ≤ length out.old }
+fn count(r: &FixedLagRefiner, memory: &Memory, out: &mut [u8; TEXT]) -> usize
     ensures { Ready (counting_text (count_refusal r.now memory.now) r.now.counters) out.new result }
 {
     match fgo::counters(r, memory) {
         Err(refusal) => lines::put_refused(out, 0, refusal),
         Ok(moves) => lines::put_counters(out, 0, moves),
     }
-}
-
-// One field of a refiner, written.
-fn write_field(r: &mut FixedLagRefiner, index: usize, value: u64)
-    requires { index < REFINER }
-    ensures { r.new ≡ refiner_of (set (refiner_fields r.old) index value) }
-{
-    let mut fields = cells::refiner_fields(*r);
-    fields[index] = value;
-    *r = cells::refiner_of(&fields);
 }
 
 // A cell, written.
@@ -150,7 +145,7 @@ fn write(r: &mut FixedLagRefiner, cell: Cell<RefinerPlace>, memory: &mut Memory)
     let i = cell.index;
     let v = cell.value;
     match cell.place {
-        RefinerPlace::Fields => write_field(r, i, v),
+        RefinerPlace::Fields => r.write_field(i, v),
         RefinerPlace::Bodies => memory.scans.bodies[i] = v as u8,
         RefinerPlace::Columns => memory.scans.columns[i] = v,
         RefinerPlace::Owners => memory.owners[i] = v,
@@ -171,11 +166,12 @@ pub fn call(
     requires { Sane (calls.Refiner call) s.now × (TEXT ≤ length out.old) }
     ensures { Refines refiner.old words.old numbers.old refiner.new words.new numbers.new result out.new call s.now }
 {
+    let text = out.first_chunk_mut().unwrap();
     match call {
-        RefinerCall::Open => open(&mut refiner.state, s, out),
-        RefinerCall::Push => push(refiner, s, words, numbers, out),
-        RefinerCall::Take => take(refiner, words, numbers, out),
-        RefinerCall::Counters => count(&refiner.state, &refiner.memory, out),
+        RefinerCall::Open => open(&mut refiner.state, s, text),
+        RefinerCall::Push => push(refiner, s, words, numbers, text),
+        RefinerCall::Take => take(refiner, words, numbers, text),
+        RefinerCall::Counters => count(&refiner.state, &refiner.memory, text),
         RefinerCall::Write(cell) => {
             write(&mut refiner.state, cell, &mut refiner.memory);
             0

@@ -1,5 +1,5 @@
 -- What each call of the smoother does: to the smoother, its window and the output buffers, and what it prints. Definitions only.
-use Rattle.std.specs.Prelude.{ℕ, ◌+◌, ◌*◌, ◌≡◌, cond, List, [], length, take, drop, set, Float}
+use Rattle.std.specs.Prelude.{ℕ, ◌+◌, ◌*◌, ◌≡◌, cond, List, [], length, set, Float}
 use Rattle.std.specs.Float.{binary64}
 use Rattle.std.specs.Float.Ieee.{of_bits}
 use Rattle.bounds.specs.Bounds.{SETTING, words_for, numbers_for}
@@ -12,7 +12,7 @@ use Rattle.smoother_window.specs.declared.SmootherConfig.{SmootherConfig}
 use Rattle.smoother_window.specs.declared.size.WindowSize.{WindowSize}
 use Rattle.smoother_window.specs.Config.{lag, most, bounded}
 use Rattle.smoother.specs.Smoother.{open_refusal}
-use Rattle.smoother.specs.Promise.{Window, window, Promised, Pushed}
+use Rattle.smoother.specs.Promise.{Window, window, lent_of, rest_of, Promised, Pushed}
 use Rattle.print.specs.Text.{Ready}
 use Rattle.calls_input.specs.declared.cells.Cell.{Cell}
 use Rattle.calls_input.specs.declared.cells.SmootherPlace.{SmootherPlace}
@@ -34,14 +34,6 @@ use Rattle.calls_cells.specs.Opening.{opening_text, opening}
 -- all of it
 abbrev pub window_in : LentWindow → Window
 window_in w = window w.words w.values
-
--- so much of a window
-abbrev pub lent_of : WindowSize → Window → Window
-lent_of size w = window (take size.words w.words) (take size.numbers w.numbers)
-
--- the rest of it
-abbrev pub rest_of : WindowSize → Window → Window
-rest_of size w = window (drop size.words w.words) (drop size.numbers w.numbers)
 
 -- what is lent
 abbrev pub lent_in : LentWindow → Window
@@ -131,6 +123,6 @@ module _ (s : LentSmoother) (ws : List ℕ) (ns : List Float) (s' : LentSmoother
   abbrev pub Smooths : SmootherCall → List ℕ → Written → Type 0
   Smooths Open f last = Opens (settings_in f)
   Smooths PushLast f last = Answers (pushed last)
-  Smooths (Push n m) f last = Answers (pushed (frame_in f n m))
+  Smooths (Push size) f last = Answers (pushed (frame_in f size.words size.numbers))
   Smooths Take f last = Answers taken
   Smooths (Write c) f last = Tells (smoother_with c s.state) s.window.room (window_with c (window_in s.window)) []

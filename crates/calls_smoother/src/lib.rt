@@ -2,39 +2,41 @@
 //
 // Of its window as much is lent to it as the window says; words and numbers are the output buffers that are lent to it. What a call prints is put at the start
 // of out, and a call gives where that ends.
+//
+// As it is: words, numbers and out go to each function side by side. Of a struct of `&mut` slices it is not known what is written through them, so with one
+// the proofs do not close; fgo_emit's `put_frame` says the same.
 #![tactic(auto)]
 
 pub mod window;
 
-ghost use Rattle.std.specs.Prelude.{◌≡◌, true, List, ℕ, ◌+◌, ◌*◌, ◌≤◌, ◌<◌, length, set, Float};
+ghost use Rattle.std.specs.Prelude.{◌≡◌, true, List, ℕ, ◌+◌, ◌*◌, ◌≤◌, length, Float};
 ghost use Rattle.std.specs.Float.{binary64};
 ghost use Rattle.std.specs.Float.Ieee.{of_bits};
-ghost use Rattle.bounds.specs.Bounds.{SETTING, TEXT, SMOOTHER, WINDOW, VALUES, LENT_WORDS, LENT_NUMBERS};
+ghost use Rattle.bounds.specs.Bounds.{SETTING, TEXT, LENT_WORDS, LENT_NUMBERS};
 ghost use Rattle.buffers.specs.Answer.{answer_in, pushed, taken};
 ghost use Rattle.engine.specs.Body.{rows};
 ghost use Rattle.engine.specs.Little.{little};
 ghost use Rattle.smoother_frame.specs.Frame.{frame as frame_of};
-ghost use Rattle.smoother.specs.Promise.{window as window_of, pushed_as, Promised};
 ghost use Rattle.print.specs.Text.{Ready, call_answer};
 ghost use Rattle.print.specs.Printed.{Shown};
 ghost use Rattle.calls_input.specs.declared.Call.TheVariants as calls;
 ghost use Rattle.calls_input.specs.Input.{smoother_has, Sane};
-ghost use Rattle.calls_cells.specs.Cells.{smoother_fields, smoother_of};
 ghost use Rattle.calls_cells.specs.Lent.{last_frame};
 ghost use Rattle.calls_smoother.specs.declared.window.Room.TheVariants.{Asked};
 ghost use Rattle.calls_smoother.specs.Room.{Fits};
-ghost use Rattle.calls_smoother.specs.Smoothing.{settings_in, asked_by, room_for, frame_in, smoother_with, lent_of, rest_of, window_in, window_with};
+ghost use Rattle.calls_smoother.specs.Smoothing.{settings_in, asked_by, room_for, frame_in, smoother_with, window_in, window_with};
 ghost use Rattle.calls_smoother.specs.Smoothing.{Answers, Opens, Smooths};
 
-use bounds::{LAG, LENT_NUMBERS, LENT_WORDS, SETTING, TRACKS, VALUES, WINDOW};
+use bounds::{LAG, LENT_NUMBERS, LENT_WORDS, SETTING, TEXT, TRACKS};
 use buffers::{Answer, FrameSize};
-use calls_cells::cells;
+use calls_cells::cells::Fields;
 use calls_cells::lent::LastFrame;
 use calls_input::SmootherCall;
 use calls_input::cells::{Cell, SmootherPlace};
 use engine::little;
 use print::{answers, lines};
 use scalar::bits;
+use smoother::FrameRef;
 use smoother_window::size::{WindowSize, window_size};
 use smoother_window::{FixedLagSmoother, SmootherConfig};
 use window::{LentSmoother, Room};
@@ -57,7 +59,8 @@ fn settings_in(s: &[u8]) -> SmootherConfig
     }
 }
 
-// The size of the window that lag and C ask for; none where they are out of bounds.
+// The size of the window that lag and C ask for.
+// As it is: no words and no numbers, and not None, where they are out of bounds: by README the window is empty then, and lent like any other.
 #[tactic(auto, unfolding(smoother_window::specs::Config::bounded))]
 fn asked_size(c: SmootherConfig) -> WindowSize
     ensures { (result ≡ asked_by c) × Fits (Asked result) }
@@ -83,9 +86,11 @@ fn room_for(room: Room, c: SmootherConfig) -> Room
     }
 }
 
-// A smoother is opened; a refusal leaves the one there was. What smoother::open promises leaves the slot of the oldest of none open: it is 0, as there.
-fn open(smoother: &mut LentSmoother, s: &[u8], out: &mut [u8]) -> usize
-    requires { (length s.now ≡ SETTING * 3) × (TEXT ≤ length out.old) }
+// A smoother is opened; a refusal leaves the one there was.
+// As it is: what smoother::open gives is put together here once more. Its contract does not say that `first` is 0, so with what it gives the proof does not
+// close.
+fn open(smoother: &mut LentSmoother, s: &[u8], out: &mut [u8; TEXT]) -> usize
+    requires { length s.now ≡ SETTING * 3 }
     ensures { (ws : List ℕ) (ns : List Float) → Opens smoother.old ws ns smoother.new ws ns result out.new (settings_in s.now) }
 {
     let config = settings_in(s);
@@ -111,46 +116,10 @@ fn open(smoother: &mut LentSmoother, s: &[u8], out: &mut [u8]) -> usize
 
 // ---- push and take
 
-// A frame, as its words and its numbers.
-#[derive(Clone, Copy)]
-struct FrameRef<'a> {
-    words: &'a [u64],
-    numbers: &'a [f64],
-}
-
-// A frame is pushed over so much of a window; the rest of it stays.
-// As it is: a function of its own. Cut where the call stands, the proof did not close: of a field it is known what a call leaves there where it is lent whole,
-// and not where a part of it is lent beside a part of another.
-fn push_over(
-    smoother: &mut FixedLagSmoother,
-    frame: &FrameRef<'_>,
-    size: WindowSize,
-    window: &mut [u64; WINDOW],
-    values: &mut [f64; VALUES],
-    words: &mut [u64],
-    numbers: &mut [f64],
-) -> Answer
-    requires { (size.words ≤ WINDOW) × (size.numbers ≤ VALUES) }
-    ensures promised { Promised (pushed (frame_of frame.now.words.now frame.now.numbers.now))
-        smoother.old (lent_of size (window_of window.old values.old)) words.old numbers.old
-        (pushed_as result smoother.new) (lent_of size (window_of window.new values.new)) words.new numbers.new }
-    ensures rest { rest_of size (window_of window.new values.new) ≡ rest_of size (window_of window.old values.old) }
-{
-    smoother::push(
-        smoother,
-        &mut window[..size.words],
-        &mut values[..size.numbers],
-        frame.words,
-        frame.numbers,
-        words,
-        numbers,
-    )
-}
-
 // After a push or a take its answer is printed.
 #[tactic(auto, using(print::proofs::Fitting::ready, print::proofs::Fitting::call_answer_few))]
-fn tell(answer: Answer, words: &[u64], numbers: &[f64], out: &mut [u8]) -> usize
-    requires { Shown (answer_in answer) words.now numbers.now × (TEXT ≤ length out.old) }
+fn tell(answer: Answer, words: &[u64], numbers: &[f64], out: &mut [u8; TEXT]) -> usize
+    requires { Shown (answer_in answer) words.now numbers.now }
     ensures { Ready (call_answer (answer_in answer) words.now numbers.now) out.new result }
 {
     answers::put_call(out, answer, words, numbers)
@@ -162,19 +131,18 @@ fn push(
     frame: &FrameRef<'_>,
     words: &mut [u64],
     numbers: &mut [f64],
-    out: &mut [u8],
+    out: &mut [u8; TEXT],
 ) -> usize
-    requires { TEXT ≤ length out.old }
     ensures { Answers smoother.old words.old numbers.old smoother.new words.new numbers.new result out.new
         (pushed (frame_of frame.now.words.now frame.now.numbers.now)) }
 {
     let size = smoother.window.room.size();
-    let answer = push_over(
+    let answer = smoother::push_over(
         &mut smoother.state,
-        frame,
         size,
         &mut smoother.window.words,
         &mut smoother.window.values,
+        frame,
         words,
         numbers,
     );
@@ -186,9 +154,8 @@ fn take(
     smoother: &mut LentSmoother,
     words: &mut [u64],
     numbers: &mut [f64],
-    out: &mut [u8],
+    out: &mut [u8; TEXT],
 ) -> usize
-    requires { TEXT ≤ length out.old }
     ensures { Answers smoother.old words.old numbers.old smoother.new words.new numbers.new result out.new taken }
 {
     let size = smoother.window.room.size();
@@ -245,10 +212,9 @@ fn push_read(
     s: &[u8],
     words: &mut [u64],
     numbers: &mut [f64],
-    out: &mut [u8],
+    out: &mut [u8; TEXT],
 ) -> usize
-    requires size { (size.words ≤ LENT_WORDS) × (size.numbers ≤ LENT_NUMBERS) × (length s.now ≡ SETTING * (2 + size.words + size.numbers)) }
-    requires text { TEXT ≤ length out.old }
+    requires { (size.words ≤ LENT_WORDS) × (size.numbers ≤ LENT_NUMBERS) × (length s.now ≡ SETTING * (2 + size.words + size.numbers)) }
     ensures { Answers smoother.old words.old numbers.old smoother.new words.new numbers.new result out.new
         (pushed (frame_in s.now size.words size.numbers)) }
 {
@@ -269,16 +235,6 @@ fn push_read(
 
 // ---- cells
 
-// One field of a smoother, written.
-fn write_field(smoother: &mut FixedLagSmoother, index: usize, value: u64)
-    requires { index < SMOOTHER }
-    ensures { smoother.new ≡ smoother_of (set (smoother_fields smoother.old) index value) }
-{
-    let mut fields = cells::smoother_fields(*smoother);
-    fields[index] = value;
-    *smoother = cells::smoother_of(&fields);
-}
-
 // A cell, written.
 fn write(smoother: &mut LentSmoother, cell: Cell<SmootherPlace>)
     requires { smoother_has cell ≡ true }
@@ -287,7 +243,7 @@ fn write(smoother: &mut LentSmoother, cell: Cell<SmootherPlace>)
     ensures window { window_in smoother.new.window ≡ window_with cell (window_in smoother.old.window) }
 {
     match cell.place {
-        SmootherPlace::Fields => write_field(&mut smoother.state, cell.index, cell.value),
+        SmootherPlace::Fields => smoother.state.write_field(cell.index, cell.value),
         SmootherPlace::Window => smoother.window.words[cell.index] = cell.value,
         SmootherPlace::Values => {
             smoother.window.values[cell.index] = bits::from_bits(cell.value)
@@ -309,26 +265,18 @@ pub fn call(
     ensures { Smooths smoother.old words.old numbers.old smoother.new words.new numbers.new result out.new
         call s.now (last_frame last.now) }
 {
+    let text = out.first_chunk_mut().unwrap();
     match call {
-        SmootherCall::Open => open(smoother, s, out),
+        SmootherCall::Open => open(smoother, s, text),
         SmootherCall::PushLast => {
             let frame = FrameRef {
                 words: &last.words[..last.size.words],
                 numbers: &last.numbers[..last.size.numbers],
             };
-            push(smoother, &frame, words, numbers, out)
+            push(smoother, &frame, words, numbers, text)
         }
-        SmootherCall::Push {
-            words: w,
-            numbers: x,
-        } => {
-            let size = FrameSize {
-                words: w,
-                numbers: x,
-            };
-            push_read(smoother, size, s, words, numbers, out)
-        }
-        SmootherCall::Take => take(smoother, words, numbers, out),
+        SmootherCall::Push(size) => push_read(smoother, size, s, words, numbers, text),
+        SmootherCall::Take => take(smoother, words, numbers, text),
         SmootherCall::Write(cell) => {
             write(smoother, cell);
             0

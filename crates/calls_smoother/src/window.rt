@@ -17,7 +17,7 @@ pub enum Room {
 }
 
 impl Room {
-    // So many.
+    // How many words and numbers.
     pub fn size(self) -> WindowSize
         ensures { result ≡ size_of self }
     {
@@ -27,7 +27,9 @@ impl Room {
     }
 }
 
-// The longest window, of which so much is lent.
+// The longest window, and how much of it is lent.
+// As it is: not one struct with playback's `Smoother`. This one keeps also whether a call has said the size, and that one also where pushes and takes have led,
+// so a struct for both would be no plainer.
 #[derive(Drop)]
 pub struct LentWindow {
     pub room: Room,
@@ -36,7 +38,7 @@ pub struct LentWindow {
     pub ghost fits: { Fits room },
 }
 
-// A smoother with the window that it is lent.
+// The smoother as one caller has it: its fields, and the window that the caller lends it at every call.
 #[derive(Drop)]
 pub struct LentSmoother {
     pub state: FixedLagSmoother,
@@ -60,7 +62,7 @@ impl LentWindow {
         }
     }
 
-    // From now on so much of it is lent, whatever an opening asks for.
+    // From now on this size is lent, whatever an opening asks for.
     pub fn lend(&mut self, size: WindowSize)
         requires { (size.words ≤ WINDOW) × (size.numbers ≤ VALUES) }
         ensures room { self.new.room ≡ Said size }

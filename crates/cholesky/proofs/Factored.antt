@@ -1,5 +1,5 @@
 -- What six roots make the columns of Cholesky's factor. Assumes nothing.
-use mathlib.Core.Path.{◌≡◌, refl, ap, ◌∙◌}
+use mathlib.Core.Path.{◌≡◌, refl, sym, ap, ◌∙◌}
 use mathlib.Core.Bool.{Bool}
 use mathlib.Core.List.{List, [], ◌∷◌}
 use Prim.Native.Nat.{ℕ}
@@ -52,11 +52,11 @@ module _ (N : Num) (a : List N.F) (r0 r1 r2 r3 r4 r5 : N.F) where
         (ap (divided N a by3 4) e4))
         (ap (divided N a by4 5) e5)
 
-    pub factored : matrix N (λ i j. low N by5 i j) ≡ cholesky N a
-    unfolding cholesky
-    factored = ap (λ cs. matrix N (λ i j. low N cs i j)) rooted
-
-    pub judged : (b : Bool) → b ≡ above6 N (reduced N a by5 0 0) (reduced N a by5 1 1) (reduced N a by5 2 2) (reduced N a by5 3 3) (reduced N a by5 4 4) (reduced N a by5 5 5) → b ≡ positive N a
-    unfolding positive
-    judged b e =
-        e ∙ ap (λ cs. above6 N (reduced N a cs 0 0) (reduced N a cs 1 1) (reduced N a cs 2 2) (reduced N a cs 3 3) (reduced N a cs 4 4) (reduced N a cs 5 5)) rooted
+    -- the factor, and whether it counts
+    pub factored : {b : Bool} → b ≡ above6 N (reduced N a by5 0 0) (reduced N a by5 1 1) (reduced N a by5 2 2) (reduced N a by5 3 3) (reduced N a by5 4 4) (reduced N a by5 5 5) → (positive N a ≡ b) × (matrix N (λ i j. low N by5 i j) ≡ cholesky N a)
+    unfolding positive cholesky
+    factored e = (
+      sym
+          (e ∙ ap (λ cs. above6 N (reduced N a cs 0 0) (reduced N a cs 1 1) (reduced N a cs 2 2) (reduced N a cs 3 3) (reduced N a cs 4 4) (reduced N a cs 5 5)) rooted),
+      ap (λ cs. matrix N (λ i j. low N cs i j)) rooted,
+    )

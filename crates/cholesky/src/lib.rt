@@ -14,22 +14,13 @@ use std::array::from_fn;
 fn above6(d0: f64, d1: f64, d2: f64, d3: f64, d4: f64, d5: f64) -> bool
     ensures { result ≡ Cholesky.above6 f64 d0 d1 d2 d3 d4 d5 }
 {
-    if 0.0 < d0 {
-        if 0.0 < d1 {
-            if 0.0 < d2 {
-                if 0.0 < d3 {
-                    if 0.0 < d4 {
-                        return 0.0 < d5;
-                    }
-                }
-            }
-        }
-    }
-    false
+    0.0 < d0 && 0.0 < d1 && 0.0 < d2 && 0.0 < d3 && 0.0 < d4 && 0.0 < d5
 }
 
 // Cholesky's factor, by columns of the lower triangle: column j subtracts L(j,k)·column k, k rising, and the root of the pivot divides it.
 // A pivot that is not above 0 fails; what the definition gives then, which nobody should use, is the error.
+// As it is, 41 lines: each makes one number of the factor, and a split would hand some twenty of them on. The error holds the factor, since the
+// function promised the definition's factor of any matrix before it had a Result, and may promise no less.
 #[rattlefmt::skip]
 pub fn cholesky6(a: &[f64; 36]) -> Result<[f64; 36], [f64; 36]>
     ensures { MatchResult result (λ l. (Cholesky.positive f64 a.now ≡ true) × (l ≡ Cholesky.cholesky f64 a.now))
@@ -103,6 +94,7 @@ fn less_rows(
     requires { (i < 6) × (p + n * s < 36 + s) × (q + n ≤ 6) }
     ensures { result ≡ Rows.less_rows f64 l.now w.now i p s q n }
 {
+    // As it is: tried as a fold over 0..n. Its closure has to say again what `less_row` asks and promises, of the numbers here: nine lines for these five.
     let mut r = row(w, i);
     for k in 0..n {
         r = less_row(&r, l[p + k * s], w, q + k);
@@ -152,7 +144,7 @@ fn backward6(l: &[f64; 36], w: &mut [f64; 36])
 }
 
 // The inverse of the matrix that has the factor l: per unit column, forward then backward substitution.
-// As it is: tried by value, a step of the backward pass costs a tenth more, as matrices are copied; so it is written where it is wanted.
+// As it is: tried by value, matrices are copied and a step back costs a tenth more. The old form, written where it is wanted, does not pay this.
 pub fn inverse6(l: &[f64; 36], w: &mut [f64; 36])
     ensures { w.new ≡ Cholesky.inverse f64 l.now }
 {

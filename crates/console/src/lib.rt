@@ -1,8 +1,8 @@
 // Standard input, read to its end, and text written to standard output. What cannot be read or written is said on standard error.
 #![tactic(auto)]
 
-ghost use Rattle.std.specs.Prelude.{IsTrue};
-ghost use Rattle.console.specs.Input.{Within, Gives, Exhausts};
+ghost use Rattle.std.specs.Prelude.{IsTrue, Some, OnOk};
+ghost use Rattle.console.specs.Input.{Within, Exhausts};
 
 use std::io;
 use std::io::{Input, Read, Write};
@@ -17,42 +17,42 @@ fn fail(rt: &impl Eprint, what: &str, error: io::Error) {
     let _ = write!(rest, "{error}");
     let n = REASON.saturating_sub(rest.len());
     let words = std::str::from_utf8(&text[..n]).unwrap_or("");
-    let reason = match words.split_once(" (os error ") {
-        Some((front, _)) => front,
-        None => words,
-    };
+    let reason = words
+        .split_once(" (os error ")
+        .map_or(words, |(front, _)| front);
     let _ = eprintln!(rt; "{what}: {reason}");
 }
 
-// One read, to the front of the buffer: how many bytes it gave, 0 where the input has ended. What fails is said.
-fn read_some<R: Read>(rt: &impl Eprint, input: &mut R, buf: &mut [u8]) -> Option<usize>
-    ensures within { Within result buf.new }
-    ensures gives { Gives (R.remaining input.old) (R.remaining input.new) result buf.new }
-{
-    match input.read(buf) {
-        Ok(n) => Some(n),
-        Err(e) => {
-            fail(rt, "standard input", e);
-            None
-        }
-    }
-}
-
-// What is read until the input ends or the buffer is full, which may then be longer: so many bytes at the front of the buffer, unless the input cannot be read.
-pub fn read_from<R: Read>(rt: &impl Eprint, input: &mut R, buf: &mut [u8]) -> Option<usize>
-    ensures within { Within result buf.new }
-    ensures exhausts { Exhausts (R.remaining input.old) (R.remaining input.new) result buf.new }
+// What is read until the input ends, cannot be read or fills the buffer, which may then be longer: so many bytes at the front of the buffer, and whether it
+// could be read.
+pub fn read_full<R: Read>(input: &mut R, buf: &mut [u8]) -> (usize, io::Result<()>)
+    ensures within { Within (Some result.0) buf.new }
+    ensures exhausts { OnOk result.1 (Exhausts (R.remaining input.old) (R.remaining input.new) (Some result.0) buf.new) }
 {
     let mut n: usize = 0;
     // As it is: a loop by as many bytes as a read gives, which no range says.
     while n < buf.len() {
-        let more = read_some(rt, input, &mut buf[n..])?;
-        if more == 0 {
-            return Some(n);
+        match input.read(&mut buf[n..]) {
+            Ok(0) => return (n, Ok(())),
+            Ok(more) => n += more,
+            Err(e) => return (n, Err(e)),
         }
-        n += more;
     }
-    Some(n)
+    (n, Ok(()))
+}
+
+// The same, unless the input cannot be read, which is said.
+pub fn read_from<R: Read>(rt: &impl Eprint, input: &mut R, buf: &mut [u8]) -> Option<usize>
+    ensures within { Within result buf.new }
+    ensures exhausts { Exhausts (R.remaining input.old) (R.remaining input.new) result buf.new }
+{
+    match read_full(input, buf) {
+        (n, Ok(())) => Some(n),
+        (_, Err(e)) => {
+            fail(rt, "standard input", e);
+            None
+        }
+    }
 }
 
 // Standard input, until it ends or the buffer is full.

@@ -1,9 +1,9 @@
 -- Document 01, "Cost", and the windows that the code lends. Definitions only.
-use Rattle.std.specs.Prelude.{ℕ, zero, suc, ◌+◌, ◌-◌, ◌*◌, ◌%◌, List, [], ◌∷◌, pos, from_bits, slice_index_or, Float}
+use Rattle.std.specs.Prelude.{ℕ, zero, suc, ◌+◌, ◌-◌, ◌%◌, List, [], ◌∷◌, pos, from_bits, slice_index_or, Float}
 use mathlib.Core.List.{foldl}
 use Rattle.std.specs.Float.{nan, binary64}
 use Rattle.std.specs.Float.Ieee.{of_int, add, mul}
-use Rattle.bounds.specs.Bounds.{DETECTIONS, DOT}
+use Rattle.bounds.specs.Bounds.{DETECTIONS}
 use Rattle.engine.specs.declared.config.FgoConfig.{FgoConfig}
 use Rattle.engine.specs.declared.types.ScanIndex.{ScanIndex}
 use Rattle.engine.specs.Config.{birth, miss, density, variance}
@@ -61,22 +61,24 @@ closed c (Going s) = add binary64 s.total (mul binary64 (of_int binary64 (pos s.
 abbrev pub cost : FgoConfig → Fold → List Measurement → Float
 cost c from ds = closed c (fold_over c from ds)
 
--- ---- what the code lends: the number of the first scan, and x, y, r and t of each dot
+-- ---- what the code lends: the number of the first scan, and the dots
 
 -- the number of the oldest scan held, and the dots
 pub record View : Type 0 where
   pub first : ℕ
-  pub dots : List Float
+  pub dots : List Dot
 
 -- the view of what is lent
-abbrev pub view_of : ScanIndex → List Float → View
+abbrev pub view_of : ScanIndex → List Dot → View
 view_of first dots = record { first = first.0; dots = dots }
 
+-- what stands past the end of the dots
+abbrev pub no_dot : Dot
+no_dot = record { x = nan; y = nan; r = nan; t = nan }
+
 -- dot i, counted round
-abbrev pub dot_at : List Float → ℕ → Dot
-dot_at ds i =
-    let o = DOT * (i % DETECTIONS) in
-    record { x = slice_index_or ds o nan; y = slice_index_or ds (o + 1) nan; r = slice_index_or ds (o + 2) nan; t = slice_index_or ds (o + 3) nan }
+abbrev pub dot_at : List Dot → ℕ → Dot
+dot_at ds i = slice_index_or ds (i % DETECTIONS) no_dot
 
 -- the view of what prices windows
 abbrev pub view_in : Prices → View

@@ -1,6 +1,4 @@
 // The cost of a window of detections: a left fold over them, and a close.
-//
-// DOT numbers stand for each dot: x, y, the variance of its position, and its scan's time in seconds.
 #![tactic(auto)]
 
 ghost use Rattle.std.specs.Prelude.{◌≡◌, ◌+◌, ◌^◌, ◌<◌};
@@ -9,10 +7,10 @@ ghost use Rattle.cost.specs.Cost.{dot_at, gap, added, born, resumed, closed, mea
 pub mod logs;
 pub mod prices;
 
-use bounds::{DETECTIONS, DOT, DOTS};
+use bounds::DETECTIONS;
 use engine::config::FgoConfig;
 use engine::types::ScanIndex;
-use kf::filter::Kf;
+use kf::filter::{Kf, Updated};
 use logs::Logs;
 
 // Where the fold over a window stands.
@@ -35,6 +33,7 @@ pub struct Sums {
     pub misses: u64,
 }
 
+// Where a detection lies, the variance of its position, and its scan's time in seconds.
 #[derive(Clone, Copy)]
 pub struct Dot {
     pub x: f64,
@@ -44,27 +43,17 @@ pub struct Dot {
 }
 
 // Dot i, counted round.
-// As it is: a flat array, DOT numbers a dot, which is written as a run of numbers and read here alone; an array of structs was not tried.
-pub fn dot_at(dots: &[f64; DOTS], i: usize) -> Dot
+pub fn dot_at(dots: &[Dot; DETECTIONS], i: usize) -> Dot
     ensures { result ≡ dot_at dots.now i }
 {
-    let o = DOT * (i % DETECTIONS);
-    Dot {
-        x: dots[o],
-        y: dots[o + 1],
-        r: dots[o + 2],
-        t: dots[o + 3],
-    }
+    dots[i % DETECTIONS]
 }
 
 // The scans skipped between two.
 pub fn skipped(scan: ScanIndex, last: ScanIndex) -> u64
     ensures { result ≡ gap scan.0 last.0 }
 {
-    if last < scan {
-        return scan.0 - last.0 - 1;
-    }
-    0
+    scan.0.saturating_sub(last.0).saturating_sub(1)
 }
 
 // A window that starts with a detection.
@@ -94,23 +83,19 @@ pub fn resume(kf: Kf, last: ScanIndex) -> Sums
 
 impl Sums {
     // Predict to the detection's time, update with its position, and add its NLL; the scans skipped since the last are misses. q is the acceleration spectral
-    // density. It asks for a count of misses that stays below 2^64, and the scans that were skipped.
-    pub fn add(self, q: f64, scan: ScanIndex, skipped: u64, d: Dot, logs: &mut Logs) -> Sums
-        requires { (self.misses + scan.0 < 2 ^ 64) × (skipped ≡ gap scan.0 self.last.0) }
+    // density. It asks for a count of misses that stays below 2^64.
+    pub fn add(self, q: f64, scan: ScanIndex, d: Dot, logs: &mut Logs) -> Sums
+        requires { self.misses + scan.0 < 2 ^ 64 }
         ensures { result ≡ added q self (measurement_of scan d) }
     {
-        let misses = self.misses + skipped;
-        let kf = self.kf;
-        let total = self.total;
-        let p = kf.predict(d.t, q);
+        let p = self.kf.predict(d.t, q);
         let l = logs.log_of(p.p00 + d.r);
-        let u = p.update_by(d.x, d.y, d.r, l);
-        let moved = u.kf;
+        let Updated { kf, nll } = p.update_by(d.x, d.y, d.r, l);
         Sums {
-            kf: moved,
-            total: total + u.nll,
+            kf,
+            total: self.total + nll,
             last: scan,
-            misses,
+            misses: self.misses + skipped(scan, self.last),
         }
     }
 }
@@ -121,8 +106,7 @@ impl Fold {
         ensures { result ≡ closed c self.now }
     {
         match *self {
-            Fold::Fresh => 0.0,
-            Fold::Frozen { kf: _, last: _ } => 0.0,
+            Fold::Fresh | Fold::Frozen { .. } => 0.0,
             Fold::Going(r) => r.total + std::num::nearest_u64_to_f64(r.misses) * c.miss_cost,
         }
     }

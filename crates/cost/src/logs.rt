@@ -37,10 +37,10 @@ impl Logs {
         ensures { result ≡ log_term f64 s }
     {
         if 0.0 < s {
-            let b = f64::to_bits(s);
+            let b = s.to_bits();
             let i = b as usize % KEPT;
             let old = self.entries[i];
-            if f64::to_bits(old.variance) == b {
+            if old.variance.to_bits() == b {
                 return old.log;
             }
             let log = log_term(s);

@@ -1,7 +1,8 @@
 // What prices windows.
 ghost use Rattle.std.specs.Prelude.{◌^◌, ◌<◌};
 
-use bounds::DOTS;
+use crate::Dot;
+use bounds::DETECTIONS;
 use engine::config::FgoConfig;
 use engine::types::ScanIndex;
 
@@ -10,6 +11,6 @@ use engine::types::ScanIndex;
 pub struct Prices<'a> {
     pub config: FgoConfig,
     pub first: ScanIndex,
-    pub dots: &'a [f64; DOTS],
+    pub dots: &'a [Dot; DETECTIONS],
     pub ghost early: { first.0 < 2 ^ 33 },
 }

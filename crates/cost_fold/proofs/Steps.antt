@@ -1,7 +1,6 @@
 -- How the fold over a row goes on: what is left of it, and the misses it counts. Assumes nothing.
 use Rattle.std.specs.Prelude.{Option, Some, None, MatchOption}
 use Rattle.std.specs.List.{AllWithin, HoldsAt}
-use Rattle.std.specs.Option.{unwrap_or}
 use mathlib.Core.Path.{◌≡◌, refl, sym, ap, ◌∙◌}
 use mathlib.Core.List.{List, [], ◌∷◌, foldl}
 use Prim.Native.Nat.{ℕ, zero, suc, ◌+◌, ◌-◌, ◌*◌, ◌^◌, ◌≤◌, ◌<◌}
@@ -18,9 +17,9 @@ use Rattle.kf.specs.declared.filter.Kf.{Kf}
 use Rattle.cost.specs.declared.Sums.{Sums}
 use Rattle.cost.specs.declared.Fold.{Fold}
 use Rattle.cost.specs.declared.Fold.TheVariants.{Fresh, Frozen, Going}
-use Rattle.cost.specs.Cost.{Measurement, View, gap, added, born, resumed, fold_one, fold_over, measurement_at, measurements}
+use Rattle.cost.specs.Cost.{Measurement, View, added, born, resumed, fold_one, fold_over, measurement_at, measurements}
 use Rattle.cost.proofs.Steps.{misses_added}
-use Rattle.cost_fold.specs.Fold.{Leading}
+use Rattle.cost_fold.specs.Fold.{Bare, Leading}
 
 -- after a detection the fold is one over sums
 pub fold_going : (c : FgoConfig) (s : Sums) (ds : List Measurement) → fold_over c (Going s) ds ≡ Going (foldl (added (density c)) s ds)
@@ -77,34 +76,30 @@ module _ {q : Float} {v : View} {whole : Sums} {most : ℕ} {r : List ℕ} {k : 
   pub ends : length r ≤ i → s ≡ whole
   ends h = sym (ap (foldl (added q) s) (rest_none v k i r h)) ∙ inv.rest
 
--- no scan is skipped between a detection and the scan after it
-pub none_skipped : (q : Float) (s : Sums) (d : Measurement) (n : ℕ) → n ≡ d.scan + 1 → 0 ≡ gap n (added q s d).last.0
-unfolding added
-none_skipped q s d n e = omega (arith, e)
-
 -- slots without a detection are left out
 passed : (r : List ℕ) (n : ℕ) → n ≤ length r → ((j : ℕ) → j < n → get_or r j 0 ≤ 0) → (v : View) (k : ℕ) → measurements v k r ≡ measurements v (k + n) (drop n r)
 passed r zero h z v k = ap (λ n. measurements v n r) (sym (add-zero k))
 passed r (suc n) h z v k = passed r n (omega arith) (λ j g. z j (omega arith)) v k ∙ rest_skips v k n r (omega arith) (z n (omega arith)) ∙ ap (λ m. measurements v (k + m) (drop m r)) (add-one n)
 
 -- where the first detection stands, or none does
-pub leading_by : (r : List ℕ) (o : Option ℕ) → MatchOption o (AllWithin (λ x. x ≤ 0) r 0 (length r)) (λ i. (i < length r) × HoldsAt (λ x. 0 < x) r i × AllWithin (λ x. x ≤ 0) r 0 i) → Leading r (unwrap_or o (length r))
-leading_by r None a = record { rest = passed r (length r) (omega arith) (λ j g. a j 0 (omega arith) g); found = λ h. absurd (omega arith) }
-leading_by r (Some i) a = record { rest = passed r i (omega (arith, a.0)) (λ j g. a.2 j 0 (omega arith) g); found = λ h. a.1 0 }
+pub first_by : (r : List ℕ) (o : Option ℕ) → MatchOption o (AllWithin (λ x. x ≤ 0) r 0 (length r)) (λ i. (i < length r) × HoldsAt (λ x. 0 < x) r i × AllWithin (λ x. x ≤ 0) r 0 i) → MatchOption o (Bare r) (Leading r)
+first_by r None a = λ v k. passed r (length r) (omega arith) (λ j g. a j 0 (omega arith) g) v k ∙ rest_none v k (length r) r (omega arith)
+first_by r (Some i) a = record { rest = passed r i (omega (arith, a.0)) (λ j g. a.2 j 0 (omega arith) g); within = a.0; found = a.1 0 }
 
--- the fold over a row after its leading slots: where nothing is left, where the first detection starts it, and where it goes on from a frozen part
+-- the fold over a row without a detection
+pub bare_fold : (c : FgoConfig) (v : View) (k : ℕ) (r : List ℕ) (f : Fold) → Bare r → f ≡ fold_over c f (measurements v k r)
+unfolding fold_over
+bare_fold c v k r f h = sym (ap (fold_over c f) (h v k))
+
+-- and after its leading slots: where the first detection starts it, and where it goes on from a frozen part
 module _ (c : FgoConfig) (v : View) (k n : ℕ) (r : List ℕ) (l : Leading r n) where
-  pub leads_none : (f : Fold) → length r ≤ n → f ≡ fold_over c f (measurements v k r)
-  unfolding fold_over
-  leads_none f h = sym (ap (fold_over c f) (l.rest v k ∙ rest_none v k n r h))
+  leads : measurements v k r ≡ measurement_at v (k + n) (get_or r n 0 - 1) ∷ measurements v (k + (n + 1)) (drop (n + 1) r)
+  leads = l.rest v k ∙ rest-takes v k n r l.within l.found
 
-  leads : n < length r → measurements v k r ≡ measurement_at v (k + n) (get_or r n 0 - 1) ∷ measurements v (k + (n + 1)) (drop (n + 1) r)
-  leads h = l.rest v k ∙ rest-takes v k n r h (l.found h)
-
-  pub leads_born : n < length r → fold_over c (Going (born c (measurement_at v (k + n) (get_or r n 0 - 1)))) (measurements v (k + (n + 1)) (drop (n + 1) r)) ≡ fold_over c Fresh (measurements v k r)
+  pub leads_born : fold_over c (Going (born c (measurement_at v (k + n) (get_or r n 0 - 1)))) (measurements v (k + (n + 1)) (drop (n + 1) r)) ≡ fold_over c Fresh (measurements v k r)
   unfolding fold_over fold_one
-  leads_born h = sym (ap (fold_over c Fresh) (leads h))
+  leads_born = sym (ap (fold_over c Fresh) leads)
 
-  pub leads_frozen : (f : Kf) (s : ScanIndex) → n < length r → fold_over c (Going (resumed f s)) (measurements v (k + n) (drop n r)) ≡ fold_over c (Frozen f s) (measurements v k r)
+  pub leads_frozen : (f : Kf) (s : ScanIndex) → fold_over c (Going (resumed f s)) (measurements v (k + n) (drop n r)) ≡ fold_over c (Frozen f s) (measurements v k r)
   unfolding fold_over fold_one
-  leads_frozen f s h = ap (fold_over c (Going (resumed f s))) (sym (l.rest v k) ∙ leads h) ∙ sym (ap (fold_over c (Frozen f s)) (leads h))
+  leads_frozen f s = ap (fold_over c (Going (resumed f s))) (sym (l.rest v k) ∙ leads) ∙ sym (ap (fold_over c (Frozen f s)) leads)

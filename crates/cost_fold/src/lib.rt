@@ -4,23 +4,23 @@
 // As it is: a slot is a number and no Option, which is no plainer: the definition of a window's measurements reads a row as numbers.
 #![tactic(auto)]
 
-ghost use Rattle.std.specs.Prelude.{◌≡◌};
+ghost use Rattle.std.specs.Prelude.{◌≡◌, MatchOption};
 ghost use mathlib.Core.List.{foldl};
 ghost use Rattle.cost.specs.declared.Fold.TheVariants.{Going};
 ghost use Rattle.cost.specs.Cost.{added, fold_over, cost, measurements, view_in};
 ghost use Rattle.engine.specs.Config.{density};
-ghost use Rattle.cost_fold.specs.Fold.{Asks, Leading};
+ghost use Rattle.cost_fold.specs.Fold.{Asks, Bare, Leading};
 
 use cost::logs::Logs;
 use cost::prices::Prices;
 use cost::{Fold, Sums};
 use engine::types::ScanIndex;
 
-// The slots before the first detection.
-fn leading(slots: &[usize]) -> usize
-    ensures { Leading slots.now result }
+// Where the first detection stands, if there is one.
+fn first_detection(slots: &[usize]) -> Option<usize>
+    ensures { MatchOption result (Bare slots.now) (Leading slots.now) }
 {
-    slots.iter().position(|x| 0 < *x).unwrap_or(slots.len())
+    slots.iter().position(|x| 0 < *x)
 }
 
 // The fold over the slots of a row after a detection or a frozen part: the row begins at the held scan k.
@@ -29,19 +29,11 @@ fn fold_on(prices: &Prices<'_>, from: &Sums, slots: &[usize], k: usize, logs: &m
     ensures { result ≡ foldl (added (density prices.now.config)) from.now (measurements (view_in prices.now) k slots.now) }
 {
     let q = prices.config.accel_spectral_density;
-    let dots = prices.dots;
-    let first = prices.first;
     let mut r = *from;
-    // the scans skipped since the last detection, if the next one is at i
-    let mut skips = cost::skipped(ScanIndex(first.0 + k as u64), r.last);
-    for i in 0..slots.len() {
-        let code = slots[i];
-        let scan = ScanIndex(first.0 + (k + i) as u64);
-        if 0 < code {
-            r = r.add(q, scan, skips, cost::dot_at(dots, code - 1), logs);
-            skips = 0;
-        } else {
-            skips = cost::skipped(ScanIndex(scan.0 + 1), r.last);
+    for (i, code) in slots.iter().enumerate() {
+        if 0 < *code {
+            let scan = ScanIndex(prices.first.0 + (k + i) as u64);
+            r = r.add(q, scan, cost::dot_at(prices.dots, *code - 1), logs);
         }
     }
     r
@@ -62,23 +54,21 @@ pub fn fold_window(
 {
     match *from {
         Fold::Fresh => {
-            let i = leading(slots);
-            if slots.len() <= i {
-                return Fold::Fresh;
-            }
+            let Some(i) = first_detection(slots) else {
+                return *from;
+            };
             let scan = ScanIndex(prices.first.0 + (k + i) as u64);
             let r = cost::born_at(prices.config, scan, cost::dot_at(prices.dots, slots[i] - 1));
             Fold::Going(fold_on(prices, &r, &slots[i + 1..], k + (i + 1), logs))
         }
         Fold::Frozen { kf, last } => {
-            let i = leading(slots);
-            if slots.len() <= i {
-                return Fold::Frozen { kf, last };
-            }
+            let Some(i) = first_detection(slots) else {
+                return *from;
+            };
             let r = cost::resume(kf, last);
             Fold::Going(fold_on(prices, &r, &slots[i..], k + i, logs))
         }
-        Fold::Going(sums) => { Fold::Going(fold_on(prices, &sums, slots, k, logs)) }
+        Fold::Going(sums) => Fold::Going(fold_on(prices, &sums, slots, k, logs)),
     }
 }
 

@@ -1,4 +1,4 @@
-// What does not change during a search, what the windows of its tracks go on from, and what they cost.
+// What the windows of tracks go on from, and what they cost.
 #![tactic(auto)]
 
 ghost use Rattle.std.specs.Prelude.{◌≡◌, ◌^◌, ◌≤◌, ◌<◌, drop};
@@ -12,17 +12,8 @@ use bounds::{FILTERS, PARTS, SCANS};
 use cost::Fold;
 use cost::logs::Logs;
 use cost::prices::Prices;
-use engine::config::FgoConfig;
-use engine::types::{RefinedId, ScanIndex};
-
-// What does not change during a search: the settings, the number of the oldest scan held, the detections gathered and the frozen tracks.
-#[derive(Clone, Copy)]
-pub struct Hall {
-    pub config: FgoConfig,
-    pub first: ScanIndex,
-    pub detections: usize,
-    pub frozen: usize,
-}
+use engine::types::RefinedId;
+use fgo_part::FrozenTracks;
 
 // The frozen part at place n, as what a window goes on from.
 fn frozen_at(n: usize, tracks: &[u64; PARTS], filters: &[f64; FILTERS]) -> Fold
@@ -35,22 +26,13 @@ fn frozen_at(n: usize, tracks: &[u64; PARTS], filters: &[f64; FILTERS]) -> Fold
     }
 }
 
-// What the window of x goes on from: its frozen part among the first `count`, FROZEN at most, or nothing.
-pub fn fold_from(
-    x: RefinedId,
-    count: usize,
-    tracks: &[u64; PARTS],
-    filters: &[f64; FILTERS],
-) -> Fold
-    requires { count ≤ FROZEN }
-    ensures { result ≡ fold_among tracks.now filters.now count x.0 }
+// What the window of x goes on from: its frozen part, of the words and the numbers of the frozen tracks, or nothing.
+pub fn fold_from(x: RefinedId, frozen: &FrozenTracks<'_>, filters: &[f64; FILTERS]) -> Fold
+    ensures { let f = frozen.now in result ≡ fold_among f.tracks.now filters.now f.count x.0 }
 {
-    for n in 0..count {
-        if x == fgo_part::part_id(tracks, n) {
-            return frozen_at(n, tracks, filters);
-        }
-    }
-    Fold::Fresh
+    (0..frozen.count)
+        .find(|n| x == fgo_part::part_id(frozen.tracks, *n))
+        .map_or(Fold::Fresh, |n| frozen_at(n, frozen.tracks, filters))
 }
 
 // The fold over the scans of a row from k up to g, going on from where it stands. It asks for few misses so far.

@@ -26,7 +26,7 @@ use Rattle.engine.specs.declared.types.EngineTrack.{EngineTrack}
 use Rattle.engine.specs.declared.types.Observation.{Observation}
 use Rattle.engine.specs.declared.types.Association.{Association}
 use Rattle.engine.specs.Little.{little}
-use Rattle.engine.specs.Frame.{Frame, mode_number, mode_of, outcome_number, outcome_of, associated_of, class_of, cost_of, engine_of, no_track, no_observation, no_association, Associated, ClassLabel, Cost}
+use Rattle.engine.specs.Frame.{Frame, mode_number, mode_of, outcome_number, outcome_of, present, engine_of, no_track, no_observation, no_association, Associated, ClassLabel, Cost}
 use Rattle.engine.specs.Body.{Layout, narrow, layout_of, all, code_ok, present_ok, time_ok, zeros_ok, track_ok, association_ok, observation_ok, index_at, index_ok, track_count, sensor_count, observation_count, association_count, sensors_from, observations_from, associations_from, size, head_ok, tracks_ok, associations_ok, observations_ok, indices_ok, refusal, rows, track_at, observation_at, association_at, frame_of, read, decode}
 use Rattle.engine.specs.Encode.{laid, class_present, class_value, id_present, cost_present, cost_value, track_fields, sensor_fields, observation_fields, association_fields, track_bytes, sensor_bytes, observation_bytes, association_bytes, row_bytes, head_fields, encode, Binary64, HeldCost, TrackOk, ObservationOk, AssociationOk, FrameOk, ReadBack, OneFrame}
 use Rattle.engine.proofs.Bytes.{little-one}
@@ -57,7 +57,7 @@ outcome_code Updated = omega arith
 outcome_code Spawned = omega arith
 outcome_code Unmatched = omega arith
 
-class_back : (c : ClassLabel) → class_of (class_present c) (class_value c) ≡ c
+class_back : (c : ClassLabel) → present (class_present c) (class_value c) ≡ c
 class_back None = refl
 class_back (Some v) = refl
 
@@ -66,7 +66,7 @@ unfolding present_ok
 class_present_lem None = (lit< tt, refl)
 class_present_lem (Some v) = (lit< tt, refl)
 
-id_back : (a : Associated) → associated_of (id_present a) (engine_of a) ≡ a
+id_back : (a : Associated) → present (id_present a) (record { 0 = engine_of a }) ≡ a
 id_back None = refl
 id_back (Some x) = refl
 
@@ -81,7 +81,7 @@ float_back x h = of_bits-to_bits binary64 x (subst T (sym h) tt)
 float_fits : (x : Float) → Binary64 x → bits_of x < 2 ^ 64
 float_fits x h = to_bits-lt binary64 x (subst T (sym h) tt)
 
-cost-back : (c : Cost) → HeldCost c → cost_of (cost_present c) (of_bits binary64 (cost_value c)) ≡ c
+cost-back : (c : Cost) → HeldCost c → present (cost_present c) (of_bits binary64 (cost_value c)) ≡ c
 cost-back None h = refl
 cost-back (Some x) h = let e = float_back x h in rw e
 

@@ -12,7 +12,7 @@ use Rattle.engine.specs.declared.types.EngineTrack.{EngineTrack}
 use Rattle.engine.specs.declared.types.Observation.{Observation}
 use Rattle.engine.specs.declared.types.Association.{Association}
 use Rattle.engine.specs.Little.{little}
-use Rattle.engine.specs.Frame.{Frame, mode_of, outcome_of, associated_of, class_of, cost_of, no_track, no_observation, no_association}
+use Rattle.engine.specs.Frame.{Frame, mode_of, outcome_of, present, no_track, no_observation, no_association}
 
 -- ---- where things stand: what a kind of body is, apart from the meaning of its rows
 
@@ -196,7 +196,7 @@ rows g i (suc n) = g i ∷ rows g (suc i) n
 
 -- "Tracks: u64 id, u32 class, byte class present, three zeros": the engine track at place o
 unfoldable pub track_at : List ℕ → ℕ → EngineTrack
-track_at s o = record { id = record { 0 = little 8 s o }; class = class_of (get_or s (o + 12) 0) (little 4 s (o + 8)) }
+track_at s o = record { id = record { 0 = little 8 s o }; class = present (get_or s (o + 12) 0) (little 4 s (o + 8)) }
 
 -- "Observations: three f64": the one at place o
 unfoldable pub observation_at : List ℕ → ℕ → Observation
@@ -212,9 +212,9 @@ unfoldable pub association_at : ℕ → List ℕ → ℕ → Association
 association_at w s o =
     record {
       index = record { 0 = little w s o };
-      track = associated_of (get_or s (o + w) 0) (little 8 s (o + 8));
+      track = present (get_or s (o + w) 0) (record { 0 = little 8 s (o + 8) });
       outcome = outcome_of (get_or s (o + (w + 1)) 0);
-      cost = cost_of (get_or s (o + (w + 2)) 0) (of_bits binary64 (little 8 s (o + 16)));
+      cost = present (get_or s (o + (w + 2)) 0) (of_bits binary64 (little 8 s (o + 16)));
     }
 
 -- what a body says, whether it is refused or not

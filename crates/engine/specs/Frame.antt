@@ -57,19 +57,9 @@ outcome_of (suc zero) = Spawned
 outcome_of (suc (suc n)) = Unmatched
 
 -- a present byte, and the value that it speaks of
-abbrev pub associated_of : ℕ → ℕ → Associated
-associated_of zero v = None
-associated_of (suc n) v = Some (record { 0 = v })
-
--- likewise the class of an engine track
-abbrev pub class_of : ℕ → ℕ → ClassLabel
-class_of zero v = None
-class_of (suc n) v = Some v
-
--- and the cost of an association
-abbrev pub cost_of : ℕ → Float → Cost
-cost_of zero v = None
-cost_of (suc n) v = Some v
+abbrev pub present : {A : Type 0} → ℕ → A → Option A
+present zero v = None
+present (suc n) v = Some v
 
 -- the engine id of an association, 0 where it has none
 abbrev pub engine_of : Associated → ℕ

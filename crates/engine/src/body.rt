@@ -1,6 +1,6 @@
 // A frame's body: its header and its fields.
 ghost use Rattle.std.specs.Prelude.{◌≡◌, ◌+◌, ◌^◌, ◌<◌, ◌≤◌, length, get_or};
-ghost use Rattle.engine.specs.Frame.{associated_of, class_of, cost_of, no_track, no_observation, no_association};
+ghost use Rattle.engine.specs.Frame.{present, no_track, no_observation, no_association};
 ghost use Rattle.bounds.specs.Bounds.{ENGINE, OBSERVATION, ASSOCIATION};
 ghost use Rattle.engine.specs.Body.{layout_of, body_of, tracks_in, sensors_in, observations_in, associations_in, sensors_from, observations_from};
 ghost use Rattle.engine.specs.Body.{associations_from, frame_in, body_refusal, track_at, observation_at, association_at, time_read, sensor_read};
@@ -25,27 +25,27 @@ fn count_at(s: &[u8], o: usize) -> usize
     ensures value { result ≡ get_or s.now o 0 }
     ensures small { result < 2 ^ 8 }
 {
-    if o < s.len() { s[o] as usize } else { 0 }
+    s.get(o).map_or(0, |b| usize::from(*b))
 }
 
-fn class_of(b: u8, v: u32) -> Option<u32>
-    ensures { result ≡ class_of b v }
+// A value, if its present byte says that it is there.
+fn present<T: Copy>(b: u8, v: T) -> Option<T>
+    ensures { result ≡ present b v }
 {
-    match b {
-        0 => None,
-        1..=255 => Some(v),
-    }
+    (b != 0).then_some(v)
 }
 
+// The engine track whose bytes begin at place o.
 fn track_at(s: &[u8], o: usize) -> EngineTrack
     requires { o + ENGINE ≤ length s.now }
     ensures { result ≡ track_at s.now o }
 {
     let id = EngineId(little::u64_at(s, o));
-    let class = class_of(s[o + 12], little::u32_at(s, o + 8) as u32);
+    let class = present(s[o + 12], little::u32_at(s, o + 8) as u32);
     EngineTrack { id, class }
 }
 
+// What stands for a track that is not there.
 fn no_track() -> EngineTrack
     ensures { result ≡ no_track }
 {
@@ -53,6 +53,7 @@ fn no_track() -> EngineTrack
     EngineTrack { id, class: None }
 }
 
+// The observation whose bytes begin at place o.
 fn observation_at(s: &[u8], o: usize) -> Observation
     requires { o + OBSERVATION ≤ length s.now }
     ensures { result ≡ observation_at s.now o }
@@ -63,35 +64,18 @@ fn observation_at(s: &[u8], o: usize) -> Observation
     Observation { x, y, z }
 }
 
+// What stands for an observation that is not there: a dot that is nowhere.
 fn no_observation() -> Observation
     ensures { result ≡ no_observation }
 {
-    let nan = 0.0 / 0.0;
     Observation {
-        x: nan,
-        y: nan,
-        z: nan,
+        x: f64::NAN,
+        y: f64::NAN,
+        z: f64::NAN,
     }
 }
 
-fn associated_of(b: u8, v: u64) -> Option<EngineId>
-    ensures { result ≡ associated_of b v }
-{
-    match b {
-        0 => None,
-        1..=255 => Some(EngineId(v)),
-    }
-}
-
-fn cost_of(b: u8, v: f64) -> Option<f64>
-    ensures { result ≡ cost_of b v }
-{
-    match b {
-        0 => None,
-        1..=255 => Some(v),
-    }
-}
-
+// What stands for an association that is not there: observation 0, of no track and without a cost.
 fn no_association() -> Association
     ensures { result ≡ no_association }
 {
@@ -116,6 +100,7 @@ impl<'a> Body<'a> {
         }
     }
 
+    // How many engine tracks the header says that the frame has.
     pub fn track_count(&self) -> usize
         ensures count { result ≡ tracks_in (body_of self.now) }
         ensures small { result < 2 ^ 8 }
@@ -125,6 +110,7 @@ impl<'a> Body<'a> {
         }
     }
 
+    // How many sensors the header says that the first track has.
     pub fn sensor_count(&self) -> usize
         ensures count { result ≡ sensors_in (body_of self.now) }
         ensures small { result < 2 ^ 8 }
@@ -134,6 +120,7 @@ impl<'a> Body<'a> {
         }
     }
 
+    // How many observations the header says that there are.
     pub fn observation_count(&self) -> usize
         ensures count { result ≡ observations_in (body_of self.now) }
         ensures small { result < 2 ^ 8 }
@@ -143,6 +130,7 @@ impl<'a> Body<'a> {
         }
     }
 
+    // How many associations the header says that there are.
     pub fn association_count(&self) -> usize
         ensures count { result ≡ associations_in (body_of self.now) }
         ensures small { result < 2 ^ 8 }
@@ -152,6 +140,7 @@ impl<'a> Body<'a> {
         }
     }
 
+    // Where the sensors' ids begin, after the tracks.
     fn sensors_from(&self) -> usize
         ensures place { result ≡ sensors_from (layout_of self.now.kind) self.now.bytes.now }
         ensures small { result < 2 ^ 14 }
@@ -159,6 +148,7 @@ impl<'a> Body<'a> {
         self.header_size() + ENGINE * self.track_count()
     }
 
+    // Where the observations begin, after the sensors.
     pub fn observations_from(&self) -> usize
         ensures place { result ≡ observations_from (layout_of self.now.kind) self.now.bytes.now }
         ensures small { result < 2 ^ 15 }
@@ -166,6 +156,7 @@ impl<'a> Body<'a> {
         self.sensors_from() + SENSOR * self.sensor_count()
     }
 
+    // Where the associations begin, after the observations.
     pub fn associations_from(&self) -> usize
         ensures place { result ≡ associations_from (layout_of self.now.kind) self.now.bytes.now }
         ensures small { result < 2 ^ 16 }
@@ -176,15 +167,17 @@ impl<'a> Body<'a> {
     // ---- the fields: each reader answers, on any bytes, the field where its bytes are all there, and else 0 or the value for none; for a body that passes
     // this is what the frame says
 
+    // How much of the camera the engine used.
+    #[tactic(auto, unfolding(crate::specs::Body::frame_of))]
     pub fn mode(&self) -> TrackingMode
         ensures { result ≡ (frame_in (body_of self.now)).mode }
     {
-        if self.bytes.len() == 0 {
-            return TrackingMode::LidarOnly;
-        }
-        TrackingMode::from(self.bytes[0])
+        self.bytes
+            .first()
+            .map_or(TrackingMode::LidarOnly, |b| TrackingMode::from(*b))
     }
 
+    // The frame's time in nanoseconds.
     pub fn time(&self) -> i64
         ensures { (result ≡ time_read (layout_of self.now.kind) self.now.bytes.now)
             × (body_refusal (body_of self.now) ≡ 0 → result ≡ (frame_in (body_of self.now)).time) }
@@ -241,6 +234,7 @@ impl<'a> Body<'a> {
         observation_at(self.bytes, o)
     }
 
+    // The association whose bytes begin at place o.
     fn association_at(&self, o: usize) -> Association
         requires { o + ASSOCIATION ≤ length self.now.bytes.now }
         ensures { result ≡ association_at (layout_of self.now.kind).width self.now.bytes.now o }
@@ -248,9 +242,12 @@ impl<'a> Body<'a> {
         match self.kind {
             BodyKind::Narrow => {
                 let index = ObservationIndex(self.bytes[o] as usize);
-                let track = associated_of(self.bytes[o + 1], little::u64_at(self.bytes, o + 8));
+                let track = present(
+                    self.bytes[o + 1],
+                    EngineId(little::u64_at(self.bytes, o + 8)),
+                );
                 let outcome = Outcome::from(self.bytes[o + 2]);
-                let cost = cost_of(self.bytes[o + 3], little::f64_at(self.bytes, o + 16));
+                let cost = present(self.bytes[o + 3], little::f64_at(self.bytes, o + 16));
                 Association {
                     index,
                     track,

@@ -5,6 +5,7 @@ ghost use Rattle.engine.specs.Config.{legal, defaults, position_variance};
 use bounds::{LAG, PASSES};
 use scalar::bits;
 
+// What the refiner is opened with: how long it holds scans back, what its costs are, how tracks move, and when they are forgotten.
 #[derive(Clone, Copy)]
 pub struct FgoConfig {
     // Scans held back; a scan is emitted this many scans late.
@@ -63,30 +64,14 @@ impl FgoConfig {
     pub fn is_legal(self) -> bool
         ensures { result ≡ legal self }
     {
-        if LAG < self.lag_frames {
-            return false;
-        }
-        if PASSES < self.max_passes {
-            return false;
-        }
-        if !bits::is_finite(self.radius_m) {
-            return false;
-        }
-        if !bits::is_finite(self.birth_cost) {
-            return false;
-        }
-        if !bits::is_finite(self.miss_cost) {
-            return false;
-        }
-        if !bits::is_finite(self.clutter_cost) {
-            return false;
-        }
-        if !bits::is_finite(self.accel_spectral_density) {
-            return false;
-        }
-        if !bits::is_finite(self.position_sigma_m) {
-            return false;
-        }
-        bits::is_finite(self.initial_velocity_variance)
+        self.lag_frames <= LAG
+            && self.max_passes <= PASSES
+            && bits::is_finite(self.radius_m)
+            && bits::is_finite(self.birth_cost)
+            && bits::is_finite(self.miss_cost)
+            && bits::is_finite(self.clutter_cost)
+            && bits::is_finite(self.accel_spectral_density)
+            && bits::is_finite(self.position_sigma_m)
+            && bits::is_finite(self.initial_velocity_variance)
     }
 }

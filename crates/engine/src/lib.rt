@@ -2,6 +2,7 @@
 #![tactic(auto)]
 
 pub mod body;
+pub mod checked;
 pub mod config;
 pub mod little;
 pub mod types;

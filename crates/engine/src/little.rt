@@ -7,6 +7,7 @@ ghost use Rattle.engine.specs.Little.{little};
 
 use scalar::bits;
 
+// The two bytes from place o on as a number.
 pub fn u16_at(s: &[u8], o: usize) -> u64
     requires { o + 2 ≤ length s.now }
     ensures { result ≡ little 2 s.now o }
@@ -14,6 +15,7 @@ pub fn u16_at(s: &[u8], o: usize) -> u64
     u64::from(u16::from_le_bytes([s[o], s[o + 1]]))
 }
 
+// The three bytes from place o on as a number.
 pub fn u24_at(s: &[u8], o: usize) -> u64
     requires { o + 3 ≤ length s.now }
     ensures { result ≡ little 3 s.now o }
@@ -21,6 +23,7 @@ pub fn u24_at(s: &[u8], o: usize) -> u64
     u64::from(u32::from_le_bytes([s[o], s[o + 1], s[o + 2], 0]))
 }
 
+// The four bytes from place o on as a number.
 pub fn u32_at(s: &[u8], o: usize) -> u64
     requires { o + 4 ≤ length s.now }
     ensures { result ≡ little 4 s.now o }
@@ -28,6 +31,7 @@ pub fn u32_at(s: &[u8], o: usize) -> u64
     u64::from(u32::from_le_bytes([s[o], s[o + 1], s[o + 2], s[o + 3]]))
 }
 
+// The eight bytes from place o on as a number.
 pub fn u64_at(s: &[u8], o: usize) -> u64
     requires { o + 8 ≤ length s.now }
     ensures { result ≡ little 8 s.now o }
@@ -44,6 +48,7 @@ pub fn u64_at(s: &[u8], o: usize) -> u64
     ])
 }
 
+// The eight bytes from place o on as a number with a sign.
 pub fn i64_at(s: &[u8], o: usize) -> i64
     requires { o + 8 ≤ length s.now }
     ensures { result ≡ signed (little 8 s.now o) }
@@ -51,6 +56,7 @@ pub fn i64_at(s: &[u8], o: usize) -> i64
     bits::from_word(u64_at(s, o))
 }
 
+// The eight bytes from place o on as the float that has these bits.
 pub fn f64_at(s: &[u8], o: usize) -> f64
     requires { o + 8 ≤ length s.now }
     ensures { result ≡ of_bits binary64 (little 8 s.now o) }

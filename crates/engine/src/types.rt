@@ -19,6 +19,8 @@ pub struct ScanIndex(pub u64);
 pub struct ObservationIndex(pub usize);
 
 // How a frame's body is laid out.
+// As it is, here and in each match of it: one variant, since numbers without it would be no plainer: a further layout is one more variant, and every place that
+// reads by the layout matches it (docs/DECISIONS.md, "A kind of body").
 #[derive(Clone, Copy)]
 pub enum BodyKind {
     // Counts and indices have a byte each.
@@ -41,6 +43,7 @@ pub enum Outcome {
     Unmatched,
 }
 
+// A track of the engine, as a frame lists it.
 #[derive(Clone, Copy)]
 pub struct EngineTrack {
     pub id: EngineId,
@@ -56,6 +59,7 @@ pub struct Observation {
     pub z: f64,
 }
 
+// What the engine made of one observation.
 #[derive(Clone, Copy)]
 pub struct Association {
     pub index: ObservationIndex,
@@ -67,6 +71,7 @@ pub struct Association {
 }
 
 // The mode of a byte; every byte above 1 is read as the last.
+// As it is, here and in the three below: numbers, which are the codes of a body's bytes and of an emitted frame's words.
 impl From<u8> for TrackingMode {
     ghost from_gives = { λ b r. r ≡ mode_of b };
 

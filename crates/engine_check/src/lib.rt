@@ -1,17 +1,18 @@
 // Whether bytes are a frame's body: refusals 5, 6 and 7.
 #![tactic(auto)]
 
-ghost use Rattle.std.specs.Prelude.{◌≡◌, cond, eqb, ◌+◌, ◌*◌, ◌≤◌, length};
+ghost use Rattle.std.specs.Prelude.{◌≡◌, ◌&&◌, cond, eqb, ◌+◌, ◌*◌, ◌≤◌, length, MatchResult};
 ghost use Rattle.bounds.specs.Bounds.{SENSORS, OBSERVATIONS, ENGINE, OBSERVATION, ASSOCIATION};
-ghost use Rattle.refusals.specs.Refusals.{refused};
+ghost use Rattle.refusals.specs.Refusals.{number_of};
 ghost use Rattle.engine.specs.Little.{little};
 ghost use Rattle.engine.specs.Body.{layout_of, all, code_ok, present_ok, time_ok, zeros_ok, track_ok};
-ghost use Rattle.engine.specs.Body.{association_ok, observation_ok, index_ok, size, head_ok, body_of, body_refusal};
+ghost use Rattle.engine.specs.Body.{association_ok, observation_ok, index_ok, size, head_ok, tracks_ok, associations_ok, body_of, body_refusal};
 
 use bounds::{
     ASSOCIATION, ASSOCIATIONS, ENGINE, ENGINES, OBSERVATION, OBSERVATIONS, SENSORS, TIME,
 };
 use engine::body::Body;
+use engine::checked::CheckedBody;
 use engine::little;
 use engine::types::BodyKind;
 use refusals::Refusal;
@@ -32,20 +33,14 @@ fn code_ok(b: u8) -> bool
 fn present_ok(b: u8, v: u64) -> bool
     ensures { result ≡ present_ok b v }
 {
-    match b {
-        0 => v == 0,
-        1 => true,
-        2..=255 => false,
-    }
+    b == 1 || b == 0 && v == 0
 }
 
+// A time is near enough to the start of the clock.
 pub fn time_ok(t: i64) -> bool
     ensures { result ≡ time_ok t }
 {
-    if t < -TIME {
-        return false;
-    }
-    t <= TIME
+    -TIME <= t && t <= TIME
 }
 
 // ---- the header
@@ -93,32 +88,16 @@ fn sensors_most(tracks: usize) -> usize
 fn head_ok(b: &Body<'_>) -> bool
     ensures { result ≡ head_ok (layout_of b.now.kind) b.now.bytes.now }
 {
-    if b.bytes.len() < b.header_size() {
-        return false;
-    }
-    if !code_ok(b.bytes[0]) {
-        return false;
-    }
     let tracks = b.track_count();
-    if ENGINES < tracks {
-        return false;
-    }
-    if observations_most(b.kind) < b.observation_count() {
-        return false;
-    }
-    if associations_most(b.kind) < b.association_count() {
-        return false;
-    }
-    if sensors_most(tracks) < b.sensor_count() {
-        return false;
-    }
-    if !zeros_ok(b) {
-        return false;
-    }
-    if !time_ok(little::i64_at(b.bytes, 8)) {
-        return false;
-    }
-    b.bytes.len() == size_of(b)
+    b.header_size() <= b.bytes.len()
+        && code_ok(b.bytes[0])
+        && tracks <= ENGINES
+        && b.observation_count() <= observations_most(b.kind)
+        && b.association_count() <= associations_most(b.kind)
+        && b.sensor_count() <= sensors_most(tracks)
+        && zeros_ok(b)
+        && time_ok(little::i64_at(b.bytes, 8))
+        && b.bytes.len() == size_of(b)
 }
 
 // ---- the rows
@@ -127,22 +106,14 @@ fn track_ok(s: &[u8], o: usize) -> bool
     requires { o + ENGINE ≤ length s.now }
     ensures { result ≡ track_ok s.now o }
 {
-    if !present_ok(s[o + 12], little::u32_at(s, o + 8)) {
-        return false;
-    }
-    little::u24_at(s, o + 13) == 0
+    present_ok(s[o + 12], little::u32_at(s, o + 8)) && little::u24_at(s, o + 13) == 0
 }
 
 fn tracks_ok(s: &[u8], from: usize, n: usize) -> bool
     requires { from + ENGINE * n ≤ length s.now }
     ensures { result ≡ all (λ i. track_ok s.now (from + ENGINE * i)) n }
 {
-    for i in 0..n {
-        if !track_ok(s, from + ENGINE * i) {
-            return false;
-        }
-    }
-    true
+    (0..n).all(|i| track_ok(s, from + ENGINE * i))
 }
 
 // With an index of one byte.
@@ -150,16 +121,10 @@ fn narrow_association_ok(s: &[u8], o: usize) -> bool
     requires { o + ASSOCIATION ≤ length s.now }
     ensures { result ≡ association_ok 1 s.now o }
 {
-    if !present_ok(s[o + 1], little::u64_at(s, o + 8)) {
-        return false;
-    }
-    if !code_ok(s[o + 2]) {
-        return false;
-    }
-    if !present_ok(s[o + 3], little::u64_at(s, o + 16)) {
-        return false;
-    }
-    little::u32_at(s, o + 4) == 0
+    present_ok(s[o + 1], little::u64_at(s, o + 8))
+        && code_ok(s[o + 2])
+        && present_ok(s[o + 3], little::u64_at(s, o + 16))
+        && little::u32_at(s, o + 4) == 0
 }
 
 fn association_ok(b: &Body<'_>, o: usize) -> bool
@@ -175,37 +140,23 @@ fn associations_ok(b: &Body<'_>, from: usize, n: usize) -> bool
     requires { from + ASSOCIATION * n ≤ length b.now.bytes.now }
     ensures { result ≡ all (λ j. association_ok (layout_of b.now.kind).width b.now.bytes.now (from + ASSOCIATION * j)) n }
 {
-    for j in 0..n {
-        if !association_ok(b, from + ASSOCIATION * j) {
-            return false;
-        }
-    }
-    true
+    (0..n).all(|j| association_ok(b, from + ASSOCIATION * j))
 }
 
 fn observation_ok(s: &[u8], o: usize) -> bool
     requires { o + OBSERVATION ≤ length s.now }
     ensures { result ≡ observation_ok s.now o }
 {
-    if !bits::is_finite(little::f64_at(s, o)) {
-        return false;
-    }
-    if !bits::is_finite(little::f64_at(s, o + 8)) {
-        return false;
-    }
-    bits::is_finite(little::f64_at(s, o + 16))
+    bits::is_finite(little::f64_at(s, o))
+        && bits::is_finite(little::f64_at(s, o + 8))
+        && bits::is_finite(little::f64_at(s, o + 16))
 }
 
 fn observations_ok(s: &[u8], from: usize, n: usize) -> bool
     requires { from + OBSERVATION * n ≤ length s.now }
     ensures { result ≡ all (λ i. observation_ok s.now (from + OBSERVATION * i)) n }
 {
-    for i in 0..n {
-        if !observation_ok(s, from + OBSERVATION * i) {
-            return false;
-        }
-    }
-    true
+    (0..n).all(|i| observation_ok(s, from + OBSERVATION * i))
 }
 
 // The index of the association at place o.
@@ -226,10 +177,7 @@ fn indices_ok(b: &Body<'_>, from: usize, n: usize, m: usize) -> bool
     let mut seen = [false; OBSERVATIONS];
     for j in 0..m {
         let x = index_at(b, from + ASSOCIATION * j);
-        if n <= x {
-            return false;
-        }
-        if seen[x] {
+        if n <= x || seen[x] {
             return false;
         }
         seen[x] = true;
@@ -237,27 +185,33 @@ fn indices_ok(b: &Body<'_>, from: usize, n: usize, m: usize) -> bool
     true
 }
 
-// Whether bytes are a frame's body; or the refusal that they get, in the table's order: 5, 6 or 7.
-pub fn check_body(b: &Body<'_>) -> Result<(), Refusal>
-    ensures { refused result ≡ body_refusal (body_of b.now) }
+// The head, the tracks and the associations are well formed: else refusal 5.
+fn frame_ok(b: &Body<'_>) -> bool
+    ensures { let k = layout_of b.now.kind in let s = b.now.bytes.now in result ≡ head_ok k s && (tracks_ok k s && associations_ok k s) }
 {
-    if !head_ok(b) {
-        return Err(Refusal::Frame);
-    }
-    if !tracks_ok(b.bytes, b.header_size(), b.track_count()) {
-        return Err(Refusal::Frame);
-    }
-    let from = b.associations_from();
-    let associations = b.association_count();
-    if !associations_ok(b, from, associations) {
+    head_ok(b)
+        && tracks_ok(b.bytes, b.header_size(), b.track_count())
+        && associations_ok(b, b.associations_from(), b.association_count())
+}
+
+// The bytes, checked, if they are a frame's body; or the refusal that they get, in the table's order: 5, 6 or 7.
+pub fn check_body<'a>(b: &Body<'a>) -> Result<CheckedBody<'a>, Refusal>
+    ensures { MatchResult result (λ c. c.body ≡ b.now) (λ e. number_of e ≡ body_refusal (body_of b.now)) }
+{
+    if !frame_ok(b) {
         return Err(Refusal::Frame);
     }
     let observations = b.observation_count();
     if !observations_ok(b.bytes, b.observations_from(), observations) {
         return Err(Refusal::Coordinate);
     }
-    if !indices_ok(b, from, observations, associations) {
+    if !indices_ok(
+        b,
+        b.associations_from(),
+        observations,
+        b.association_count(),
+    ) {
         return Err(Refusal::Index);
     }
-    Ok(())
+    Ok(CheckedBody { body: *b })
 }

@@ -14,7 +14,7 @@ use lib.Ieee.{Float}
 use mir.Syntax.{w64}
 use mir.Val.{to_z, of_z}
 use mir.Facts.{to_z-of_z}
-use Rattle.bounds.specs.Bounds.{ACCEPTED, DETECTIONS, FROZEN, OWNED}
+use Rattle.bounds.specs.Bounds.{DETECTIONS, FROZEN}
 use Rattle.engine.specs.declared.config.FgoConfig.{FgoConfig}
 use Rattle.engine.specs.declared.types.Association.{Association}
 use Rattle.engine.specs.Frame.{Frame}
@@ -167,22 +167,19 @@ module _ (r : FixedLagRefiner) (m : Memory) (ready : Ready r m) (some : 1 ≤ r.
 
     -- ---- after forgetting
 
-    pub forgets : {time : ℤ} → time ≡ s.frame.time → (n + 1 + (r.held - 1) ≤ ACCEPTED + 1) × PartsOk time tracks filters frozen
-    forgets e = (omega (arith, ready.early, some), parts e)
+    pub forgets : {time : ℤ} → time ≡ s.frame.time → PartsOk time tracks filters frozen
+    forgets e = parts e
 
     module _ (tracks' : List ℕ) (filters' : List Float) (kept : ℕ) {time : ℤ} (e : time ≡ s.frame.time) (forgot : table_in tracks' filters' kept ≡ remember r.config time ss (table_in tracks filters frozen)) where
       -- the frozen parts that stay
       left : table_in tracks' filters' kept ≡ remember r.config s.frame.time ss fs
       left = forgot ∙ ap (λ t. remember r.config t ss (table_in tracks filters frozen)) e ∙ ap (remember r.config s.frame.time ss) froze
 
-      kept-few : kept ≤ FROZEN
+      pub kept-few : kept ≤ FROZEN
       unfolding remember
       kept-few = omega (arith, frozen-few, ap length left, table_long tracks' filters' kept, count-le (freezing.kept r.config s.frame.time ss) fs)
 
       -- ---- the owners
-
-      pub keeps : (n + 1 + (r.held - 1) ≤ ACCEPTED + 1) × (kept ≤ FROZEN) × (r.owned ≤ OWNED)
-      keeps = ((forgets refl).0, kept-few, ready.owners)
 
       module _ (owners' : List ℕ) (owned : ℕ) (alive : owners_in owners' owned ≡ kept_owners m.scans.bodies m.scans.columns (n + 1) (r.held - 1) tracks' kept (owners_in m.owners r.owned)) where
         owners-left : owners_in owners' owned ≡ live_owners (table_in tracks' filters' kept) ss (owners_in m.owners r.owned)

@@ -46,9 +46,10 @@ pub fn open(config: FgoConfig) -> Result<FixedLagRefiner, Refusal>
     ensures { opening_of result ≡ opened_by (open_refusal config) (new_by config) }
 {
     if config.is_legal() {
-        return Ok(new(config));
+        Ok(new(config))
+    } else {
+        Err(Refusal::Setting)
     }
-    Err(Refusal::Setting)
 }
 
 // ---- the oldest scan leaves
@@ -72,16 +73,10 @@ fn freeze_oldest(
     let time = scans.body(n).time();
     r.first = ScanIndex(n.0 + 1);
     r.held -= 1;
-    r.frozen = fgo_freeze::forget(
-        r.config,
-        time,
-        scans,
-        r.first,
-        r.held,
-        &mut memory.parts,
-        many,
-    );
-    r.owned = own::keep_owners(r, scans, &memory.parts, &mut memory.owners);
+    let held = r.held_in(scans);
+    r.frozen = fgo_freeze::forget(r.config, time, &held, &mut memory.parts, many);
+    let live = r.live_in(scans, &memory.parts.tracks);
+    r.owned = own::keep_owners(&live, r.owned, &mut memory.owners);
     Ok(Some(size))
 }
 

@@ -1,18 +1,18 @@
 -- What was gathered of the held scans is what the search asks, and ids put back are the search's scans. Assumes nothing.
-use Prim.Native.Nat.{ℕ, zero, suc, ◌+◌, ◌-◌, ◌*◌, ◌%◌, ◌≤◌, ◌<◌}
-use native.Mathlib.Nat.{zero-add, add-zero, mod-eq_of_lt}
+use Prim.Native.Nat.{ℕ, zero, suc, ◌+◌, ◌-◌, ◌%◌, ◌≤◌, ◌<◌}
+use native.Mathlib.Nat.{zero-add, mod-eq_of_lt}
 use native.Mathlib.Numerals.{add-one}
 use native.Mathlib.Omega.{arith}
 use mathlib.Core.Path.{◌≡◌, refl, sym, ap, ◌∙◌}
 use mathlib.Core.Bool.{Bool, true, false, cond}
-use mathlib.Core.List.{List, [], ◌∷◌, ◌++◌, map, flat_map}
+use mathlib.Core.List.{List, [], ◌∷◌, ◌++◌, map}
 use lib.ListN.{length, take, drop, get_or, length-append, length-map, get_or-append}
 use lib.Seq.{get_or-append-add, drop-drop, take-nil}
 use lib.Dec.{eqb, ltb, leb}
-use lib.Ieee.{Float, nan}
+use lib.Ieee.{Float}
 use borrow.Author.Tests.{leb-true, leb-false}
-use Rattle.bounds.specs.Bounds.{SCANS, DETECTIONS, FROZEN, DOT, DOTS}
-use Rattle.scalar.specs.Scalar.{seconds_of}
+use Rattle.std.proofs.lemmas.List.{get_or-map}
+use Rattle.bounds.specs.Bounds.{SCANS, DETECTIONS, FROZEN}
 use Rattle.engine.specs.declared.config.FgoConfig.{FgoConfig}
 use Rattle.engine.specs.declared.types.Association.{Association}
 use Rattle.engine.specs.Config.{legal}
@@ -20,7 +20,8 @@ use Rattle.engine.specs.Frame.{Frame, no_association}
 use Rattle.engine.specs.Body.{rows}
 use Rattle.engine.proofs.Passing.{length-rows}
 use Rattle.engine.proofs.Settings.{legal_tells}
-use Rattle.cost.specs.Cost.{measurement_at}
+use Rattle.cost.specs.declared.Dot.{Dot}
+use Rattle.cost.specs.Cost.{measurement_at, no_dot}
 use Rattle.fgo_spec.specs.declared.moves.FgoCounters.{FgoCounters}
 use Rattle.fgo_spec.specs.Lists.{keep, times, find, found_if}
 use Rattle.fgo_spec.specs.Windows as windows
@@ -39,13 +40,12 @@ use Rattle.fgo_spec.proofs.Spreads.{above}
 use Rattle.buffers.specs.Buffers.{over}
 use Rattle.fgo_part.specs.Parts.{part_id, prefix_in, entry_in, table_in}
 use Rattle.fgo_state.specs.Memory.{body_at, scan_in, scans_in}
-use Rattle.fgo_state.specs.Gathering.{HeldDetection, gathered_in, gathered, held_numbers, dots_of, found_in, found_of, HeldScans, GatheredAll, spread_all, Scattered}
+use Rattle.fgo_state.specs.Gathering.{HeldDetection, gathered_in, gathered, dot_of, held_dot, dots_of, found_in, found_of, HeldScans, GatheredAll, spread_all, Scattered}
 use Rattle.buffers.proofs.Over.{length_over, over_in}
 use Rattle.fgo_state.proofs.LatestGathered.{Each}
 use Rattle.fgo_state.proofs.GatheredScans as scans
 use Rattle.fgo_state.proofs.GatheredScans.{each_rows}
 use Rattle.fgo_state.proofs.HeldGathered.{ids_each, found_few_enough}
-use Rattle.fgo_state.proofs.GatheringScan.{numbers_long_lem}
 use Rattle.fgo_state.proofs.GatheringHeld.{found_one, found_next}
 
 -- ---- frozen parts
@@ -64,23 +64,13 @@ module _ (tracks : List ℕ) (filters : List Float) (x : ℕ) where
   part-among : (m : ℕ) → fold_among tracks filters m x ≡ windows.fold_from (find x (table_in tracks filters m))
   part-among m = part-from 0 m
 
--- ---- one of those gathered, and its numbers
+-- ---- one of those gathered, and its dot
 
--- the number b of the i-th
-numbers-at : (c : FgoConfig) (z : HeldDetection) (gs : List HeldDetection) (i b : ℕ) → i < length gs → b < DOT → get_or (dots_of c gs) (DOT * i + b) nan ≡ get_or (held_numbers c (get_or gs i z)) b nan
-unfolding flat_map
-numbers-at c z [] i b h k = absurd (omega arith)
-numbers-at c z (g ∷ gs) zero b h k = let e : DOT * 0 + b ≡ b = omega arith in rw e (get_or-append (held_numbers c g) (dots_of c gs) nan b k)
-numbers-at c z (g ∷ gs) (suc i) b h k =
-    let e : DOT * suc i + b ≡ length (held_numbers c g) + (DOT * i + b) = omega arith in
-    ap (λ (n : ℕ). get_or (dots_of c (g ∷ gs)) n nan) e ∙ get_or-append-add (held_numbers c g) (dots_of c gs) (DOT * i + b) nan ∙ numbers-at c z gs i b (omega arith) k
-
--- dot i of a scan, by its numbers
-det_at : (c : FgoConfig) (first k i : ℕ) (ds : List Float) (o : Detection) → i < DETECTIONS → ((b : ℕ) → b < DOT → get_or ds (DOT * i + b) nan ≡ get_or (o.x ∷ o.y ∷ noise c o ∷ seconds_of o.time ∷ []) b nan) → first + k ≡ o.scan → measurement_at (record { first = first; dots = ds }) k i ≡ measure c o
+-- dot i of a scan
+det_at : (c : FgoConfig) (first k i : ℕ) (ds : List Dot) (o : Detection) → i < DETECTIONS → get_or ds i no_dot ≡ dot_of c o → first + k ≡ o.scan → measurement_at (record { first = first; dots = ds }) k i ≡ measure c o
 det_at c first k i ds o l e s =
-    let x : get_or ds (DOT * i) nan ≡ o.x = ap (λ (m : ℕ). get_or ds m nan) (sym (add-zero (DOT * i))) ∙ e 0 (omega arith) in
     let m : i % DETECTIONS ≡ i = mod-eq_of_lt l in
-    rw (m, x, e 1 (omega arith), e 2 (omega arith), e 3 (omega arith), s)
+    rw (m, e, s) refl
 
 -- the j-th of a scan is the j-th association that lies in a window
 module _ (n : ℕ) (f : Frame) (z : HeldDetection) where
@@ -136,7 +126,7 @@ module _ (bodies columns : List ℕ) (first held n : ℕ) (is es is' es' ts' : L
   pub starts_gathered : Starts ts'
   starts_gathered = record { long = g.long; rises = starts_rise; ends = omega (arith, g.beyond SCANS h.few (omega arith), few) }
 
-  pub able : (c : FgoConfig) (frozen : ℕ) → frozen ≤ FROZEN → (ds : List Float) (tracks : List ℕ) (filters : List Float) → Able (scene_of (record { config = c; first = record { 0 = first }; detections = n; frozen = frozen }) ts' ds tracks filters)
+  pub able : (c : FgoConfig) (frozen : ℕ) → frozen ≤ FROZEN → (ds : List Dot) (tracks : List ℕ) (filters : List Float) → Able (scene_of (record { config = c; first = record { 0 = first }; detections = n; frozen = frozen }) ts' ds tracks filters)
   able c frozen l ds tracks filters = record { early = omega (arith, h.early); gathered = few; frozen = l; starts = starts_gathered }
 
   pub ids_long : length is ≡ DETECTIONS → length is' ≡ DETECTIONS
@@ -145,16 +135,16 @@ module _ (bodies columns : List ℕ) (first held n : ℕ) (is es is' es' ts' : L
       let e : length (over 0 k is) ≡ length is = length_over 0 k is (omega (arith, length-map (found_of bodies columns first held) (λ x. x.id), found_few_enough bodies columns first held n is es is' es' ts' h g)) in
       ap length g.scans.ids ∙ e ∙ l
 
-  module _ (c : FgoConfig) (ds ds' : List Float) (wide : length ds ≡ DOTS) (d : ds' ≡ over 0 (dots_of c (found_of bodies columns first held)) ds) where
-    -- the numbers of the i-th of those gathered
-    number_at : (z : HeldDetection) (i b : ℕ) → i < length (found_of bodies columns first held) → b < DOT → get_or ds' (DOT * i + b) nan ≡ get_or (held_numbers c (get_or (found_of bodies columns first held) i z)) b nan
-    number_at z i b l k =
+  module _ (c : FgoConfig) (ds ds' : List Dot) (wide : length ds ≡ DETECTIONS) (d : ds' ≡ over 0 (dots_of c (found_of bodies columns first held)) ds) where
+    -- the dot of the i-th of those gathered
+    gathered_dot : (z : HeldDetection) (i : ℕ) → i < length (found_of bodies columns first held) → get_or ds' i no_dot ≡ held_dot c (get_or (found_of bodies columns first held) i z)
+    gathered_dot z i l =
         let gs = found_of bodies columns first held in
-        let s = numbers_long_lem c gs in
-        ap (λ (t : List Float). get_or t (DOT * i + b) nan) d
-        ∙ ap (λ (m : ℕ). get_or (over 0 (dots_of c gs) ds) m nan) (sym (zero-add (DOT * i + b)))
-        ∙ over_in 0 (dots_of c gs) ds (omega (arith, found_few_enough bodies columns first held n is es is' es' ts' h g)) (DOT * i + b) nan (omega arith)
-        ∙ numbers-at c z gs i b l k
+        let s = length-map gs (held_dot c) in
+        ap (λ (t : List Dot). get_or t i no_dot) d
+        ∙ ap (λ (m : ℕ). get_or (over 0 (dots_of c gs) ds) m no_dot) (sym (zero-add i))
+        ∙ over_in 0 (dots_of c gs) ds (omega (arith, s, found_few_enough bodies columns first held n is es is' es' ts' h g)) i no_dot (omega (arith, s))
+        ∙ get_or-map (held_dot c) gs i z no_dot l
 
     -- the detections of the k-th scan
     dots-scan :
@@ -182,7 +172,7 @@ module _ (bodies columns : List ℕ) (first held n : ℕ) (is es is' es' ts' : L
         ∙ ap (λ (x : HeldDetection). x.dot) (get_or-append-add a (b ++ r) j z ∙ get_or-append b r z j size)
         ∙ picked-at (first + k) f z f.associations s.ids j q in
         det_at c first k i ds' (detection_of (first + k) f (get_or (picked s.ids f.associations) j no_association)) (omega (arith, found_few_enough bodies columns first held n is es is' es' ts' h g))
-        (λ x m. number_at z i x within m ∙ ap (λ (o : Detection). get_or (o.x ∷ o.y ∷ noise c o ∷ seconds_of o.time ∷ []) x nan) here)
+        (gathered_dot z i within ∙ ap (dot_of c) here)
         refl
 
     -- the search's record of it

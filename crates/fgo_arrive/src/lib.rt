@@ -5,16 +5,28 @@ ghost use Rattle.std.specs.Prelude.{◌≡◌};
 ghost use Rattle.engine.specs.Body.{body_of};
 ghost use Rattle.fgo_arrive.specs.Arriving.{SearchesHeld, SearchedHeld, Holds, HeldBy, Arrives, Arrived};
 
-use bounds::{ASSOCIATIONS, DETECTIONS, DOTS, OWNERS, STARTS};
-use cost_row::Hall;
+use bounds::{ASSOCIATIONS, DETECTIONS, OWNERS};
+use cost::Dot;
+use cost::prices::Prices;
 use engine::body::Body;
+use engine::checked::CheckedBody;
 use engine::types::ScanIndex;
+use fgo_place::placing::Placing;
 use fgo_place::{own, place};
 use fgo_state::scans::Scans;
 use fgo_state::state::{FixedLagRefiner, Memory};
 use fgo_state::{gather, scans};
 use search::pass;
+use search::scene::SceneRef;
 use search_rows::moves::Tally;
+
+// A dot that is not there yet.
+const NO_DOT: Dot = Dot {
+    x: 0.0,
+    y: 0.0,
+    r: 0.0,
+    t: 0.0,
+};
 
 // The search over the scans held: their columns and the owners are told anew.
 fn search_held(r: &FixedLagRefiner, m: &mut Memory) -> Tally
@@ -23,43 +35,45 @@ fn search_held(r: &FixedLagRefiner, m: &mut Memory) -> Tally
     ensures bodies { m.new.scans.bodies ≡ m.old.scans.bodies }
     ensures parts { m.new.parts ≡ m.old.parts }
 {
-    let mut ids = [0u64; DETECTIONS];
-    let mut engines = [0u64; DETECTIONS];
-    let mut starts = [0usize; STARTS];
-    let mut dots = [0.0; DOTS];
-    let detections = gather::gather(
-        &m.scans,
-        r.first,
-        r.held,
-        &mut ids,
-        &mut engines,
-        &mut starts,
-    );
-    gather::gather_dots(r.config, &m.scans, r.first, r.held, &mut dots);
-    let hall = Hall {
+    let held = r.held_in(&m.scans);
+    let mut gathered = held.gather();
+    // As it is: the ids are copied, and copied back. A part of a struct with a ghost field, lent by `&mut`, is not covered by the borrow checker.
+    let mut ids = gathered.ids;
+    let mut dots = [NO_DOT; DETECTIONS];
+    held.gather_dots(r.config, &mut dots);
+    let prices = Prices {
         config: r.config,
         first: r.first,
-        detections,
-        frozen: r.frozen,
+        dots: &dots,
     };
-    let t = pass::improve(
-        hall, r.next_id, r.counters, &starts, &dots, &m.parts, &mut ids,
-    );
-    gather::scatter(&mut m.scans, r.first, r.held, &ids);
-    own::hold_latest(&mut m.owners, r.owned, &ids, &engines, &starts, r.held);
+    let scene = SceneRef {
+        prices: &prices,
+        detections: gathered.count,
+        frozen: r.frozen,
+        starts: &gathered.starts,
+        parts: &m.parts,
+    };
+    let t = pass::improve(&scene, r.next_id, r.counters, &mut ids);
+    gathered.ids = ids;
+    gather::scatter(&mut m.scans, r.first, &gathered);
+    own::hold_latest(&mut m.owners, r.owned, &gathered);
     t
 }
 
 // A frame is placed, and held.
-fn hold(r: &mut FixedLagRefiner, b: &Body<'_>, scans: &mut Scans, owners: &mut [u64; OWNERS])
-    requires { Holds r.old (body_of b.now) }
-    ensures { HeldBy r.old (body_of b.now) scans.old.bodies scans.old.columns owners.old r.new scans.new.bodies scans.new.columns owners.new }
+fn hold(r: &mut FixedLagRefiner, b: &CheckedBody<'_>, scans: &mut Scans, owners: &mut [u64; OWNERS])
+    requires { Holds r.old (body_of b.now.body) }
+    ensures { HeldBy r.old (body_of b.now.body) scans.old.bodies scans.old.columns owners.old r.new scans.new.bodies scans.new.columns owners.new }
 {
     scans.typed();
     let mut ids = [0u64; ASSOCIATIONS];
-    let p = place::place_all(b, r.owned, r.next_id, owners, &mut ids);
+    let begun = Placing {
+        owned: r.owned,
+        next_id: r.next_id,
+    };
+    let p = place::place_all(b, begun, owners, &mut ids);
     let n = ScanIndex(r.first.0 + r.held as u64);
-    scans.put(n, b, &ids[..b.association_count()]);
+    scans.put(n, &b.body, &ids[..b.body.association_count()]);
     r.held += 1;
     r.owned = p.owned;
     r.next_id = p.next_id;
@@ -74,9 +88,11 @@ pub fn arrive(r: &mut FixedLagRefiner, b: &Body<'_>, m: &mut Memory)
 {
     m.scans.typed();
     let _bytes = scans::are_bytes(b.bytes);
-    hold(r, b, &mut m.scans, &mut m.owners);
+    let checked = CheckedBody { body: *b };
+    hold(r, &checked, &mut m.scans, &mut m.owners);
     let t = search_held(r, m);
     r.next_id = t.next_id;
     r.counters = t.counters;
-    r.owned = own::keep_owners(r, &m.scans, &m.parts, &mut m.owners);
+    let live = r.live_in(&m.scans, &m.parts.tracks);
+    r.owned = own::keep_owners(&live, r.owned, &mut m.owners);
 }

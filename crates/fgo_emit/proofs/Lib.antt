@@ -1,3 +1,5 @@
 pub mod Associations
 pub mod Listing
 pub mod Framing
+pub mod Filling
+pub mod Summing

@@ -1,7 +1,6 @@
 -- The tracks that a frame lists, one frozen part more, in words and in numbers. Assumes nothing.
 use Rattle.std.proofs.Common.{◌≡◌, ℕ, suc, ◌+◌, ◌*◌, ◌≤◌, Bool, true, false, List, [], ◌∷◌, ◌++◌, map, length, ℤ, ◌-ℤ◌, sym, refl, ap, ◌∙◌, append_assoc, append-nil, zero-add, add-one, arith, length-append}
 use mathlib.Core.List.{flat_map, map-append}
-use lib.ListN.{length-map}
 use lib.Signed.{le_z}
 use lib.Ieee.{Float}
 use Rattle.bounds.specs.Bounds.{HEAD, TRACK, STATE}
@@ -12,12 +11,11 @@ use Rattle.fgo_spec.specs.Windows.{Prefix}
 use Rattle.fgo_spec.specs.Lists.{cons_if, keep}
 use Rattle.fgo_spec.specs.Freezing.{listable}
 use Rattle.fgo_spec.specs.Emitting.{Listed, report, listing, track_words, track_numbers}
-use Rattle.fgo_spec.proofs.Counting.{keep_append, count-le}
+use Rattle.fgo_spec.proofs.Counting.{keep_append}
 use Rattle.buffers.specs.Buffers.{over}
 use Rattle.fgo_part.specs.Parts.{prefix_in, entry_in, table_in, part_last_ns}
 use Rattle.fgo_emit.specs.Writing.{report_in, PutTrack}
 use Rattle.engine.proofs.Laid.{length-flat}
-use Rattle.engine.proofs.Passing.{length-rows}
 use Rattle.fgo_spec.proofs.Rows.{rows_more}
 use Rattle.buffers.proofs.Writes.{WrittenOver, written_none, written-more, written_same}
 
@@ -61,13 +59,6 @@ module _ (c : FgoConfig) (time : ℤ) (tracks : List ℕ) (filters : List Float)
 
   listed_same : (k : ℕ) → passes k ≡ false → listed (suc k) ≡ listed k
   listed_same k h = one_more_lem k ∙ ap (λ (b : Bool). listed k ++ map reported (cons_if b (entry_in tracks filters k) [])) h ∙ append-nil (listed k)
-
-  pub listed_few : (k : ℕ) → length (listed k) ≤ k
-  unfolding listing
-  listed_few k =
-      let few = count-le (listable c time) (table_in tracks filters k) in
-      let e = length-map (keep (listable c time) (table_in tracks filters k)) reported in
-      omega (arith, length-rows (entry_in tracks filters) 0 k)
 
   -- where the listed ones of the first k parts, i of them, were written
   pub record Puts (k i : ℕ) (ws : List ℕ) (ns : List Float) (ws' : List ℕ) (ns' : List Float) : Type 0 where

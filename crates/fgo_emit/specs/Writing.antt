@@ -75,7 +75,8 @@ emitted_in c bodies columns n tracks filters frozen =
     record { scan = s; tracks = listing c s.frame.time (table_in tracks filters frozen) }
 
 -- what writing it asks
-pub record PutsFrame (bodies columns : List ℕ) (n : ℕ) (tracks : List ℕ) (filters : List Float) (frozen : ℕ) (ws : List ℕ) (ns : List Float) : Type 0 where
+pub record PutsFrame (bodies columns : List ℕ) (n : ℕ) (tracks : List ℕ) (filters : List Float) (frozen : ℕ) (ws : List ℕ)
+    (ns : List Float) : Type 0 where
   pub passes : body_refusal (body_at bodies columns n) ≡ 0
   pub parts : PartsOk (scan_in bodies columns n).frame.time tracks filters frozen
   pub room : Roomy ws ns

@@ -5,7 +5,7 @@ ghost use Rattle.std.specs.Prelude.{◌≡◌, ◌+◌, ◌*◌, ◌<◌, ◌≤
 ghost use Rattle.std.specs.Float.{nan};
 ghost use Rattle.bounds.specs.Bounds.{FROZEN, HEIGHTS, HEAD, LINK, VECTOR};
 ghost use Rattle.engine.specs.Config.{coast};
-ghost use Rattle.engine.specs.Body.{body_of, time_ok, frame_in, body_refusal, sensors_in, associations_in};
+ghost use Rattle.engine.specs.Body.{body_of, time_ok, frame_in, sensors_in, associations_in};
 ghost use Rattle.engine.specs.Encode.{cost_present};
 ghost use Rattle.fgo_spec.specs.Freezing as freezing;
 ghost use Rattle.fgo_spec.specs.Emitting as spec;
@@ -16,10 +16,10 @@ ghost use Rattle.fgo_emit.specs.Writing.{Lists, report_in, PutsTrack, PutTrack, 
 
 use bounds::{HEAD, HEIGHTS, LINK, PARTS, STATE, TRACK, VECTOR};
 use buffers::{FrameSize, put};
-use engine::body::Body;
+use engine::checked::CheckedBody;
 use engine::config::FgoConfig;
-use engine::types::{Association, BodyKind, RefinedId, ScanIndex};
-use fgo_part::{FrozenParts, Prefix, class_word, part_id, part_last_ns};
+use engine::types::{Association, BodyKind, Outcome, RefinedId, ScanIndex};
+use fgo_part::{FrozenParts, Prefix, class_word, part_id};
 use fgo_state::scans::Scans;
 use kf::filter::Kf;
 use scalar::bits;
@@ -31,20 +31,14 @@ fn mean(hs: [f64; HEIGHTS], n: usize) -> f64
     requires { n ≤ HEIGHTS }
     ensures { result ≡ freezing.mean (cells nan hs 0 n) }
 {
-    if n == 0 {
-        return 0.0;
-    }
-    let mut sum = hs[0];
-    for i in 1..n {
-        sum += hs[i];
-    }
-    sum / std::num::nearest_u64_to_f64(n as u64)
+    let sum = hs[..n].iter().copied().reduce(|sum, h| sum + h);
+    sum.map_or(0.0, |sum| sum / std::num::nearest_u64_to_f64(n as u64))
 }
 
 fn lifecycle(count: u64) -> u64
     ensures { result ≡ spec.lifecycle count }
 {
-    if 2 <= count { 1 } else { 0 }
+    u64::from(2 <= count)
 }
 
 // The words of a listed track.
@@ -63,6 +57,7 @@ fn track_words(c: FgoConfig, time: i64, id: RefinedId, p: Prefix) -> [u64; TRACK
 }
 
 // Where an entry of the covariance stands among the numbers of a listed track: by rows, after position and velocity.
+// As it is, here and below: numbers at a place by row and column, and no matrix: by rows in one list is the published format of an emitted frame.
 fn entry(row: usize, column: usize) -> usize
     requires { (row < VECTOR) × (column < VECTOR) }
     ensures { result ≡ VECTOR + VECTOR * row + column }
@@ -127,7 +122,7 @@ fn is_listed(c: FgoConfig, time: i64, tracks: &[u64; PARTS], k: usize) -> bool
     requires { (k < FROZEN) × (time_ok time ≡ true) × (time_ok (part_last_ns tracks.now k) ≡ true) }
     ensures { result ≡ int_le (time -ℤ part_last_ns tracks.now k) (coast c) }
 {
-    fgo_freeze::age_of(time, part_last_ns(tracks, k)) <= c.coast_ns
+    fgo_freeze::part_age(time, tracks, k) <= c.coast_ns
 }
 
 // The listed tracks; how many they are.
@@ -159,39 +154,27 @@ fn put_tracks(
 fn cost_present(k: Option<f64>) -> u64
     ensures { result ≡ cost_present k }
 {
-    match k {
-        None => 0,
-        Some(_) => 1,
-    }
-}
-
-fn cost_number(k: Option<f64>) -> f64
-    ensures { result ≡ spec.cost_number k }
-{
-    match k {
-        None => 0.0,
-        Some(v) => v,
-    }
+    u64::from(k.is_some())
 }
 
 // The words of an association under an id, 0 for none.
 fn association_words(a: Association, id: RefinedId) -> [u64; LINK]
     ensures { result ≡ spec.association_words a id.0 }
 {
-    let present = cost_present(a.cost);
-    let place = a.index.0 as u64;
-    if id.0 == 0 {
-        return [place, 0, 2, present];
-    }
-    [place, id.0, u64::from(a.outcome), present]
+    let outcome = if id.0 == 0 {
+        u64::from(Outcome::Unmatched)
+    } else {
+        u64::from(a.outcome)
+    };
+    [a.index.0 as u64, id.0, outcome, cost_present(a.cost)]
 }
 
 // The associations of a scan, from place o on.
-fn put_associations(b: &Body<'_>, scans: &Scans, n: ScanIndex, words: &mut [u64], o: usize)
-    requires { (body_refusal (body_of b.now) ≡ 0) × (o + LINK * associations_in (body_of b.now) ≤ length words.old) }
-    ensures { words.new ≡ over o (links_in scans.now.columns n.0 (body_of b.now)) words.old }
+fn put_associations(b: &CheckedBody<'_>, scans: &Scans, n: ScanIndex, words: &mut [u64], o: usize)
+    requires { o + LINK * associations_in (body_of b.now.body) ≤ length words.old }
+    ensures { words.new ≡ over o (links_in scans.now.columns n.0 (body_of b.now.body)) words.old }
 {
-    for j in 0..b.association_count() {
+    for j in 0..b.body.association_count() {
         let a = b.association(j);
         put(
             words,
@@ -202,44 +185,48 @@ fn put_associations(b: &Body<'_>, scans: &Scans, n: ScanIndex, words: &mut [u64]
 }
 
 // The costs of a scan's associations, from place o on.
-fn put_costs(b: &Body<'_>, numbers: &mut [f64], o: usize)
-    requires { (body_refusal (body_of b.now) ≡ 0) × (o + associations_in (body_of b.now) ≤ length numbers.old) }
-    ensures { numbers.new ≡ over o (costs_in (body_of b.now)) numbers.old }
+fn put_costs(b: &CheckedBody<'_>, numbers: &mut [f64], o: usize)
+    requires { o + associations_in (body_of b.now.body) ≤ length numbers.old }
+    ensures { numbers.new ≡ over o (costs_in (body_of b.now.body)) numbers.old }
 {
-    for j in 0..b.association_count() {
-        numbers[o + j] = cost_number(b.association(j).cost);
+    for (j, x) in numbers[o..o + b.body.association_count()]
+        .iter_mut()
+        .enumerate()
+    {
+        *x = b.association(j).cost.unwrap_or(0.0);
     }
 }
 
 // The sensors of a scan, from place o on.
-fn put_sensors(b: &Body<'_>, words: &mut [u64], o: usize)
-    requires { (body_refusal (body_of b.now) ≡ 0) × (o + sensors_in (body_of b.now) ≤ length words.old) }
-    ensures { words.new ≡ over o (frame_in (body_of b.now)).sensors words.old }
+fn put_sensors(b: &CheckedBody<'_>, words: &mut [u64], o: usize)
+    requires { o + sensors_in (body_of b.now.body) ≤ length words.old }
+    ensures { words.new ≡ over o (frame_in (body_of b.now.body)).sensors words.old }
 {
-    for i in 0..b.sensor_count() {
-        words[o + i] = b.sensor(i);
+    for (i, w) in words[o..o + b.body.sensor_count()].iter_mut().enumerate() {
+        *w = b.sensor(i);
     }
 }
 
 // ---- the frame
 
 // The words before the tracks.
-fn put_head(b: &Body<'_>, tracks: usize, words: &mut [u64])
-    requires { (body_refusal (body_of b.now) ≡ 0) × (HEAD ≤ length words.old) }
-    ensures { words.new ≡ over 0 (head_in (body_of b.now) tracks) words.old }
+fn put_head(b: &CheckedBody<'_>, tracks: usize, words: &mut [u64])
+    requires { HEAD ≤ length words.old }
+    ensures { words.new ≡ over 0 (head_in (body_of b.now.body) tracks) words.old }
 {
     let ws = [
         bits::to_word(b.time()),
-        u64::from(b.mode()),
+        u64::from(b.body.mode()),
         tracks as u64,
-        b.association_count() as u64,
-        b.sensor_count() as u64,
+        b.body.association_count() as u64,
+        b.body.sensor_count() as u64,
         0,
     ];
     put(words, 0, &ws);
 }
 
 // The frame of scan n, after its detections were frozen. The body must pass, all times be in bounds, and the buffers have room.
+// As it is: words and numbers are two arguments. A struct of both was tried: once they are lent to it, no fact says what they hold afterwards.
 pub fn put_frame(
     c: FgoConfig,
     scans: &Scans,
@@ -253,16 +240,18 @@ pub fn put_frame(
     ensures { PutFrame (emitted_in c scans.now.bodies scans.now.columns n.0 parts.now.tracks parts.now.filters frozen) result words.old
         numbers.old words.new numbers.new }
 {
-    let b = scans.body(n);
+    let b = CheckedBody {
+        body: scans.body(n),
+    };
     let t = put_tracks(c, b.time(), parts, frozen, words, numbers);
     put_head(&b, t, words);
     let a = HEAD + TRACK * t;
-    let count = b.association_count();
+    let count = b.body.association_count();
     put_associations(&b, scans, n, words, a);
     put_sensors(&b, words, a + LINK * count);
     put_costs(&b, numbers, STATE * t);
     FrameSize {
-        words: a + LINK * count + b.sensor_count(),
+        words: a + LINK * count + b.body.sensor_count(),
         numbers: STATE * t + count,
     }
 }

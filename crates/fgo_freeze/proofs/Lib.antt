@@ -1,7 +1,6 @@
 pub mod Times
 pub mod Heights
 pub mod Classes
-pub mod Places
 pub mod Raising
 pub mod Table
 pub mod Order

@@ -1,41 +1,63 @@
--- Frozen parts moved up by one, from the last on. Assumes nothing.
-use Prim.Native.Nat.{ℕ, suc, ◌-◌, ◌≤◌, ◌<◌}
+-- Frozen parts moved up by one. Assumes nothing.
+use Prim.Native.Nat.{ℕ, suc, ◌+◌, ◌-◌, ◌*◌, ◌≤◌, ◌<◌}
+use native.Mathlib.Omega.{arith}
 use mathlib.Core.Path.{◌≡◌, refl, ap, ◌∙◌}
 use mathlib.Core.List.{List}
-use native.Mathlib.Omega.{arith}
-use lib.Ieee.{Float}
-use borrow.Author.Tests.{ltb-true, ltb-false}
-use mathlib.Core.Bool.{Bool, true, false}
-use lib.Dec.{ltb}
-use Rattle.fgo_part.specs.Parts.{entry_in, Copied}
+use lib.ListN.{length, get_or}
+use lib.Ieee.{Float, nan}
+use Rattle.std.specs.List.{copy_within}
+use Rattle.bounds.specs.Bounds.{FROZEN, PART, PARTS, FILTER, FILTERS}
+use Rattle.buffers.specs.Buffers.{over}
+use Rattle.buffers.proofs.Over.{over-before, over_in}
+use Rattle.fgo_spec.specs.Lists.{segment}
+use Rattle.fgo_part.proofs.Parts.{copy_over, segment_long, segment-at, entry_same}
 use Rattle.fgo_freeze.specs.Frozen.{Raised}
 
--- the parts from i on, of n, have moved up
-pub record Raising (n : ℕ) (t : List ℕ) (f : List Float) (i : ℕ) (t' : List ℕ) (f' : List Float) : Type 0 where
-  pub within : i ≤ n
-  pub below : (j : ℕ) → j ≤ i → entry_in t' f' j ≡ entry_in t f j
-  pub above : (j : ℕ) → i ≤ j → j < n → entry_in t' f' (suc j) ≡ entry_in t f j
+-- m entries from place o on, moved up by s
+module _ {A : Type 0} (l l' : List A) (d : A) (o m s : ℕ) (room : o + m + s ≤ length l) (e : l' ≡ copy_within l o (o + m) (o + s)) where
+  abbrev piece : List A
+  piece = segment o (o + m) l
 
-pub raising_none : (n : ℕ) (t : List ℕ) (f : List Float) → Raising n t f n t f
-raising_none n t f = record { within = omega arith; below = λ j h. refl; above = λ j h l. absurd (omega arith) }
+  long : length piece ≡ m
+  long = segment_long l o m (omega arith)
 
-module _ {n : ℕ} {t : List ℕ} {f : List Float} {i : ℕ} {t₁ : List ℕ} {f₁ : List Float} (r : Raising n t f i t₁ f₁) (p : 0 < i) {t₂ : List ℕ} {f₂ : List Float} (c : Copied (i - 1) i t₁ f₁ t₂ f₂) where
-  lifted : (j : ℕ) (b : Bool) → ltb (i - 1) j ≡ b → i - 1 ≤ j → j < n → entry_in t₂ f₂ (suc j) ≡ entry_in t f j
-  lifted j true q h l =
-      let ne : suc j ≡ i → ⊥ = λ (z : suc j ≡ i). omega (arith, ltb-true (i - 1) j q) in
-      c.others (suc j) ne ∙ r.above j (omega (arith, ltb-true (i - 1) j q)) l
-  lifted j false q h l =
-      let z : suc j ≡ i = omega (arith, ltb-false (i - 1) j q) in
-      let y : i - 1 ≡ j = omega arith in
-      ap (entry_in t₂ f₂) z ∙ c.here ∙ ap (entry_in t₁ f₁) y ∙ r.below j (omega arith)
+  fits : o + s + length piece ≤ length l
+  fits = omega (arith, long)
 
-  pub raising_more : Raising n t f (i - 1) t₂ f₂
-  raising_more =
-      record {
-        within = omega (arith, r.within);
-        below = λ j h. c.others j (λ (z : j ≡ i). omega arith) ∙ r.below j (omega arith);
-        above = λ j h l. lifted j (ltb (i - 1) j) refl h l;
-      }
+  is : l' ≡ over (o + s) piece l
+  is = e ∙ copy_over l o m (o + s) (omega arith)
 
-pub raising_done : {n k i : ℕ} {t : List ℕ} {f : List Float} {t' : List ℕ} {f' : List Float} → k ≤ i → i ≤ k → Raising n t f i t' f' → Raised k n t f t' f'
-raising_done h l r = record { below = λ j q. r.below j (omega arith); above = λ j q m. r.above j (omega arith) m }
+  stays : (i : ℕ) → i < o + s → get_or l' i d ≡ get_or l i d
+  stays i h = ap (λ z. get_or z i d) is ∙ over-before (o + s) piece l fits i d h
+
+  moves : (i j : ℕ) → o ≤ i → i < o + m → j ≡ i + s → get_or l' j d ≡ get_or l i d
+  moves i j h k q =
+      let p : j ≡ o + s + (i - o) = omega arith in
+      let r : o + (i - o) ≡ i = omega arith in
+      ap (λ z. get_or z j d) is
+      ∙ ap (λ (n : ℕ). get_or (over (o + s) piece l) n d) p
+      ∙ over_in (o + s) piece l fits (i - o) d (omega (arith, long))
+      ∙ segment-at l o m d (i - o) (omega arith)
+      ∙ ap (λ (n : ℕ). get_or l n d) r
+
+-- of words and of numbers
+pub raised :
+    (k n : ℕ) (t t' : List ℕ) (f f' : List Float) → k ≤ n → n < FROZEN → length t ≡ PARTS → length f ≡ FILTERS →
+    t' ≡ copy_within t (PART * k) (PART * n) (PART * (k + 1)) → f' ≡ copy_within f (FILTER * k) (FILTER * n) (FILTER * (k + 1)) → Raised k n t f t' f'
+raised k n t t' f f' h few wide deep et ef =
+    let a : PART * n ≡ PART * k + PART * (n - k) = omega arith in
+    let b : PART * (k + 1) ≡ PART * k + PART = omega arith in
+    let x : FILTER * n ≡ FILTER * k + FILTER * (n - k) = omega arith in
+    let y : FILTER * (k + 1) ≡ FILTER * k + FILTER = omega arith in
+    let u : t' ≡ copy_within t (PART * k) (PART * k + PART * (n - k)) (PART * k + PART) = et ∙ rw (a, b) refl in
+    let v : f' ≡ copy_within f (FILTER * k) (FILTER * k + FILTER * (n - k)) (FILTER * k + FILTER) = ef ∙ rw (x, y) refl in
+    let p : PART * k + PART * (n - k) + PART ≤ length t = omega arith in
+    let q : FILTER * k + FILTER * (n - k) + FILTER ≤ length f = omega arith in
+    record {
+      below = λ j l. entry_same t f j t' f' j
+          (λ i r. stays t t' 0 (PART * k) (PART * (n - k)) PART p u (PART * j + i) (omega arith))
+          (λ i r. stays f f' nan (FILTER * k) (FILTER * (n - k)) FILTER q v (FILTER * j + i) (omega arith));
+      above = λ j l m. entry_same t f j t' f' (suc j)
+          (λ i r. moves t t' 0 (PART * k) (PART * (n - k)) PART p u (PART * j + i) (PART * suc j + i) (omega arith) (omega arith) (omega arith))
+          (λ i r. moves f f' nan (FILTER * k) (FILTER * (n - k)) FILTER q v (FILTER * j + i) (FILTER * suc j + i) (omega arith) (omega arith) (omega arith));
+    }

@@ -4,20 +4,20 @@
 ghost use Rattle.std.specs.Prelude.{◌≡◌, true, [], ◌∷◌, ◌++◌, ◌+◌, ◌<◌, ◌≤◌, ◌-ℤ◌, None};
 ghost use Rattle.std.proofs.Math.Option.{none, some};
 ghost use Rattle.std.specs.Float.{nan};
-ghost use Rattle.bounds.specs.Bounds.{ACCEPTED, FROZEN, HEIGHTS};
+ghost use Rattle.bounds.specs.Bounds.{FROZEN, HEIGHTS};
 ghost use Rattle.engine.specs.Body.{body_of, time_ok, frame_in, body_refusal};
-ghost use Rattle.fgo_spec.specs.Lists.{place_in};
 ghost use Rattle.fgo_spec.specs.Windows.{class_among, class_for};
 ghost use Rattle.fgo_spec.specs.Freezing as spec;
-ghost use Rattle.fgo_part.specs.Parts.{cells, prefix_of, table_in, part_ids, part_last_ns};
+ghost use Rattle.fgo_part.specs.Parts.{cells, prefix_of, table_in, part_last_ns};
 ghost use Rattle.fgo_state.specs.Memory.{scan_in, scans_in};
 ghost use Rattle.fgo_freeze.specs.Frozen.{detection_by, seen_in, height_count_after, Moves, Raised, frozen_by, Freezes, FreezesScan, kept_in, PartsOk};
 
-use bounds::{HEIGHTS, PARTS};
-use engine::body::Body;
+use bounds::{FILTER, HEIGHTS, PART, PARTS};
+use engine::checked::CheckedBody;
 use engine::config::FgoConfig;
 use engine::types::{EngineId, RefinedId, ScanIndex};
-use fgo_part::{FrozenParts, Prefix, part_id, part_last_ns};
+use fgo_part::{FrozenParts, FrozenTracks, Prefix, part_id, part_last_ns};
+use fgo_state::held::HeldRef;
 use fgo_state::scans::Scans;
 use kf::filter::Kf;
 use scalar::bits;
@@ -36,30 +36,25 @@ pub struct Detection {
 // ---- what a frame says of an association
 
 // The class of the last engine track of a frame with this id.
-fn class_among(b: &Body<'_>, e: EngineId) -> Option<u32>
-    ensures { body_refusal (body_of b.now) ≡ 0 → result ≡ class_among e.0 None (frame_in (body_of b.now)).tracks }
+fn class_among(b: &CheckedBody<'_>, e: EngineId) -> Option<u32>
+    ensures { result ≡ class_among e.0 None (frame_in (body_of b.now.body)).tracks }
 {
-    for i in (0..b.track_count()).rev() {
-        let t = b.track(i);
-        if t.id == e {
-            return t.class;
-        }
-    }
-    None
+    (0..b.body.track_count())
+        .rev()
+        .map(|i| b.track(i))
+        .find(|t| t.id == e)
+        .and_then(|t| t.class)
 }
 
-fn class_for(b: &Body<'_>, a: Option<EngineId>) -> Option<u32>
-    ensures { body_refusal (body_of b.now) ≡ 0 → result ≡ class_for a (frame_in (body_of b.now)).tracks }
+fn class_for(b: &CheckedBody<'_>, a: Option<EngineId>) -> Option<u32>
+    ensures { result ≡ class_for a (frame_in (body_of b.now.body)).tracks }
 {
-    match a {
-        None => None,
-        Some(e) => class_among(b, e),
-    }
+    class_among(b, a?)
 }
 
 // Association j of scan n.
-fn seen_at(b: &Body<'_>, n: ScanIndex, j: usize) -> Detection
-    ensures { body_refusal (body_of b.now) ≡ 0 → detection_by result ≡ seen_in n.0 (body_of b.now) j }
+fn seen_at(b: &CheckedBody<'_>, n: ScanIndex, j: usize) -> Detection
+    ensures { detection_by result ≡ seen_in n.0 (body_of b.now.body) j }
 {
     let a = b.association(j);
     let p = b.observation(a.index);
@@ -74,15 +69,6 @@ fn seen_at(b: &Body<'_>, n: ScanIndex, j: usize) -> Detection
 }
 
 // ---- one detection more
-
-fn newer(a: Option<u32>, b: Option<u32>) -> Option<u32>
-    ensures { result ≡ spec.newer a b }
-{
-    match a {
-        None => b,
-        Some(v) => Some(v),
-    }
-}
 
 // The last HEIGHTS of n heights and one more.
 fn with_height(hs: [f64; HEIGHTS], n: usize, z: f64) -> [f64; HEIGHTS]
@@ -100,9 +86,10 @@ fn with_height(hs: [f64; HEIGHTS], n: usize, z: f64) -> [f64; HEIGHTS]
 }
 
 fn height_count(n: usize) -> usize
+    requires { n ≤ HEIGHTS }
     ensures { result ≡ height_count_after n }
 {
-    if n < HEIGHTS { n + 1 } else { HEIGHTS }
+    (n + 1).min(HEIGHTS)
 }
 
 // The frozen part of a track that had none.
@@ -156,33 +143,23 @@ fn freeze(c: FgoConfig, p: Prefix, d: Detection) -> Prefix
         count: p.count + 1,
         heights: with_height(p.heights, p.height_count, d.z),
         height_count: height_count(p.height_count),
-        class: newer(d.class, p.class),
+        class: d.class.or(p.class),
     }
 }
 
 // ---- the table of frozen parts
-
-// The first place whose id is not below this one.
-fn place_of(tracks: &[u64; PARTS], frozen: usize, id: RefinedId) -> usize
-    requires { frozen ≤ FROZEN }
-    ensures { (result ≡ place_in id.0 (part_ids tracks.now frozen)) × (result ≤ frozen) }
-{
-    for k in 0..frozen {
-        if id <= part_id(tracks, k) {
-            return k;
-        }
-    }
-    frozen
-}
 
 // The parts from k on move up by one.
 fn make_room(parts: &mut FrozenParts, k: usize, frozen: usize)
     requires { (k ≤ frozen) × (frozen < FROZEN) }
     ensures { Raised k frozen parts.old.tracks parts.old.filters parts.new.tracks parts.new.filters }
 {
-    for i in (k..frozen).rev() {
-        parts.copy(i, i + 1);
-    }
+    parts
+        .tracks
+        .copy_within(PART * k..PART * frozen, PART * (k + 1));
+    parts
+        .filters
+        .copy_within(FILTER * k..FILTER * frozen, FILTER * (k + 1));
 }
 
 // One detection is frozen into its track; how many parts there are then.
@@ -196,13 +173,15 @@ fn freeze_one(
     requires { Freezes id.0 parts.old.tracks parts.old.filters frozen }
     ensures { table_in parts.new.tracks parts.new.filters result ≡ frozen_by c id.0 (detection_by d) (table_in parts.old.tracks parts.old.filters frozen) }
 {
-    let k = place_of(&parts.tracks, frozen, id);
-    if k < frozen {
-        if part_id(&parts.tracks, k) == id {
-            let p = parts.prefix_at(k);
-            parts.put(k, id, freeze(c, p, d));
-            return frozen;
-        }
+    let tracks = FrozenTracks {
+        tracks: &parts.tracks,
+        count: frozen,
+    };
+    let k = tracks.place_of(id);
+    if k < frozen && part_id(&parts.tracks, k) == id {
+        let p = parts.prefix_at(k);
+        parts.put(k, id, freeze(c, p, d));
+        return frozen;
     }
     make_room(parts, k, frozen);
     parts.put(k, id, fresh(c, d));
@@ -221,9 +200,11 @@ pub fn freeze_scan(
     ensures { table_in parts.new.tracks parts.new.filters result
         ≡ spec.freeze_scan c n.0 (scan_in scans.now.bodies scans.now.columns n.0) (table_in parts.old.tracks parts.old.filters frozen) }
 {
-    let b = scans.body(n);
+    let b = CheckedBody {
+        body: scans.body(n),
+    };
     let mut f = frozen;
-    for j in 0..b.association_count() {
+    for j in 0..b.body.association_count() {
         let id = scans.id_at(n, j);
         if 0 < id.0 {
             f = freeze_one(c, parts, f, id, seen_at(&b, n, j));
@@ -242,42 +223,38 @@ pub fn age_of(now: i64, last: i64) -> i64
     now - last
 }
 
-// Whether frozen part k stays: its track has a window, or its age is at most forget_after_ns.
-fn is_kept(
-    c: FgoConfig,
-    time: i64,
-    scans: &Scans,
-    first: ScanIndex,
-    held: usize,
-    tracks: &[u64; PARTS],
-    k: usize,
-) -> bool
-    requires { (k < FROZEN) × (first.0 + held ≤ ACCEPTED + 1) × (time_ok time ≡ true) × (time_ok (part_last_ns tracks.now k) ≡ true) }
-    ensures { result ≡ kept_in c time (scans_in scans.now.bodies scans.now.columns first.0 held) tracks.now k }
+// The age of frozen part k at a time; both times must be in bounds.
+pub fn part_age(time: i64, tracks: &[u64; PARTS], k: usize) -> i64
+    requires { (k < FROZEN) × (time_ok time ≡ true) × (time_ok (part_last_ns tracks.now k) ≡ true) }
+    ensures { result ≡ time -ℤ part_last_ns tracks.now k }
 {
-    if scans.windows_in(first, held, part_id(tracks, k)) {
-        return true;
-    }
-    age_of(time, part_last_ns(tracks, k)) <= c.forget_after_ns
+    age_of(time, part_last_ns(tracks, k))
+}
+
+// Whether frozen part k stays: its track has a window, or its age is at most forget_after_ns.
+fn is_kept(c: FgoConfig, time: i64, held: &HeldRef<'_>, tracks: &[u64; PARTS], k: usize) -> bool
+    requires { (k < FROZEN) × (time_ok time ≡ true) × (time_ok (part_last_ns tracks.now k) ≡ true) }
+    ensures { result ≡ kept_in c time (scans_in held.now.scans.now.bodies held.now.scans.now.columns held.now.first.0 held.now.count) tracks.now k }
+{
+    held.windows_in(part_id(tracks, k)) || part_age(time, tracks, k) <= c.forget_after_ns
 }
 
 // The frozen parts that stay, moved together; how many they are. All times must be in bounds.
 pub fn forget(
     c: FgoConfig,
     time: i64,
-    scans: &Scans,
-    first: ScanIndex,
-    held: usize,
+    held: &HeldRef<'_>,
     parts: &mut FrozenParts,
     frozen: usize,
 ) -> usize
-    requires { (first.0 + held ≤ ACCEPTED + 1) × PartsOk time parts.old.tracks parts.old.filters frozen }
+    requires { PartsOk time parts.old.tracks parts.old.filters frozen }
     ensures { table_in parts.new.tracks parts.new.filters result
-        ≡ spec.remember c time (scans_in scans.now.bodies scans.now.columns first.0 held) (table_in parts.old.tracks parts.old.filters frozen) }
+        ≡ spec.remember c time (scans_in held.now.scans.now.bodies held.now.scans.now.columns held.now.first.0 held.now.count)
+        (table_in parts.old.tracks parts.old.filters frozen) }
 {
     let mut w: usize = 0;
     for k in 0..frozen {
-        if is_kept(c, time, scans, first, held, &parts.tracks, k) {
+        if is_kept(c, time, held, &parts.tracks, k) {
             parts.copy(k, w);
             w += 1;
         }

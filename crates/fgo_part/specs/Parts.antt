@@ -1,7 +1,8 @@
 -- The frozen parts of tracks in lent memory: of each PART words and FILTER numbers. Definitions only.
 --
 -- The words are its id, last frame, last time, count, class and number of heights; the numbers are those of its filter, then its last heights, oldest first.
-use Rattle.std.specs.Prelude.{ℕ, ◌+◌, ◌*◌, ◌^◌, ◌≡◌, cond, List, [], ◌∷◌, ◌++◌, get_or, replicate, leb, ltb, ℤ, Float, None, Some}
+use Rattle.std.specs.Prelude.{ℕ, ◌+◌, ◌*◌, ◌^◌, ◌≡◌, cond, leb, ltb, ℤ, Float, None, Some}
+use Rattle.std.specs.Prelude.{List, [], ◌∷◌, ◌++◌, get_or, replicate}
 use Rattle.std.specs.Float.{nan, binary64}
 use Rattle.std.specs.Float.Ieee.{of_bits}
 use Rattle.bounds.specs.Bounds.{PART, PARTS, KF, HEIGHTS, FILTER, FILTERS}

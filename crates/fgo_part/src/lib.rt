@@ -3,12 +3,12 @@
 // The words are its id, last frame, last time, count, class and number of heights; the numbers are those of its filter, then its last heights, oldest first.
 #![tactic(auto)]
 
-ghost use Rattle.std.specs.Prelude.{◌≡◌, ◌+◌, ◌*◌, ◌<◌};
+ghost use Rattle.std.specs.Prelude.{◌≡◌, ◌+◌, ◌*◌, ◌<◌, ◌≤◌};
 ghost use Rattle.bounds.specs.Bounds.{FROZEN, PART, HEIGHTS, FILTER};
-ghost use Rattle.fgo_spec.specs.Lists.{segment};
+ghost use Rattle.fgo_spec.specs.Lists.{has, place_in, segment};
 ghost use Rattle.fgo_spec.specs.Emitting.{class_word};
 ghost use Rattle.fgo_part.specs.Parts.{class_in, part_id, part_last_frame, part_last_ns, part_count, part_class, part_height_count};
-ghost use Rattle.fgo_part.specs.Parts.{part_kf, part_heights_at, prefix_in, prefix_of, no_parts, Copied, Put};
+ghost use Rattle.fgo_part.specs.Parts.{part_ids, part_kf, part_heights_at, prefix_in, prefix_of, no_parts, Copied, Put};
 
 use bounds::{FILTER, FILTERS, HEIGHTS, KF, PART, PARTS};
 use buffers::put;
@@ -35,24 +35,19 @@ const NO_CLASS: u64 = 0x1_0000_0000;
 pub fn class_word(k: Option<u32>) -> u64
     ensures { (result ≡ class_word k) × (class_in result ≡ k) }
 {
-    match k {
-        None => NO_CLASS,
-        Some(v) => v as u64,
-    }
+    k.map_or(NO_CLASS, u64::from)
 }
 
 pub fn class_of(w: u64) -> Option<u32>
     ensures { result ≡ class_in w }
 {
-    if w < NO_CLASS {
-        return Some(w as u32);
-    }
-    None
+    u32::try_from(w).ok()
 }
 
 // ---- the fields of part k, which is below FROZEN
 //
-// As it is, here and below: functions of the words or of the numbers alone, since the search reads just these of a part.
+// As it is, here and below: functions of the words or of the numbers, and no struct of a part: who reads a part is lent one of the two arrays alone, so it
+// would take a struct for each, which is no plainer.
 
 // The id of its track.
 pub fn part_id(tracks: &[u64; PARTS], k: usize) -> RefinedId
@@ -108,6 +103,34 @@ pub fn part_kf(filters: &[f64; FILTERS], k: usize) -> Kf
     ensures { result ≡ part_kf filters.now k }
 {
     Kf::at(filters, FILTER * k)
+}
+
+// ---- the tracks that have a frozen part
+
+// The frozen parts of the first `count` places, by their words.
+#[derive(Clone, Copy)]
+pub struct FrozenTracks<'a> {
+    pub tracks: &'a [u64; PARTS],
+    pub count: usize,
+    pub ghost few: { count ≤ FROZEN },
+}
+
+impl FrozenTracks<'_> {
+    // Whether a track has a frozen part.
+    pub fn has(&self, id: RefinedId) -> bool
+        ensures { result ≡ has id.0 (part_ids self.now.tracks.now self.now.count) }
+    {
+        (0..self.count).any(|k| id == part_id(self.tracks, k))
+    }
+
+    // The first place whose id is not below this one.
+    pub fn place_of(&self, id: RefinedId) -> usize
+        ensures { (result ≡ place_in id.0 (part_ids self.now.tracks.now self.now.count)) × (result ≤ self.now.count) }
+    {
+        (0..self.count)
+            .position(|k| id <= part_id(self.tracks, k))
+            .unwrap_or(self.count)
+    }
 }
 
 // ---- parts

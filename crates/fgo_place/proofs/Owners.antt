@@ -1,5 +1,6 @@
 -- The table of owners as it lies in its array: changing an entry, adding one. Assumes nothing.
-use Prim.Native.Nat.{ℕ, ◌+◌, ◌-◌, ◌*◌, ◌≤◌, ◌<◌}
+use Prim.Native.Nat.{ℕ, zero, suc, ◌+◌, ◌-◌, ◌*◌, ◌≤◌, ◌<◌}
+use native.Mathlib.Numerals.{add-one}
 use native.Mathlib.Omega.{arith}
 use native.Mathlib.Nat.{zero-add, add-zero, sub-zero}
 use mathlib.Core.Path.{◌≡◌, refl, sym, ap, ◌∙◌, subst}
@@ -98,6 +99,13 @@ module _ (owners : List ℕ) (e n x : ℕ) where
       ∙ ap (λ m. rows (owner_entry owners) 0 k ++ m) (assign-later owners e n k x h q)
       ∙ sym (append_assoc (rows (owner_entry owners) 0 k) (owner_entry owners k ∷ []) l)
       ∙ ap (λ m. m ++ l) (sym (front_more (owner_entry owners) k))
+
+  -- none of the first k entries has it
+  pub passed_all : (k : ℕ) → k ≤ n → ((j : ℕ) → j < k → e ≡ engine_at owners j → ⊥) → Passed k
+  passed_all zero h none = passed_none
+  passed_all (suc k) h none =
+      let s : k + 1 ≡ suc k = add-one k in
+      rw s at (passed_more k (omega arith) (λ d. none k (omega arith) (sym d)) (passed_all k (omega arith) (λ j l. none j (omega arith))))
 
   -- entry k has the engine id: it is changed
   pub assigned_here :

@@ -7,7 +7,7 @@ use Rattle.bounds.specs.Bounds.{ASSOCIATIONS, OWNED, OWNERS}
 use Rattle.engine.specs.declared.types.Association.{Association}
 use Rattle.fgo_spec.specs.Lists.{has, find, assign}
 use Rattle.fgo_spec.specs.Placing as spec
-use Rattle.fgo_place.specs.declared.place.Placing.{Placing}
+use Rattle.fgo_place.specs.declared.placing.Placing.{Placing}
 use Rattle.fgo_state.specs.Memory.{or_none, owners_in}
 use Rattle.engine.specs.Frame.{Associated}
 

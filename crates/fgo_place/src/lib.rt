@@ -3,3 +3,4 @@
 
 pub mod own;
 pub mod place;
+pub mod placing;

@@ -2,43 +2,39 @@
 #![tactic(auto)]
 
 ghost use Rattle.std.specs.Prelude.{◌≡◌, ◌+◌, ◌<◌, ◌≤◌, length};
-ghost use Rattle.bounds.specs.Bounds.{ACCEPTED, ASSOCIATIONS, JOINED, OWNED};
+ghost use Rattle.bounds.specs.Bounds.{ACCEPTED, ASSOCIATIONS, JOINED};
 ghost use Rattle.refusals.specs.Refusals.{refused};
-ghost use Rattle.engine.specs.Body.{body_of, frame_in, body_refusal};
-ghost use Rattle.fgo_spec.specs.Refiner.{has_id, id_count};
+ghost use Rattle.engine.specs.Body.{body_of, frame_in};
+ghost use Rattle.fgo_spec.specs.Refiner.{id_count};
 ghost use Rattle.buffers.specs.Buffers.{over};
 ghost use Rattle.fgo_part.specs.Parts.{cells};
 ghost use Rattle.fgo_refuse.specs.Refusing.{full_in, engines_in, join_end, joined_in, Refuses, push_refusal};
 
 use bounds::{ACCEPTED, COUNTED, DETECTIONS, JOINED, OWNED, OWNERS};
 use engine::body::Body;
+use engine::checked::CheckedBody;
 use engine::types::EngineId;
-use fgo_state::owners::engine_at;
+use fgo_state::held::HeldRef;
+use fgo_state::owners::{OwnersRef, engine_at};
 use fgo_state::scans::Scans;
 use fgo_state::state::FixedLagRefiner;
 use refusals::Refusal;
 
 // New associations with an id.
-fn id_count(b: &Body<'_>) -> usize
-    requires { body_refusal (body_of b.now) ≡ 0 }
-    ensures { (result ≡ id_count (frame_in (body_of b.now)).associations) × (result ≤ ASSOCIATIONS) }
+fn id_count(b: &CheckedBody<'_>) -> usize
+    ensures { (result ≡ id_count (frame_in (body_of b.now.body)).associations) × (result ≤ ASSOCIATIONS) }
 {
-    let mut n: usize = 0;
-    for j in 0..b.association_count() {
-        if b.association(j).track.is_some() {
-            n += 1;
-        }
-    }
-    n
+    (0..b.body.association_count())
+        .filter(|j| b.association(*j).track.is_some())
+        .count()
 }
 
 // The engine ids of the owner table.
-fn owner_keys(owners: &[u64; OWNERS], owned: usize, all: &mut [u64; JOINED])
-    requires { owned ≤ OWNED }
-    ensures { all.new ≡ over 0 (engines_in owners.now owned) all.old }
+fn owner_keys(o: &OwnersRef<'_>, all: &mut [u64; JOINED])
+    ensures { all.new ≡ over 0 (engines_in o.now.entries.now o.now.owned) all.old }
 {
-    for k in 0..owned {
-        all[k] = engine_at(owners, k).0;
+    for (k, id) in all[..o.owned].iter_mut().enumerate() {
+        *id = engine_at(o.entries, k).0;
     }
 }
 
@@ -47,27 +43,22 @@ fn join_one(a: Option<EngineId>, all: &mut [u64; JOINED], n: usize) -> usize
     requires { n < JOINED }
     ensures { (cells 0 all.new 0 result ≡ join_end a (cells 0 all.old 0 n)) × (result ≤ n + 1) }
 {
-    match a {
-        None => n,
-        Some(e) => {
-            if all[..n].contains(&e.0) {
-                return n;
-            }
-            all[n] = e.0;
-            n + 1
-        }
+    let Some(e) = a else { return n };
+    if all[..n].contains(&e.0) {
+        return n;
     }
+    all[n] = e.0;
+    n + 1
 }
 
 // Engine ids with an owner, joined with the frame's.
-fn joined_count(owners: &[u64; OWNERS], owned: usize, b: &Body<'_>) -> usize
-    requires { (owned ≤ OWNED) × (body_refusal (body_of b.now) ≡ 0) }
-    ensures { result ≡ length (joined_in owners.now owned (body_of b.now) 0) }
+fn joined_count(o: &OwnersRef<'_>, b: &CheckedBody<'_>) -> usize
+    ensures { result ≡ length (joined_in o.now.entries.now o.now.owned (body_of b.now.body) 0) }
 {
     let mut all = [0u64; JOINED];
-    owner_keys(owners, owned, &mut all);
-    let mut n = owned;
-    for j in (0..b.association_count()).rev() {
+    owner_keys(o, &mut all);
+    let mut n = o.owned;
+    for j in (0..b.body.association_count()).rev() {
         n = join_one(b.association(j).track, &mut all, n);
     }
     n
@@ -79,22 +70,12 @@ fn is_full(r: &FixedLagRefiner) -> bool
     ensures { result ≡ full_in r.now }
 {
     let k = &r.counters;
-    if ACCEPTED <= r.first.0 + r.held as u64 {
-        return true;
-    }
-    if COUNTED < r.next_id.0 {
-        return true;
-    }
-    if COUNTED < k.swaps {
-        return true;
-    }
-    if COUNTED < k.merges {
-        return true;
-    }
-    if COUNTED < k.splits {
-        return true;
-    }
-    COUNTED < k.drops
+    ACCEPTED <= r.first.0 + r.held as u64
+        || COUNTED < r.next_id.0
+        || COUNTED < k.swaps
+        || COUNTED < k.merges
+        || COUNTED < k.splits
+        || COUNTED < k.drops
 }
 
 // Whether a frame may be pushed, after 3 and 4: or the first of 5 to 10 that it is refused for. It asks that SCANS scans at most are held, with FROZEN parts
@@ -108,15 +89,23 @@ pub fn check_push(
     requires { Refuses r.now }
     ensures { refused result ≡ push_refusal r.now scans.now.bodies scans.now.columns owners.now (body_of b.now) }
 {
-    engine_check::check_body(b)?;
+    let b = engine_check::check_body(b)?;
     if is_full(r) {
         return Err(Refusal::Count);
     }
-    let windows = scans.window_count(r.first, r.held);
-    if DETECTIONS < r.frozen + windows + id_count(b) {
+    let held = HeldRef {
+        scans,
+        first: r.first,
+        count: r.held,
+    };
+    if DETECTIONS < r.frozen + held.window_count() + id_count(&b) {
         return Err(Refusal::Detections);
     }
-    if OWNED < joined_count(owners, r.owned, b) {
+    let owners = OwnersRef {
+        entries: owners,
+        owned: r.owned,
+    };
+    if OWNED < joined_count(&owners, &b) {
         return Err(Refusal::Owners);
     }
     Ok(())

@@ -1,5 +1,5 @@
 pub mod Conjunctions
-pub mod Counted
+pub mod FewScans
 pub mod AllOf
 pub mod Scans
 pub mod SoundLaw

@@ -21,7 +21,6 @@ use Rattle.fgo_spec.specs.Rule as rules
 use Rattle.fgo_spec.specs.Rule.{All, all_of, owner_is, owned_by}
 use Rattle.fgo_spec.proofs.Ties.{Engine, Tied, TiedScan}
 use Rattle.fgo_spec.proofs.Latest.{tied_latest}
-use Rattle.fgo_state.specs.declared.state.FixedLagRefiner.{FixedLagRefiner}
 use Rattle.buffers.specs.Buffers.{over}
 use Rattle.fgo_state.specs.Memory.{scan_in, scans_in, owners_in, or_none}
 use Rattle.fgo_state.specs.Gathering.{gathered_in, gathered_of, gathered, engines_of, found_of, latest_of, GatheredAll}
@@ -78,32 +77,32 @@ column-at : (next : ℕ) (bodies columns : List ℕ) (first held : ℕ) → colu
 unfolding columns_ok
 column-at next bodies columns first held h k l = tied_column next bodies columns (first + k) (all-at _ held k h l)
 
-module _ (r : FixedLagRefiner) (bodies columns owners : List ℕ) (n : ℕ) (is es is' es' ts' : List ℕ) (h : Owning r bodies columns) (g : GatheredAll bodies columns r.first.0 r.held n is es is' es' ts') (v : length is ≡ DETECTIONS) (w : length es ≡ DETECTIONS) where
+module _ (bodies columns owners : List ℕ) (first held entries n : ℕ) (is es is' es' ts' : List ℕ) (h : Owning bodies columns first held) (g : GatheredAll bodies columns first held n is es is' es' ts') (v : length is ≡ DETECTIONS) (w : length es ≡ DETECTIONS) where
   abbrev ss : List Scan
-  ss = scans_in bodies columns r.first.0 r.held
+  ss = scans_in bodies columns first held
 
   abbrev found : List ℕ
-  found = engines_of (found_of bodies columns r.first.0 r.held)
+  found = engines_of (found_of bodies columns first held)
 
-  tied : (k : ℕ) → k < r.held → TiedScan (λ e. Unit {0}) (scan_in bodies columns (r.first.0 + k))
-  tied = column-at r.next_id.0 bodies columns r.first.0 r.held h.ordered
+  tied : (k : ℕ) → k < held → TiedScan (λ e. Unit {0}) (scan_in bodies columns (first + k))
+  tied = column-at h.ordered.0 bodies columns first held h.ordered.1
 
   tied-all : All (TiedScan (λ e. Unit {0})) ss
-  tied-all = rows_all (TiedScan (λ e. Unit {0})) (scan_in bodies columns) r.first.0 r.held tied
+  tied-all = rows_all (TiedScan (λ e. Unit {0})) (scan_in bodies columns) first held tied
 
   engine-at : (i : ℕ) → i < length found → get_or es' i 0 ≡ get_or found i 0
   engine-at i l =
       ap (λ xs. get_or xs i 0) g.scans.engines ∙ ap (λ (j : ℕ). get_or (over 0 found es) j 0) (sym (zero-add i))
-      ∙ over_in 0 found es (omega (arith, length-map (found_of bodies columns r.first.0 r.held) (λ x. x.engine), found_few_enough bodies columns r.first.0 r.held n is es is' es' ts' h.scans g)) i 0 l
+      ∙ over_in 0 found es (omega (arith, length-map (found_of bodies columns first held) (λ x. x.engine), found_few_enough bodies columns first held n is es is' es' ts' h.scans g)) i 0 l
 
-  pub owned_gathered : owned_all is' es' ts' r.held owners r.owned n ≡ owned_in r bodies columns owners
+  pub owned_gathered : owned_all is' es' ts' held owners entries n ≡ owned_in bodies columns first held owners entries
   unfolding owned_all owned_at owned_in
   owned_gathered =
-      let m : n ≡ length found = g.scans.count ∙ zero-add _ ∙ sym (length-map (found_of bodies columns r.first.0 r.held) (λ x. x.engine)) in
-      ap (all (owned_at is' es' ts' r.held owners r.owned)) m
-      ∙ all_same (owned_at is' es' ts' r.held owners r.owned) (λ i. owned (owners_in owners r.owned) ss (get_or found i 0)) (length found)
+      let m : n ≡ length found = g.scans.count ∙ zero-add _ ∙ sym (length-map (found_of bodies columns first held) (λ x. x.engine)) in
+      ap (all (owned_at is' es' ts' held owners entries)) m
+      ∙ all_same (owned_at is' es' ts' held owners entries) (λ i. owned (owners_in owners entries) ss (get_or found i 0)) (length found)
       (λ i l.
-      ap (λ (e : ℕ). eqb (or_none (find e (owners_in owners r.owned))) (latest_of e is' es' ts' r.held)) (engine-at i l)
-      ∙ ap (eqb (or_none (find (get_or found i 0) (owners_in owners r.owned)))) (latest_same bodies columns r.first.0 r.held n is es is' es' ts' h.scans g tied v w (get_or found i 0)))
-      ∙ all_list (owned (owners_in owners r.owned) ss) found 0
-      ∙ scans-owned (owners_in owners r.owned) ss r.first.0 ss (tied_latest (λ e. Unit {0}) (Late (owners_in owners r.owned) ss) ss (λ e p. p) tied-all)
+      ap (λ (e : ℕ). eqb (or_none (find e (owners_in owners entries))) (latest_of e is' es' ts' held)) (engine-at i l)
+      ∙ ap (eqb (or_none (find (get_or found i 0) (owners_in owners entries)))) (latest_same bodies columns first held n is es is' es' ts' h.scans g tied v w (get_or found i 0)))
+      ∙ all_list (owned (owners_in owners entries) ss) found 0
+      ∙ scans-owned (owners_in owners entries) ss first ss (tied_latest (λ e. Unit {0}) (Late (owners_in owners entries) ss) ss (λ e p. p) tied-all)

@@ -176,7 +176,7 @@ module _ (r : FixedLagRefiner) (m : Memory) where
   lives o = live (table_in m.parts.tracks m.parts.filters r.frozen) scans o.1
 
   entries-rule :
-      entries_ok r m.scans.bodies m.scans.columns m.owners m.parts.tracks
+      entries_ok (live_in m.scans.bodies m.scans.columns r.first.0 r.held m.parts.tracks r.frozen) m.owners r.owned
       ≡ (distinct_ok (map (λ o. o.0) (owners_in m.owners r.owned)) && all_of lives (owners_in m.owners r.owned))
   unfolding entries_ok entry_ok
   entries-rule =

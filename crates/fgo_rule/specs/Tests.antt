@@ -1,8 +1,8 @@
 -- The tests that the code makes of a refiner and its lent memory, in the code's order: as one they are document 01's state rule. Definitions only.
-use Rattle.std.specs.Prelude.{ℕ, zero, suc, ◌+◌, ◌-◌, ◌≤◌, ◌≡◌, Bool, true, ◌&&◌, ◌||◌, not, List, get_or, leb, ltb, eqb}
+use Rattle.std.specs.Prelude.{ℕ, zero, suc, ◌+◌, ◌-◌, ◌≡◌, Bool, true, ◌&&◌, ◌||◌, not, List, get_or, leb, ltb, eqb}
 use Rattle.bounds.specs.Bounds.{ACCEPTED, DETECTIONS, FROZEN, OWNED, HEIGHTS}
 use Rattle.engine.specs.Config.{legal, lag}
-use Rattle.engine.specs.Body.{Body, all, time_ok, associations_in, rows}
+use Rattle.engine.specs.Body.{Body, all, time_ok, associations_in, rows, body_refusal}
 use Rattle.fgo_spec.specs.Lists.{has}
 use Rattle.fgo_spec.specs.Windows.{window_count}
 use Rattle.fgo_spec.specs.Rule.{all_of, loose_ok, owned_ok}
@@ -29,6 +29,11 @@ id_ok next columns b n j =
 -- each id of scan n, of which the body is b, is so
 unfoldable pub column_in : ℕ → List ℕ → Body → ℕ → Bool
 column_in next columns b n = all (id_ok next columns b n) (associations_in b)
+
+-- scan n is held as the rule says: by its body, and by each id
+unfoldable pub scan_ok : ℕ → List ℕ → List ℕ → ℕ → Bool
+scan_ok next bodies columns n =
+    let b = body_at bodies columns n in eqb (body_refusal b) 0 && column_in next columns b n
 
 -- "each held association lies in exactly one window or in clutter, those without engine id in clutter"; ids are below the next id
 unfoldable pub columns_ok : ℕ → List ℕ → List ℕ → ℕ → ℕ → Bool
@@ -67,27 +72,24 @@ owned_all ids engines starts held owners owned n = all (owned_at ids engines sta
 unfoldable pub distinct_at : List ℕ → ℕ → ℕ → Bool
 distinct_at owners owned k = not (has (engine_at owners k) (rows (engine_at owners) (suc k) (owned - suc k)))
 
--- "owner entries have distinct engine ids, live owners": entry k
-unfoldable pub entry_ok : FixedLagRefiner → List ℕ → List ℕ → List ℕ → List ℕ → ℕ → Bool
-entry_ok r bodies columns owners tracks k =
-    distinct_at owners r.owned k
-    && live_in bodies columns r.first.0 r.held tracks r.frozen (owner_at owners k)
+-- "owner entries have distinct engine ids, live owners": entry k, by which ids are live
+unfoldable pub entry_ok : (ℕ → Bool) → List ℕ → ℕ → ℕ → Bool
+entry_ok lives owners owned k = distinct_at owners owned k && lives (owner_at owners k)
 
 -- each owner entry is so
-unfoldable pub entries_ok : FixedLagRefiner → List ℕ → List ℕ → List ℕ → List ℕ → Bool
-entries_ok r bodies columns owners tracks = all (entry_ok r bodies columns owners tracks) r.owned
+unfoldable pub entries_ok : (ℕ → Bool) → List ℕ → ℕ → Bool
+entries_ok lives owners owned = all (entry_ok lives owners owned) owned
 
 -- the test of the owners on what is held
-unfoldable pub owned_in : FixedLagRefiner → List ℕ → List ℕ → List ℕ → Bool
-owned_in r bodies columns owners =
-    let ss = scans_in bodies columns r.first.0 r.held in
-    all_of (λ s. owned_ok (owners_in owners r.owned) ss s.frame.associations s.ids) ss
+unfoldable pub owned_in : List ℕ → List ℕ → ℕ → ℕ → List ℕ → ℕ → Bool
+owned_in bodies columns first held owners owned =
+    let ss = scans_in bodies columns first held in
+    all_of (λ s. owned_ok (owners_in owners owned) ss s.frame.associations s.ids) ss
 
--- what it asks: held scans whose columns are in order, with few detections in windows, and few owners
-pub record Owning (r : FixedLagRefiner) (bodies columns : List ℕ) : Type 0 where
-  pub scans : HeldScans bodies columns r.first.0 r.held
-  pub ordered : columns_ok r.next_id.0 bodies columns r.first.0 r.held ≡ true
-  pub few : r.owned ≤ OWNED
+-- what it asks: held scans whose columns are in order below some next id, with few detections in windows
+pub record Owning (bodies columns : List ℕ) (first held : ℕ) : Type 0 where
+  pub scans : HeldScans bodies columns first held
+  pub ordered : (next : ℕ) × (columns_ok next bodies columns first held ≡ true)
 
 -- all the tests; equal to the rule, whatever the filters are
 unfoldable pub sound_in : FixedLagRefiner → List ℕ → List ℕ → List ℕ → List ℕ → Bool
@@ -97,4 +99,5 @@ sound_in r bodies columns owners tracks =
     && (columns_ok r.next_id.0 bodies columns r.first.0 r.held
     && (parts_ok r.first.0 r.next_id.0 tracks r.frozen
     && (leb (r.frozen + window_count (scans_in bodies columns r.first.0 r.held)) DETECTIONS
-    && (owned_in r bodies columns owners && entries_ok r bodies columns owners tracks)))))
+    && (owned_in bodies columns r.first.0 r.held owners r.owned
+    && entries_ok (live_in bodies columns r.first.0 r.held tracks r.frozen) owners r.owned)))))

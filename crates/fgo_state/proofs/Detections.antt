@@ -1,26 +1,21 @@
 -- Detections in windows, counted: of a column, and of the held scans. Assumes nothing.
 use Prim.Native.Nat.{ℕ, zero, suc, ◌+◌, ◌-◌, ◌*◌, ◌≤◌, ◌<◌, zero-le}
 use native.Mathlib.Numerals.{add-one}
-use native.Mathlib.Nat.{zero-add}
 use native.Mathlib.Omega.{arith}
 use mathlib.Core.Path.{◌≡◌, refl, ap, ◌∙◌}
 use mathlib.Core.Bool.{Bool, true, false}
-use mathlib.Core.List.{List, [], ◌∷◌, ◌++◌, flat_map}
+use mathlib.Core.List.{List, flat_map}
 use lib.Dec.{ltb}
 use borrow.Author.Tests.{ltb-true}
 use Rattle.bounds.specs.Bounds.{ASSOCIATIONS}
 use Rattle.engine.specs.Body.{rows, associations_in}
 use Rattle.fgo_spec.specs.Lists.{keep}
 use Rattle.fgo_spec.specs.Windows.{in_windows, window_count}
-use Rattle.fgo_spec.proofs.Counting.{bump, count-cons, count_snoc}
+use Rattle.fgo_spec.proofs.Counting.{bump, count-cons}
 use Rattle.fgo_spec.proofs.Windows.{detections_snoc}
 use Rattle.fgo_state.specs.Memory.{body_at, id_at, scan_in, scans_in}
 use Rattle.fgo_state.specs.Gathering.{count_in}
 use Rattle.fgo_spec.proofs.Rows.{rows_more}
-
--- one association more
-pub count-more : (columns : List ℕ) (n j : ℕ) → count_in columns n (j + 1) ≡ bump (ltb 0 (id_at columns n j)) (count_in columns n j)
-count-more columns n j = ap (count_in columns n) (add-one j) ∙ ap in_windows (rows_more (id_at columns n) 0 j ∙ ap (λ (i : ℕ). rows (id_at columns n) 0 j ++ (id_at columns n i ∷ [])) (zero-add j)) ∙ count_snoc (ltb 0) (rows (id_at columns n) 0 j) (id_at columns n j)
 
 -- a slot has room for so many
 pub count_few : (columns : List ℕ) (n o m : ℕ) → in_windows (rows (id_at columns n) o m) ≤ ASSOCIATIONS - o

@@ -1,5 +1,5 @@
 -- The detections in windows of the held scans, gathered scan by scan. Assumes nothing.
-use Prim.Native.Nat.{ℕ, zero, suc, ◌+◌, ◌-◌, ◌*◌, ◌≤◌, ◌<◌}
+use Prim.Native.Nat.{ℕ, zero, suc, ◌+◌, ◌-◌, ◌≤◌, ◌<◌}
 use native.Mathlib.Nat.{eq-or-lt_of_le}
 use native.Mathlib.Numerals.{add-one}
 use native.Mathlib.Omega.{arith}
@@ -8,24 +8,24 @@ use mathlib.Core.List.{List, ◌++◌, flat_map}
 use mathlib.Core.Logic.{⊎_elim}
 use lib.ListN.{length, get_or, set, replicate, length-append, length-map, length-set}
 use lib.Seq.{get_or-set_same, get_or-set_other}
-use lib.Ieee.{Float}
-use Rattle.bounds.specs.Bounds.{DETECTIONS, STARTS, DOT, DOTS}
+use Rattle.bounds.specs.Bounds.{DETECTIONS, STARTS}
+use Rattle.cost.specs.declared.Dot.{Dot}
 use Rattle.engine.specs.declared.config.FgoConfig.{FgoConfig}
-use Rattle.engine.specs.Body.{Body, rows, frame_in, body_refusal, associations_in}
+use Rattle.engine.specs.Body.{Body, rows, frame_in, associations_in}
 use Rattle.fgo_spec.specs.Lists.{keep}
 use Rattle.fgo_spec.specs.Windows.{window_count}
 use Rattle.buffers.specs.Buffers.{over}
 use Rattle.fgo_state.specs.Memory.{body_at, id_at, scan_in, scans_in}
-use Rattle.fgo_state.specs.Gathering.{gathered, ids_of, engines_of, dots_of, count_in, found_in, found_of, HeldScans, GathersScan, GatheredScan, GatheredAll}
+use Rattle.fgo_state.specs.Gathering.{gathered, ids_of, engines_of, held_dot, dots_of, count_in, found_in, found_of, HeldScans, GathersScan, GatheredScan, GatheredAll}
 use Rattle.engine.proofs.Passing.{length-rows}
 use Rattle.fgo_state.proofs.Counts.{associations_long}
 use Rattle.fgo_state.proofs.Detections as detections
 use Rattle.fgo_state.proofs.GatheredScans as scans
 use Rattle.fgo_state.proofs.GatheredScans.{ids-gathered, gathered_few}
-use Rattle.fgo_state.proofs.GatheringScan.{written-gathered, numbers_long_lem, numbers-append}
+use Rattle.fgo_state.proofs.GatheringScan.{written-gathered}
 use Rattle.std.proofs.lemmas.List.{length-replicate, get_or-replicate}
 use Rattle.buffers.proofs.Over.{length_over, over-before, over_in}
-use Rattle.buffers.proofs.Writes.{WrittenOver, written_none, written-more, written_same}
+use Rattle.buffers.proofs.Writes.{WrittenOver, written_none}
 
 -- those of one scan, counted
 pub found_one : (columns : List ℕ) (n : ℕ) (s : Body) → length (found_in columns n s) ≡ count_in columns n (associations_in s)
@@ -73,9 +73,9 @@ pub record GathersHeld (bodies columns : List ℕ) (first k p : ℕ) (is es is' 
   pub starts : length ts ≡ STARTS → (i : ℕ) → i ≤ k → get_or ts i 0 ≡ length (found_of bodies columns first i)
 
 module _ (bodies columns : List ℕ) (first : ℕ) (is es : List ℕ) where
-  pub held_none : (ts : List ℕ) → GathersHeld bodies columns first 0 0 is es is es (set ts 0 0)
+  pub held_none : (ts : List ℕ) → get_or ts 0 0 ≡ 0 → GathersHeld bodies columns first 0 0 is es is es ts
   unfolding rows gathered
-  held_none ts =
+  held_none ts none =
       record {
         place = refl;
         ids = written_none 0 is;
@@ -83,14 +83,13 @@ module _ (bodies columns : List ℕ) (first : ℕ) (is es : List ℕ) where
         starts =
             λ l i h.
             let z : i ≡ 0 = omega arith in
-            rw z (get_or-set_same ts 0 0 0 (omega (arith, length-set ts 0 0)));
+            rw z none;
       }
 
   module _ {held k p : ℕ} {is' es' ts : List ℕ} (h : HeldScans bodies columns first held) (g : GathersHeld bodies columns first k p is es is' es' ts) (l : k < held) (li : length is' ≡ DETECTIONS) (le : length es' ≡ DETECTIONS) {s : Body} (e : s ≡ body_at bodies columns (first + k)) where
     pub held_fits : GathersScan s columns (first + k) p is' es'
     held_fits =
         record {
-          passes = rw e (h.passes k l);
           room = rw e (omega (arith, found_room bodies columns first k h l, g.place));
           beside = omega arith;
         }
@@ -143,34 +142,30 @@ module _ (bodies columns : List ℕ) (first : ℕ) (is es : List ℕ) where
         long = ap length e ∙ length_over (held + 1) (replicate n p) ts fits ∙ long;
       }
 
--- ---- a loop that writes numbers stands at scan k
+-- ---- a loop that writes dots stands at scan k
 
-pub record NumbersHeld (c : FgoConfig) (bodies columns : List ℕ) (first k p : ℕ) (ds ds' : List Float) : Type 0 where
+pub record DotsHeld (c : FgoConfig) (bodies columns : List ℕ) (first k p : ℕ) (ds ds' : List Dot) : Type 0 where
   pub place : p ≡ length (found_of bodies columns first k)
-  pub numbers : WrittenOver 0 (dots_of c (found_of bodies columns first k)) ds ds'
+  pub dots : WrittenOver 0 (dots_of c (found_of bodies columns first k)) ds ds'
 
-module _ (c : FgoConfig) (bodies columns : List ℕ) (first : ℕ) (ds : List Float) where
-  pub numbers_held_none : NumbersHeld c bodies columns first 0 0 ds ds
-  unfolding rows gathered flat_map
-  numbers_held_none = record { place = refl; numbers = written_none 0 ds }
+module _ (c : FgoConfig) (bodies columns : List ℕ) (first : ℕ) (ds : List Dot) where
+  pub dots_held_none : DotsHeld c bodies columns first 0 0 ds ds
+  unfolding rows gathered
+  dots_held_none = record { place = refl; dots = written_none 0 ds }
 
-  module _ {held k p : ℕ} {ds' : List Float} (h : HeldScans bodies columns first held) (g : NumbersHeld c bodies columns first k p ds ds') (l : k < held) (ld : length ds' ≡ DOTS) {s : Body} (e : s ≡ body_at bodies columns (first + k)) where
-    pub numbers_held_fits : (body_refusal s ≡ 0) × (DOT * (p + length (found_in columns (first + k) s)) ≤ length ds')
-    numbers_held_fits = (rw e (h.passes k l), rw e (omega (arith, found_room bodies columns first k h l, g.place)))
+  module _ {held k p : ℕ} {ds' : List Dot} (h : HeldScans bodies columns first held) (g : DotsHeld c bodies columns first k p ds ds') (l : k < held) (ld : length ds' ≡ DETECTIONS) {s : Body} (e : s ≡ body_at bodies columns (first + k)) where
+    pub dots_held_fits : p + length (found_in columns (first + k) s) ≤ DETECTIONS
+    dots_held_fits = rw e (omega (arith, found_room bodies columns first k h l, g.place))
 
-    pub numbers-held-more : {q : ℕ} {ds'' : List Float} → (q ≡ p + length (found_in columns (first + k) s)) × (ds'' ≡ over (DOT * p) (dots_of c (found_in columns (first + k) s)) ds') → NumbersHeld c bodies columns first (k + 1) q ds ds''
-    numbers-held-more {q} {ds''} w =
+    pub dots-held-more : {q : ℕ} {ds'' : List Dot} → q ≡ p + length (found_in columns (first + k) s) → ds'' ≡ over p (dots_of c (found_in columns (first + k) s)) ds' → DotsHeld c bodies columns first (k + 1) q ds ds''
+    dots-held-more {q} {ds''} count written =
         let f = found_of bodies columns first k in
         let z = found_in columns (first + k) s in
         let m : f ++ z ≡ found_of bodies columns first (k + 1) = rw e (sym (found_next bodies columns first k)) in
         let r : length f + length z ≤ DETECTIONS = rw e (found_room bodies columns first k h l) in
-        let a = g.numbers.long in
-        let nf = numbers_long_lem c f in
-        let nz = numbers_long_lem c z in
-        let pn : DOT * p ≡ 0 + length (dots_of c f) = omega (arith, g.place) in
-        let en : ds'' ≡ over (0 + length (dots_of c f)) (dots_of c z) ds' = w.1 ∙ ap (λ (i : ℕ). over i (dots_of c z) ds') pn in
-        let eg : dots_of c f ++ dots_of c z ≡ dots_of c (found_of bodies columns first (k + 1)) = sym (numbers-append c f z) ∙ ap (dots_of c) m in
+        let a = g.dots.long in
+        let n : p ≡ 0 + length f = omega (arith, g.place) in
         record {
-          place = omega (arith, w.0, g.place, length-append f z, ap length m);
-          numbers = written_same 0 ds (written-more 0 ds (dots_of c f) (dots_of c z) g.numbers (omega arith) en) eg refl;
+          place = omega (arith, count, g.place, length-append f z, ap length m);
+          dots = written-gathered (held_dot c) 0 ds f z g.dots m n (omega arith) written;
         }

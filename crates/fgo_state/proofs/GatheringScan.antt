@@ -1,13 +1,13 @@
--- The detections in windows of a scan, gathered association by association: their ids, their engine ids and their numbers. Assumes nothing.
-use Prim.Native.Nat.{ℕ, zero, suc, ◌+◌, ◌*◌, ◌≤◌, ◌<◌}
+-- The detections in windows of a scan, gathered association by association: their ids, their engine ids and their dots. Assumes nothing.
+use Prim.Native.Nat.{ℕ, zero, suc, ◌+◌, ◌≤◌, ◌<◌}
 use native.Mathlib.Numerals.{add-one}
 use native.Mathlib.Omega.{arith}
 use mathlib.Core.Path.{◌≡◌, refl, sym, ap, ◌∙◌}
-use mathlib.Core.List.{List, [], ◌∷◌, ◌++◌, map, flat_map, append-nil, map-append}
+use mathlib.Core.List.{List, [], ◌∷◌, ◌++◌, map, append-nil, map-append}
 use lib.ListN.{length, take, drop, get_or, set, length-append, length-map}
 use lib.Seq.{take_all, set_split}
-use lib.Ieee.{Float}
-use Rattle.bounds.specs.Bounds.{DOT}
+use Rattle.bounds.specs.Bounds.{DETECTIONS}
+use Rattle.cost.specs.declared.Dot.{Dot}
 use Rattle.engine.specs.declared.config.FgoConfig.{FgoConfig}
 use Rattle.engine.specs.declared.types.Association.{Association}
 use Rattle.engine.specs.Frame.{Frame, no_association, engine_of}
@@ -16,7 +16,7 @@ use Rattle.engine.proofs.Passing.{row_at, length-rows}
 use Rattle.fgo_spec.specs.Windows.{detection_of}
 use Rattle.buffers.specs.Buffers.{over}
 use Rattle.fgo_state.specs.Memory.{id_at, association_in}
-use Rattle.fgo_state.specs.Gathering.{HeldDetection, gathered_in, ids_of, engines_of, held_numbers, dots_of, dot_in, found_in, GathersScan, GatheredScan}
+use Rattle.fgo_state.specs.Gathering.{HeldDetection, gathered_in, ids_of, engines_of, held_dot, dots_of, dot_in, found_in, GathersScan, GatheredScan}
 use Rattle.fgo_state.proofs.Counts.{associations_long}
 use Rattle.buffers.proofs.Writes.{WrittenOver, written_none, written-more, written_same}
 
@@ -170,63 +170,45 @@ module _ (columns : List ℕ) (n : ℕ) (s : Body) (o : ℕ) (is es : List ℕ) 
           engines = g.engines.written ∙ ap (λ l. over o (engines_of l) es) m;
         }
 
--- ---- their numbers, four of each
+-- ---- a loop that writes their dots stands at association j
 
-module _ (c : FgoConfig) where
-  pub numbers_long_lem : (gs : List HeldDetection) → length (dots_of c gs) ≡ DOT * length gs
-  unfolding flat_map
-  numbers_long_lem [] = refl
-  numbers_long_lem (g ∷ gs) = omega (arith, numbers_long_lem gs)
-
-  pub numbers-append : (gs hs : List HeldDetection) → dots_of c (gs ++ hs) ≡ dots_of c gs ++ dots_of c hs
-  unfolding flat_map
-  numbers-append [] hs = refl
-  numbers-append (g ∷ gs) hs = ap (λ (l : List Float). held_numbers c g ++ l) (numbers-append gs hs)
-
-  -- those of association j
-  numbers-one : (columns : List ℕ) (n : ℕ) (s : Body) (j : ℕ) → dots_of c (found_at columns n s j ∷ []) ≡ dot_in c s j
-  unfolding flat_map detection_of
-  numbers-one columns n s j = refl
-
--- a loop that writes numbers stands at association j
-pub record Numbers (c : FgoConfig) (columns : List ℕ) (n : ℕ) (s : Body) (o j p : ℕ) (ds ds' : List Float) : Type 0 where
+pub record Dots (c : FgoConfig) (columns : List ℕ) (n : ℕ) (s : Body) (o j p : ℕ) (ds ds' : List Dot) : Type 0 where
   pub some : j ≤ associations_in s
   pub place : p ≡ o + length (found_by columns n s j)
-  pub numbers : WrittenOver (DOT * o) (dots_of c (found_by columns n s j)) ds ds'
+  pub dots : WrittenOver o (dots_of c (found_by columns n s j)) ds ds'
 
-module _ (c : FgoConfig) (columns : List ℕ) (n : ℕ) (s : Body) (o : ℕ) (ds : List Float) where
-  pub numbers_none : Numbers c columns n s o 0 o ds ds
-  unfolding gathered_in flat_map
-  numbers_none = record { some = omega arith; place = omega arith; numbers = written_none (DOT * o) ds }
+module _ (c : FgoConfig) (columns : List ℕ) (n : ℕ) (s : Body) (o : ℕ) (ds : List Dot) where
+  -- that of association j
+  dot_found : (j : ℕ) → held_dot c (found_at columns n s j) ≡ dot_in c s j
+  unfolding detection_of
+  dot_found j = refl
 
-  module _ (fits : DOT * (o + length (found_in columns n s)) ≤ length ds) {j p : ℕ} {ds' : List Float} (g : Numbers c columns n s o j p ds ds') where
-    pub numbers-room : j < associations_in s → 0 < id_at columns n j → DOT + DOT * p ≤ length ds
-    numbers-room h k = omega (arith, by-room columns n s j h k, g.place)
+  pub dots_none : Dots c columns n s o 0 o ds ds
+  unfolding gathered_in
+  dots_none = record { some = omega arith; place = omega arith; dots = written_none o ds }
 
-    pub numbers-held : {x q : ℕ} {ds'' : List Float} → j < associations_in s → x ≡ id_at columns n j → 0 < x → ds'' ≡ over (DOT * p) (dot_in c s j) ds' → q ≡ p + 1 → Numbers c columns n s o (j + 1) q ds ds''
-    numbers-held {x} {q} {ds''} h ex k ed eq =
+  module _ (long : length ds ≡ DETECTIONS) (fits : o + length (found_in columns n s) ≤ DETECTIONS) {j p : ℕ} {ds' : List Dot} (g : Dots c columns n s o j p ds ds') where
+    pub dots_room : j < associations_in s → 0 < id_at columns n j → p < DETECTIONS
+    dots_room h k = omega (arith, by-room columns n s j h k, g.place)
+
+    pub dots_held : {x q : ℕ} {ds'' : List Dot} → j < associations_in s → x ≡ id_at columns n j → 0 < x → ds'' ≡ set ds' p (dot_in c s j) → q ≡ p + 1 → Dots c columns n s o (j + 1) q ds ds''
+    dots_held {x} {q} {ds''} h ex k ed eq =
         let held : 0 < id_at columns n j = omega arith in
         let f = found_by columns n s j in
         let z = found_at columns n s j in
         let m : f ++ (z ∷ []) ≡ found_by columns n s (j + 1) = sym (by-held columns n s j h held) in
-        let w : DOT * p ≡ DOT * o + length (dots_of c f) = omega (arith, g.place, numbers_long_lem c f) in
         record {
           some = omega arith;
           place = omega (arith, g.place, ap length m, length-append f (z ∷ []));
-          numbers =
-              written_same (DOT * o) ds
-              (written-more (DOT * o) ds (dots_of c f) (dots_of c (z ∷ [])) g.numbers (omega (arith, numbers-room h held, w, numbers_long_lem c (z ∷ [])))
-              (ed ∙ ap (λ (i : ℕ). over i (dot_in c s j) ds') w ∙ ap (λ (l : List Float). over (DOT * o + length (dots_of c f)) l ds') (sym (numbers-one c columns n s j))))
-              (sym (numbers-append c f (z ∷ [])) ∙ ap (dots_of c) m)
-              refl;
+          dots = written_one (held_dot c) o ds f z g.dots m g.place (omega (arith, dots_room h held)) (ed ∙ ap (set ds' p) (sym (dot_found j)));
         }
 
-    pub numbers-clutter : {x q : ℕ} {ds'' : List Float} → j < associations_in s → x ≡ id_at columns n j → x ≤ 0 → ds'' ≡ ds' → q ≡ p → Numbers c columns n s o (j + 1) q ds ds''
-    numbers-clutter h ex k ed eq =
+    pub dots_clutter : {x q : ℕ} {ds'' : List Dot} → j < associations_in s → x ≡ id_at columns n j → x ≤ 0 → ds'' ≡ ds' → q ≡ p → Dots c columns n s o (j + 1) q ds ds''
+    dots_clutter h ex k ed eq =
         let m : found_by columns n s j ≡ found_by columns n s (j + 1) = sym (by-clutter columns n s j h (omega arith)) in
-        record { some = omega arith; place = omega (arith, g.place, ap length m); numbers = written_same (DOT * o) ds g.numbers (ap (dots_of c) m) ed }
+        record { some = omega arith; place = omega (arith, g.place, ap length m); dots = written_same o ds g.dots (ap (dots_of c) m) ed }
 
-    pub numbers-all : associations_in s ≤ j → (p ≡ o + length (found_in columns n s)) × (ds' ≡ over (DOT * o) (dots_of c (found_in columns n s)) ds)
-    numbers-all h =
+    pub dots_all : associations_in s ≤ j → (p ≡ o + length (found_in columns n s)) × (ds' ≡ over o (dots_of c (found_in columns n s)) ds)
+    dots_all h =
         let m = by_all columns n s j h in
-        (g.place ∙ ap (λ l. o + length l) m, g.numbers.written ∙ ap (λ l. over (DOT * o) (dots_of c l) ds) m)
+        (g.place ∙ ap (λ l. o + length l) m, g.dots.written ∙ ap (λ l. over o (dots_of c l) ds) m)

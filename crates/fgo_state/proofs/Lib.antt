@@ -14,3 +14,4 @@ pub mod GatheringHeld
 pub mod ScatteringScan
 pub mod ScatteringHeld
 pub mod Heads
+pub mod Down

@@ -1,9 +1,10 @@
 -- The detections in windows of the held scans, gathered in order into flat lists, and their ids put back. Definitions only.
-use Rattle.std.specs.Prelude.{ℕ, zero, suc, ◌+◌, ◌-◌, ◌*◌, ◌<◌, ◌≤◌, max, ◌≡◌, cond, length, drop, get_or, eqb, Float}
-use mathlib.Core.List.{List, [], ◌∷◌, ◌++◌, map, flat_map, foldr}
+use Rattle.std.specs.Prelude.{ℕ, zero, suc, ◌+◌, ◌-◌, ◌*◌, ◌<◌, ◌≤◌, max, ◌≡◌, cond, length, drop, get_or, eqb}
+use mathlib.Core.List.{List, [], ◌∷◌, ◌++◌, map, foldr}
 use Rattle.bounds.specs.Bounds.{SCANS, STARTS, ACCEPTED, DETECTIONS, COLUMN}
 use Rattle.scalar.specs.Scalar.{seconds_of}
 use Rattle.engine.specs.declared.config.FgoConfig.{FgoConfig}
+use Rattle.cost.specs.declared.Dot.{Dot}
 use Rattle.engine.specs.declared.types.Association.{Association}
 use Rattle.engine.specs.Frame.{Frame, engine_of}
 use Rattle.engine.specs.Body.{Body, frame_in, body_refusal, rows}
@@ -44,21 +45,21 @@ ids_of gs = map (λ g. g.id) gs
 abbrev pub engines_of : List HeldDetection → List ℕ
 engines_of gs = map (λ g. g.engine) gs
 
--- x, y, the variance and the time in seconds of a dot
-abbrev pub dot_numbers : FgoConfig → Detection → List Float
-dot_numbers c d = d.x ∷ d.y ∷ noise c d ∷ seconds_of d.time ∷ []
+-- a detection as the search sees it: where it lies, the variance of its position, and the time in seconds
+abbrev pub dot_of : FgoConfig → Detection → Dot
+dot_of c d = record { x = d.x; y = d.y; r = noise c d; t = seconds_of d.time }
 
--- those of each
-abbrev pub held_numbers : FgoConfig → HeldDetection → List Float
-held_numbers c g = dot_numbers c g.dot
+-- that of a held one
+abbrev pub held_dot : FgoConfig → HeldDetection → Dot
+held_dot c g = dot_of c g.dot
 
--- those of all, one after the other
-abbrev pub dots_of : FgoConfig → List HeldDetection → List Float
-dots_of c gs = flat_map (held_numbers c) gs
+-- those of all
+abbrev pub dots_of : FgoConfig → List HeldDetection → List Dot
+dots_of c gs = map (held_dot c) gs
 
--- those of association j of a body
-abbrev pub dot_in : FgoConfig → Body → ℕ → List Float
-dot_in c b j = dot_numbers c (detection_of 0 (frame_in b) (association_in b j))
+-- that of association j of a body
+abbrev pub dot_in : FgoConfig → Body → ℕ → Dot
+dot_in c b j = dot_of c (detection_of 0 (frame_in b) (association_in b j))
 
 -- the detections in windows of scan n, of which the body is b
 abbrev pub found_in : List ℕ → ℕ → Body → List HeldDetection
@@ -77,9 +78,8 @@ pub record HeldScans (bodies columns : List ℕ) (first held : ℕ) : Type 0 whe
   pub passes : (i : ℕ) → i < held → body_refusal (body_at bodies columns (first + i)) ≡ 0
   pub room : window_count (scans_in bodies columns first held) ≤ DETECTIONS
 
--- of one scan, from place o on
+-- of one scan, of the body b, from place o on
 pub record GathersScan (b : Body) (columns : List ℕ) (n o : ℕ) (is es : List ℕ) : Type 0 where
-  pub passes : body_refusal b ≡ 0
   pub room : o + length (found_in columns n b) ≤ length is
   pub beside : length es ≡ length is
 

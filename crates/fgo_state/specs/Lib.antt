@@ -1,3 +1,5 @@
 pub mod Memory
+pub mod Live
 pub mod Gathering
 pub mod Sound
+pub mod Owners

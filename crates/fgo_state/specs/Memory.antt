@@ -2,7 +2,8 @@
 --
 -- The refiner keeps a few numbers by value, and is lent five arrays: the bodies of the held scans, beside each body its length and the refined id of each
 -- association, the owners of engine ids, and the words and the numbers of the frozen parts. Whatever lies past a count is ignored.
-use Rattle.std.specs.Prelude.{ℕ, ◌+◌, ◌*◌, ◌%◌, Bool, cond, ◌&&◌, ◌||◌, ◌≡◌, List, ◌∷◌, length, take, drop, get_or, replicate, leb, ltb, Float}
+use Rattle.std.specs.Prelude.{ℕ, ◌+◌, ◌*◌, ◌%◌, Bool, cond, ◌&&◌, ◌||◌, ◌≡◌, leb, ltb, Float}
+use Rattle.std.specs.Prelude.{List, ◌∷◌, length, take, drop, get_or, replicate}
 use Rattle.std.proofs.Math.Option.{Option, none, some}
 use Rattle.bounds.specs.Bounds.{SCANS, ASSOCIATIONS, BODY, BODIES, COLUMN, COLUMNS, OWNER, OWNERS}
 use Rattle.engine.specs.declared.types.BodyKind.{BodyKind}

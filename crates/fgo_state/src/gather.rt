@@ -1,51 +1,59 @@
 // The detections in windows of the held scans, gathered in order into flat lists for the rule and the search, and their ids put back.
-ghost use Rattle.std.specs.Prelude.{◌≡◌, ◌+◌, ◌*◌, ◌≤◌, length};
-ghost use Rattle.bounds.specs.Bounds.{ASSOCIATIONS, DETECTIONS, DOT};
+ghost use Rattle.std.specs.Prelude.{◌≡◌, ◌+◌, ◌≤◌, length, replicate};
+ghost use Rattle.bounds.specs.Bounds.{ASSOCIATIONS, DETECTIONS};
 ghost use Rattle.engine.specs.Frame.{engine_of};
-ghost use Rattle.engine.specs.Body.{body_of, body_refusal};
+ghost use Rattle.engine.specs.Body.{body_of};
 ghost use Rattle.buffers.specs.Buffers.{over};
 ghost use Rattle.fgo_state.specs.Memory.{association_in};
-ghost use Rattle.fgo_state.specs.Gathering.{dots_of, dot_in, count_in, Scattered, found_in, found_of};
+ghost use Rattle.fgo_state.specs.Gathering.{dots_of, dot_in, count_in, Scattered, found_in, found_of, StartsWithin, holder_of, latest_of};
 ghost use Rattle.fgo_state.specs.Gathering.{HeldScans, GathersScan, GatheredScan, GatheredAll, ScatteredScan};
 
+use crate::held::HeldRef;
 use crate::scans;
 use crate::scans::Scans;
-use bounds::{COLUMN, COLUMNS, DETECTIONS, DOT, DOTS, STARTS};
-use engine::body::Body;
+use bounds::{COLUMN, COLUMNS, DETECTIONS, STARTS};
+use cost::Dot;
+use engine::checked::CheckedBody;
 use engine::config::FgoConfig;
-use engine::types::{EngineId, ScanIndex};
+use engine::types::{EngineId, RefinedId, ScanIndex};
 use scalar::bits;
 
-fn engine_in(a: Option<EngineId>) -> EngineId
-    ensures { result.0 ≡ engine_of a }
-{
-    match a {
-        None => EngineId(0),
-        Some(e) => e,
-    }
+// The detections in windows of `held` scans, in order: `count` of them.
+// As it is: an array of ids and one of engine ids, since the search is lent the ids alone and changes them: structs would have to be taken apart before each
+// search and put together again after it, which is no plainer.
+#[derive(Drop)]
+pub struct Gathered {
+    pub ids: [u64; DETECTIONS],
+    pub engines: [u64; DETECTIONS],
+    // How many stand before each scan.
+    pub starts: [usize; STARTS],
+    pub held: usize,
+    pub count: usize,
+    pub ghost within: { StartsWithin starts held },
+    pub ghost few: { count ≤ DETECTIONS },
 }
 
 // The engine id of association j of a body; 0 where it has none.
-fn engine_of(b: &Body<'_>, j: usize) -> EngineId
-    ensures { body_refusal (body_of b.now) ≡ 0 → result.0 ≡ engine_of (association_in (body_of b.now) j).track }
+fn engine_of(b: &CheckedBody<'_>, j: usize) -> EngineId
+    ensures { result.0 ≡ engine_of (association_in (body_of b.now.body) j).track }
 {
-    engine_in(b.association(j).track)
+    b.association(j).track.unwrap_or(EngineId(0))
 }
 
 // The detections in windows of scan n, from place o on; the place after the last.
 fn gather_scan(
-    b: &Body<'_>,
+    b: &CheckedBody<'_>,
     scans: &Scans,
     n: ScanIndex,
     o: usize,
     ids: &mut [u64],
     engines: &mut [u64],
 ) -> usize
-    requires { GathersScan (body_of b.now) scans.now.columns n.0 o ids.old engines.old }
-    ensures { GatheredScan (found_in scans.now.columns n.0 (body_of b.now)) o result ids.old engines.old ids.new engines.new }
+    requires { GathersScan (body_of b.now.body) scans.now.columns n.0 o ids.old engines.old }
+    ensures { GatheredScan (found_in scans.now.columns n.0 (body_of b.now.body)) o result ids.old engines.old ids.new engines.new }
 {
     let mut p = o;
-    for j in 0..b.association_count() {
+    for j in 0..b.body.association_count() {
         let id = scans.id_at(n, j);
         if 0 < id.0 {
             ids[p] = id.0;
@@ -56,81 +64,117 @@ fn gather_scan(
     p
 }
 
-// The detections in windows of the held scans, and the number of those before each scan; how many they are. It asks for SCANS scans and DETECTIONS
-// detections at most, and bodies that pass.
-pub fn gather(
-    scans: &Scans,
-    first: ScanIndex,
-    held: usize,
-    ids: &mut [u64; DETECTIONS],
-    engines: &mut [u64; DETECTIONS],
-    starts: &mut [usize; STARTS],
-) -> usize
-    requires { HeldScans scans.now.bodies scans.now.columns first.0 held }
-    ensures { GatheredAll scans.now.bodies scans.now.columns first.0 held result ids.old engines.old ids.new engines.new starts.new }
-{
-    let mut p: usize = 0;
-    starts[0] = 0;
-    for k in 0..held {
-        let n = ScanIndex(first.0 + k as u64);
-        p = gather_scan(&scans.body(n), scans, n, p, ids, engines);
-        starts[k + 1] = p;
-    }
-    starts[held + 1..].fill(p);
-    p
-}
-
-// The numbers of association j of a scan: x, y, the variance and the time in seconds.
-fn put_dot(c: FgoConfig, b: &Body<'_>, j: usize, p: usize, dots: &mut [f64])
-    requires { (body_refusal (body_of b.now) ≡ 0) × (DOT + DOT * p ≤ length dots.old) }
-    ensures { dots.new ≡ over (DOT * p) (dot_in c (body_of b.now) j) dots.old }
+// Association j of a scan as the search sees it.
+fn dot_in(c: FgoConfig, b: &CheckedBody<'_>, j: usize) -> Dot
+    ensures { result ≡ dot_in c (body_of b.now.body) j }
 {
     let d = b.observation(b.association(j).index);
-    let t = bits::seconds(b.time());
-    let ns = [d.x, d.y, c.position_variance(), t];
-    buffers::put(dots, DOT * p, &ns);
+    Dot {
+        x: d.x,
+        y: d.y,
+        r: c.position_variance(),
+        t: bits::seconds(b.time()),
+    }
 }
 
-// The numbers of the detections in windows of scan n, of which the first is detection o; the number after the last.
+// The dots of the detections in windows of scan n, of which the first is detection o; the place after the last.
 fn dot_scan(
     c: FgoConfig,
-    b: &Body<'_>,
+    b: &CheckedBody<'_>,
     scans: &Scans,
     n: ScanIndex,
     o: usize,
-    dots: &mut [f64],
+    dots: &mut [Dot; DETECTIONS],
 ) -> usize
-    requires { (body_refusal (body_of b.now) ≡ 0) × (DOT * (o + length (found_in scans.now.columns n.0 (body_of b.now))) ≤ length dots.old) }
-    ensures count { result ≡ o + length (found_in scans.now.columns n.0 (body_of b.now)) }
-    ensures numbers { dots.new ≡ over (DOT * o) (dots_of c (found_in scans.now.columns n.0 (body_of b.now))) dots.old }
+    requires { o + length (found_in scans.now.columns n.0 (body_of b.now.body)) ≤ DETECTIONS }
+    ensures count { result ≡ o + length (found_in scans.now.columns n.0 (body_of b.now.body)) }
+    ensures dots { dots.new ≡ over o (dots_of c (found_in scans.now.columns n.0 (body_of b.now.body))) dots.old }
 {
     let mut p = o;
-    for j in 0..b.association_count() {
+    for j in 0..b.body.association_count() {
         if 0 < scans.id_at(n, j).0 {
-            put_dot(c, b, j, p, dots);
+            dots[p] = dot_in(c, b, j);
             p += 1;
         }
     }
     p
 }
 
-// The numbers of the detections in windows of the held scans. It asks what `gather` asks.
-pub fn gather_dots(
-    c: FgoConfig,
-    scans: &Scans,
-    first: ScanIndex,
-    held: usize,
-    dots: &mut [f64; DOTS],
-)
-    requires { HeldScans scans.now.bodies scans.now.columns first.0 held }
-    ensures { dots.new ≡ over 0 (dots_of c (found_of scans.now.bodies scans.now.columns first.0 held)) dots.old }
-{
-    let mut p: usize = 0;
-    for k in 0..held {
-        let n = ScanIndex(first.0 + k as u64);
-        p = dot_scan(c, &scans.body(n), scans, n, p, dots);
+impl HeldRef<'_> {
+    // The detections in windows of the held scans. It asks for SCANS scans and DETECTIONS detections at most, and bodies that pass.
+    pub fn gather(&self) -> Gathered
+        requires { HeldScans self.now.scans.now.bodies self.now.scans.now.columns self.now.first.0 self.now.count }
+        ensures all { GatheredAll self.now.scans.now.bodies self.now.scans.now.columns self.now.first.0 self.now.count result.count
+            (replicate DETECTIONS 0) (replicate DETECTIONS 0) result.ids result.engines result.starts }
+        ensures held { result.held ≡ self.now.count }
+    {
+        let mut ids = [0; DETECTIONS];
+        let mut engines = [0; DETECTIONS];
+        let mut starts = [0; STARTS];
+        let mut p: usize = 0;
+        for k in 0..self.count {
+            let n = ScanIndex(self.first.0 + k as u64);
+            let b = CheckedBody {
+                body: self.scans.body(n),
+            };
+            p = gather_scan(&b, self.scans, n, p, &mut ids, &mut engines);
+            starts[k + 1] = p;
+        }
+        starts[self.count + 1..].fill(p);
+        Gathered {
+            ids,
+            engines,
+            starts,
+            held: self.count,
+            count: p,
+        }
+    }
+
+    // The dots of the detections in windows of the held scans. It asks what `gather` asks.
+    pub fn gather_dots(&self, c: FgoConfig, dots: &mut [Dot; DETECTIONS])
+        requires { HeldScans self.now.scans.now.bodies self.now.scans.now.columns self.now.first.0 self.now.count }
+        ensures { dots.new
+            ≡ over 0 (dots_of c (found_of self.now.scans.now.bodies self.now.scans.now.columns self.now.first.0 self.now.count)) dots.old }
+    {
+        let mut p: usize = 0;
+        for k in 0..self.count {
+            let n = ScanIndex(self.first.0 + k as u64);
+            let b = CheckedBody {
+                body: self.scans.body(n),
+            };
+            p = dot_scan(c, &b, self.scans, n, p, dots);
+        }
     }
 }
+
+// ---- the latest holder of an engine id
+
+impl Gathered {
+    // The greatest id that holds the engine id e among the detections from place a to before place b; 0 if none.
+    fn holder_in(&self, e: EngineId, a: usize, b: usize) -> RefinedId
+        requires { b ≤ DETECTIONS }
+        ensures { result.0 ≡ holder_of e.0 self.now.ids self.now.engines a b }
+    {
+        let most = (a..b)
+            .filter(|i| self.engines[*i] == e.0)
+            .map(|i| self.ids[i])
+            .max();
+        RefinedId(most.unwrap_or(0))
+    }
+
+    // The holder of the latest detection of the engine id e; 0 if none.
+    pub fn latest(&self, e: EngineId) -> RefinedId
+        ensures { result.0 ≡ latest_of e.0 self.now.ids self.now.engines self.now.starts self.now.held }
+    {
+        (0..self.held)
+            .rev()
+            .map(|k| self.holder_in(e, self.starts[k], self.starts[k + 1]))
+            .find(|x| 0 < x.0)
+            .unwrap_or(RefinedId(0))
+    }
+}
+
+// ---- ids put back
 
 // The ids of scan n, of m associations, taken from place o on; the place after the last.
 fn scatter_scan(
@@ -156,15 +200,15 @@ fn scatter_scan(
 }
 
 // The ids of the held scans, put back. It asks what `gather` asks.
-pub fn scatter(scans: &mut Scans, first: ScanIndex, held: usize, ids: &[u64; DETECTIONS])
-    requires { HeldScans scans.old.bodies scans.old.columns first.0 held }
-    ensures ids { Scattered scans.old.bodies first.0 held ids.now scans.old.columns scans.new.columns }
+pub fn scatter(scans: &mut Scans, first: ScanIndex, g: &Gathered)
+    requires { HeldScans scans.old.bodies scans.old.columns first.0 g.now.held }
+    ensures ids { Scattered scans.old.bodies first.0 g.now.held g.now.ids scans.old.columns scans.new.columns }
     ensures bodies { scans.new.bodies ≡ scans.old.bodies }
 {
     let mut p: usize = 0;
-    for k in 0..held {
+    for k in 0..g.held {
         let n = ScanIndex(first.0 + k as u64);
         let m = scans.count_of(n);
-        p = scatter_scan(&mut scans.columns, n, m, p, ids);
+        p = scatter_scan(&mut scans.columns, n, m, p, &g.ids);
     }
 }

@@ -2,6 +2,7 @@
 #![tactic(auto)]
 
 pub mod gather;
+pub mod held;
 pub mod owners;
 pub mod scans;
 pub mod state;

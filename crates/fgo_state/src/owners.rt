@@ -1,11 +1,12 @@
-// The owners of engine ids in lent memory: which refined id an engine id belongs to, and which held its latest detection.
+// The owners of engine ids in lent memory: which refined id an engine id belongs to.
+// As it is, here and below: an array of words, of which an entry is OWNER: the published format of the lent memory.
 ghost use Rattle.std.specs.Prelude.{◌≡◌, ◌*◌, ◌<◌, ◌≤◌, [], ◌∷◌};
-ghost use Rattle.bounds.specs.Bounds.{DETECTIONS, OWNED, OWNER};
+ghost use Rattle.bounds.specs.Bounds.{OWNED, OWNER};
 ghost use Rattle.buffers.specs.Buffers.{over};
 ghost use Rattle.fgo_state.specs.Memory.{engine_at, owner_at, owner_of};
-ghost use Rattle.fgo_state.specs.Gathering.{StartsWithin, holder_of, latest_of};
+ghost use Rattle.fgo_state.specs.Owners.{IsPlaceOf};
 
-use bounds::{DETECTIONS, OWNER, OWNERS, STARTS};
+use bounds::{OWNER, OWNERS};
 use engine::types::{EngineId, RefinedId};
 
 // The engine id of entry k, which is below OWNED.
@@ -32,55 +33,27 @@ pub fn put_owner(owners: &mut [u64; OWNERS], k: usize, e: EngineId, x: RefinedId
     buffers::put(owners, OWNER * k, &[e.0, x.0]);
 }
 
-// The owner of an engine id; 0 if none.
-pub fn owner_of(owners: &[u64; OWNERS], owned: usize, e: EngineId) -> RefinedId
-    requires { owned ≤ OWNED }
-    ensures { result.0 ≡ owner_of owners.now owned e.0 }
-{
-    for k in 0..owned {
-        if engine_at(owners, k) == e {
-            return owner_at(owners, k);
-        }
-    }
-    RefinedId(0)
+// The owners, by their entries: the first `owned` are in use.
+#[derive(Clone, Copy)]
+pub struct OwnersRef<'a> {
+    pub entries: &'a [u64; OWNERS],
+    pub owned: usize,
+    pub ghost few: { owned ≤ OWNED },
 }
 
-// The greatest id that holds the engine id e among the detections from place a to before place b; 0 if none.
-fn holder_in(
-    e: EngineId,
-    ids: &[u64; DETECTIONS],
-    engines: &[u64; DETECTIONS],
-    a: usize,
-    b: usize,
-) -> RefinedId
-    requires { b ≤ DETECTIONS }
-    ensures { result.0 ≡ holder_of e.0 ids.now engines.now a b }
-{
-    let mut most = 0;
-    for i in a..b {
-        if engines[i] == e.0 {
-            most = most.max(ids[i]);
-        }
+impl OwnersRef<'_> {
+    // The place of the first entry of an engine id, if it has one.
+    pub fn place_of(&self, e: EngineId) -> Option<usize>
+        ensures { IsPlaceOf self.now.entries.now self.now.owned e.0 result }
+    {
+        (0..self.owned).find(|k| e == engine_at(self.entries, *k))
     }
-    RefinedId(most)
-}
 
-// The holder of the latest detection of the engine id e in the first `held` scans; 0 if none.
-pub fn latest_in(
-    e: EngineId,
-    ids: &[u64; DETECTIONS],
-    engines: &[u64; DETECTIONS],
-    starts: &[usize; STARTS],
-    held: usize,
-) -> RefinedId
-    requires { StartsWithin starts.now held }
-    ensures { result.0 ≡ latest_of e.0 ids.now engines.now starts.now held }
-{
-    for k in (0..held).rev() {
-        let x = holder_in(e, ids, engines, starts[k], starts[k + 1]);
-        if 0 < x.0 {
-            return x;
-        }
+    // The owner of an engine id; 0 if none.
+    pub fn owner_of(&self, e: EngineId) -> RefinedId
+        ensures { result.0 ≡ owner_of self.now.entries.now self.now.owned e.0 }
+    {
+        self.place_of(e)
+            .map_or(RefinedId(0), |k| owner_at(self.entries, k))
     }
-    RefinedId(0)
 }

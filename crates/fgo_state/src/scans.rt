@@ -1,13 +1,12 @@
 // The held scans in lent memory: the bodies, and beside each body a column of its length and the refined ids of its associations.
 ghost use Rattle.std.specs.Prelude.{◌≡◌, ◌+◌, ◌-◌, ◌*◌, ◌<◌, ◌≤◌, length};
-ghost use Rattle.bounds.specs.Bounds.{SCANS, ACCEPTED, ASSOCIATIONS, BODY, COLUMN};
+ghost use Rattle.bounds.specs.Bounds.{SCANS, ASSOCIATIONS, BODY, COLUMN};
 ghost use Rattle.engine.specs.Body.{associations_in, body_of, rows};
 ghost use Rattle.buffers.specs.Buffers.{over};
 ghost use Rattle.fgo_spec.specs.Lists.{has};
 ghost use Rattle.fgo_spec.specs.Rule.{Bytes};
-ghost use Rattle.fgo_spec.specs.Windows.{window_count};
 ghost use Rattle.fgo_state.specs.Memory.{no_scans, Typed, slot_at, head_at, head_for, length_in};
-ghost use Rattle.fgo_state.specs.Memory.{body_at, id_at, scans_in, in_window, column_words};
+ghost use Rattle.fgo_state.specs.Memory.{body_at, id_at, scan_in, column_words};
 ghost use Rattle.fgo_state.specs.Gathering.{count_in};
 
 use bounds::{ASSOCIATIONS, BODIES, BODY, COLUMN, COLUMNS, SCANS};
@@ -15,6 +14,7 @@ use buffers::put;
 use engine::body::Body;
 use engine::types::{BodyKind, RefinedId, ScanIndex};
 
+// The memory of the held scans: SCANS slots of a body, and as many columns.
 // As it is: arrays of bytes and words, which are the published format of the lent memory.
 #[derive(Drop)]
 pub struct Scans {
@@ -22,13 +22,14 @@ pub struct Scans {
     pub columns: [u64; COLUMNS],
 }
 
+// The slot of scan n: slots are used in turn.
 pub fn slot_of(n: ScanIndex) -> usize
     ensures { (result ≡ slot_at n.0) × (result < SCANS) }
 {
     (n.0 % SCANS as u64) as usize
 }
 
-// The head for a body of a kind and a length: there is one kind, and no mark of it.
+// The head of a column for a body of a kind and a length: the length alone, since there is one kind.
 fn head_for(kind: BodyKind, length: usize) -> u64
     ensures { result ≡ head_for kind length }
 {
@@ -48,7 +49,7 @@ fn length_in(head: u64) -> usize
     }
 }
 
-// A slice of bytes is one of bytes: a call of it tells the check so. How long it is.
+// How long a slice of bytes is. It is called for its first clause: where bytes are part of what is lent, the check does not see that each is below 256.
 pub fn are_bytes(l: &[u8]) -> usize
     ensures bytes { Bytes l.now }
     ensures length { result ≡ length l.now }
@@ -77,7 +78,7 @@ impl Scans {
 
     // ---- a held scan
 
-    // The head of its column, which says the length and the kind of its body.
+    // The head of its column, which says the length of its body.
     fn head_at(&self, n: ScanIndex) -> u64
         ensures { result ≡ head_at self.now.columns n.0 }
     {
@@ -114,29 +115,24 @@ impl Scans {
     }
 
     // Whether a refined id stands in its column, from association i to before association e.
-    // As it is: a loop and no `contains`, since the ids of a column lie apart, a stride from each other.
     pub fn stands_in(&self, n: ScanIndex, i: usize, e: usize, id: RefinedId) -> bool
         ensures { result ≡ has id.0 (rows (id_at self.now.columns n.0) i (e - i)) }
     {
-        for j in i..e {
-            if self.id_at(n, j) == id {
-                return true;
-            }
-        }
-        false
+        (i..e).any(|j| id == self.id_at(n, j))
+    }
+
+    // Whether a refined id stands in its column.
+    pub(crate) fn holds(&self, n: ScanIndex, id: RefinedId) -> bool
+        ensures { result ≡ has id.0 (scan_in self.now.bodies self.now.columns n.0).ids }
+    {
+        self.stands_in(n, 0, self.count_of(n), id)
     }
 
     // How many of its first m associations lie in windows.
-    fn count_in(&self, n: ScanIndex, m: usize) -> usize
+    pub(crate) fn count_in(&self, n: ScanIndex, m: usize) -> usize
         ensures { (result ≡ count_in self.now.columns n.0 m) × (result ≤ m) }
     {
-        let mut w: usize = 0;
-        for j in 0..m {
-            if 0 < self.id_at(n, j).0 {
-                w += 1;
-            }
-        }
-        w
+        (0..m).filter(|j| 0 < self.id_at(n, *j).0).count()
     }
 
     // A scan held in its slot: its body, and the ids of its associations.
@@ -149,34 +145,5 @@ impl Scans {
         let o = COLUMN * slot_of(n);
         put(&mut self.columns, o, &[head_for(b.kind, b.bytes.len())]);
         put(&mut self.columns, o + 1, ids);
-    }
-
-    // ---- all that are held, from the number `first` on; the numbers must be those of accepted scans
-
-    // Whether a refined id stands in the column of a held scan.
-    pub fn windows_in(&self, first: ScanIndex, held: usize, id: RefinedId) -> bool
-        requires { first.0 + held ≤ ACCEPTED + 1 }
-        ensures { result ≡ in_window id.0 (scans_in self.now.bodies self.now.columns first.0 held) }
-    {
-        for i in 0..held {
-            let n = ScanIndex(first.0 + i as u64);
-            if self.stands_in(n, 0, self.count_of(n), id) {
-                return true;
-            }
-        }
-        false
-    }
-
-    // Detections in windows, of SCANS held scans at most.
-    pub fn window_count(&self, first: ScanIndex, held: usize) -> usize
-        requires { (held ≤ SCANS) × (first.0 + held ≤ ACCEPTED + 1) }
-        ensures { result ≡ window_count (scans_in self.now.bodies self.now.columns first.0 held) }
-    {
-        let mut w: usize = 0;
-        for i in 0..held {
-            let n = ScanIndex(first.0 + i as u64);
-            w += self.count_in(n, self.count_of(n));
-        }
-        w
     }
 }

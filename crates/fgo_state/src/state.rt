@@ -1,28 +1,62 @@
 // What a refiner keeps by value, and the memory that is lent to it.
-ghost use Rattle.std.specs.Prelude.{◌≡◌, ◌+◌, ◌*◌, ◌≤◌};
+ghost use Rattle.std.specs.Prelude.{◌≡◌, ◌+◌, ◌≤◌};
 ghost use Rattle.bounds.specs.Bounds.{ACCEPTED, FROZEN};
-ghost use Rattle.fgo_spec.specs.Lists.{has};
-ghost use Rattle.fgo_part.specs.Parts.{part_ids};
-ghost use Rattle.fgo_state.specs.Memory.{live_in, no_memory};
+ghost use Rattle.fgo_state.specs.Memory.{no_memory};
+ghost use Rattle.fgo_state.specs.Live.{live_among};
 
+use crate::held::HeldRef;
 use crate::scans::Scans;
-use bounds::OWNERS;
+use bounds::{OWNERS, PARTS};
 use engine::config::FgoConfig;
 use engine::types::{RefinedId, ScanIndex};
-use fgo_part::FrozenParts;
+use fgo_part::{FrozenParts, FrozenTracks};
 use fgo_spec::moves::FgoCounters;
 
+// A refiner: its settings, how much of the lent memory is in use, and what it counts.
 #[derive(Clone, Copy)]
 pub struct FixedLagRefiner {
     pub config: FgoConfig,
     // The number of the oldest scan held.
     pub first: ScanIndex,
-    // How many scans are held, how many parts are frozen, and how many engine ids have an owner.
+    // How many scans are held.
     pub held: usize,
+    // How many tracks have a frozen part.
     pub frozen: usize,
+    // How many engine ids have an owner.
     pub owned: usize,
+    // The id of the next track that starts.
     pub next_id: RefinedId,
+    // How many moves the searches have made.
     pub counters: FgoCounters,
+}
+
+impl FixedLagRefiner {
+    // The scans held, as they are lent.
+    pub fn held_in<'a>(&self, scans: &'a Scans) -> HeldRef<'a>
+        requires { self.now.first.0 + self.now.held ≤ ACCEPTED + 1 }
+        ensures { (result.scans.now ≡ scans.now) × (result.first ≡ self.now.first) × (result.count ≡ self.now.held) }
+    {
+        HeldRef {
+            scans,
+            first: self.first,
+            count: self.held,
+        }
+    }
+
+    // What says which tracks are live, as it is lent: the scans held, and the words of the frozen parts.
+    pub fn live_in<'a>(&self, scans: &'a Scans, tracks: &'a [u64; PARTS]) -> LiveTracks<'a>
+        requires { (self.now.first.0 + self.now.held ≤ ACCEPTED + 1) × (self.now.frozen ≤ FROZEN) }
+        ensures held { (result.held.scans.now ≡ scans.now) × (result.held.first ≡ self.now.first) × (result.held.count ≡ self.now.held) }
+        ensures frozen { (result.frozen.tracks.now ≡ tracks.now) × (result.frozen.count ≡ self.now.frozen) }
+    {
+        LiveTracks {
+            held: self.held_in(scans),
+            frozen: FrozenTracks {
+                tracks,
+                count: self.frozen,
+            },
+        }
+    }
 }
 
 // The memory that the caller owns and lends: the held scans, the owners of engine ids, and the frozen parts.
@@ -46,32 +80,19 @@ impl Memory {
     }
 }
 
-// Whether a track has a frozen part.
-// As it is: a loop and no `contains`, since the ids of the parts lie apart, a stride from each other.
-fn is_frozen(parts: &FrozenParts, frozen: usize, id: RefinedId) -> bool
-    requires { frozen ≤ FROZEN }
-    ensures { result ≡ has id.0 (part_ids parts.now.tracks frozen) }
-{
-    for k in 0..frozen {
-        if fgo_part::part_id(&parts.tracks, k) == id {
-            return true;
-        }
-    }
-    false
+// What says which tracks are live: the scans held, and the words of the frozen parts.
+#[derive(Clone, Copy)]
+pub struct LiveTracks<'a> {
+    pub held: HeldRef<'a>,
+    pub frozen: FrozenTracks<'a>,
 }
 
-impl FixedLagRefiner {
+impl LiveTracks<'_> {
     // Whether a track is live: it has a frozen part or a window.
-    pub fn is_live(&self, scans: &Scans, parts: &FrozenParts, id: RefinedId) -> bool
-        requires { (self.now.first.0 + self.now.held ≤ ACCEPTED + 1) × (self.now.frozen ≤ FROZEN) }
-        ensures { result ≡ live_in scans.now.bodies scans.now.columns self.now.first.0 self.now.held parts.now.tracks self.now.frozen id.0 }
+    #[tactic(auto, unfolding(crate::specs::Memory::live_in))]
+    pub fn has(&self, id: RefinedId) -> bool
+        ensures { result ≡ live_among self.now id.0 }
     {
-        if is_frozen(parts, self.frozen, id) {
-            return true;
-        }
-        if id.0 == 0 {
-            return false;
-        }
-        scans.windows_in(self.first, self.held, id)
+        self.frozen.has(id) || (0 < id.0 && self.held.windows_in(id))
     }
 }

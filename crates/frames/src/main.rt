@@ -2,8 +2,8 @@
 #![tactic(auto)]
 
 use playback::play;
-use playback::play::Form;
+use playback::sink::Full;
 
 fn main(rt: HostRuntime) {
-    play::play_input(&rt, Form::Full);
+    play::play_input::<Full>(&rt);
 }

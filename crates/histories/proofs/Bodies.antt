@@ -15,7 +15,7 @@ use Rattle.buffers.specs.Answer.{Op}
 use Rattle.engine.specs.declared.config.FgoConfig.{FgoConfig}
 use Rattle.engine.specs.declared.types.EngineTrack.{EngineTrack}
 use Rattle.engine.specs.Little.{little}
-use Rattle.engine.specs.Frame.{Frame, class_of, Associated, ClassLabel}
+use Rattle.engine.specs.Frame.{Frame, present, Associated, ClassLabel}
 use Rattle.engine.specs.Body.{Body, layout, rows, track_at, frame_of, frame_in, body_refusal, tracks_in, sensors_in}
 use Rattle.engine.proofs.Bytes.{little_below}
 use Rattle.engine.proofs.Passing.{sized-body, few_sensors, length-rows}
@@ -57,7 +57,7 @@ rows-All P g h i (suc n) = (h i, rows-All P g h (suc i) n)
 abbrev Classed : ClassLabel → Type 0
 Classed k = class_word k ≤ 2 ^ 32
 
-class_bound : (n v : ℕ) → v < 2 ^ 32 → Classed (class_of n v)
+class_bound : (n v : ℕ) → v < 2 ^ 32 → Classed (present n v)
 class_bound zero v h = omega arith
 class_bound (suc n) v h = omega arith
 

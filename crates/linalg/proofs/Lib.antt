@@ -1,4 +1,5 @@
 pub mod Fill
+pub mod Made
 pub mod Grown
 pub mod Sums
 pub mod Diagonal

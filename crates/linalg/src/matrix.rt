@@ -5,6 +5,7 @@ ghost use Rattle.linalg.specs.Matrix as Matrix;
 ghost use Rattle.linalg.specs.Rows as Rows;
 
 use crate::rows::{column, put_row, row};
+use std::array::from_fn;
 
 // Six products: the one at index 0, the rest added upwards.
 fn dot6(u: &[f64; 6], v: &[f64; 6]) -> f64
@@ -28,18 +29,11 @@ fn mul_row(a: &[f64; 36], i: usize, b: &[f64; 36]) -> [f64; 6]
     ensures { result ≡ Rows.mul_row f64 a.now i b.now }
 {
     let u = row(a, i);
-    [
-        times_column(&u, b, 0),
-        times_column(&u, b, 1),
-        times_column(&u, b, 2),
-        times_column(&u, b, 3),
-        times_column(&u, b, 4),
-        times_column(&u, b, 5),
-    ]
+    from_fn(|j| times_column(&u, b, j))
 }
 
 // The product: an entry is the product at index 0, the rest added upwards.
-// As it is: tried by value, a product costs 464 instructions for 381, as it is copied; so it is written where it is wanted.
+// As it is: tried by value, a product is copied and costs 464 instructions for 381. The old form, written where it is wanted, does not pay this.
 pub fn mul6(a: &[f64; 36], b: &[f64; 36], out: &mut [f64; 36])
     ensures { out.new ≡ Matrix.mul f64 a.now b.now }
 {
@@ -53,12 +47,10 @@ pub fn mul6(a: &[f64; 36], b: &[f64; 36], out: &mut [f64; 36])
 pub fn mul_vec6(a: &[f64; 36], v: &[f64; 6]) -> [f64; 6]
     ensures { result ≡ Matrix.mul_vec f64 a.now v.now }
 {
-    let mut out = [0.0; 6];
-    for i in 0..6 {
+    from_fn(|i| {
         let u = row(a, i);
-        out[i] = dot6(&u, v);
-    }
-    out
+        dot6(&u, v)
+    })
 }
 
 // The transpose.
@@ -77,22 +69,24 @@ pub fn transpose6(a: &[f64; 36]) -> [f64; 36]
 pub fn add<const N: usize>(a: &[f64; N], b: &[f64; N]) -> [f64; N]
     ensures { result ≡ Matrix.add f64 N a.now b.now }
 {
-    let mut out = [0.0; N];
-    for k in 0..N {
-        out[k] = a[k] + b[k];
-    }
-    out
+    from_fn(
+        |k|
+            requires { k < N }
+            ensures { result ≡ f64.add (Matrix.at f64 a.entry.now k) (Matrix.at f64 b.entry.now k) }
+        { a[k] + b[k] },
+    )
 }
 
 // The difference of two vectors, or of two matrices.
 pub fn sub<const N: usize>(a: &[f64; N], b: &[f64; N]) -> [f64; N]
     ensures { result ≡ Matrix.sub f64 N a.now b.now }
 {
-    let mut out = [0.0; N];
-    for k in 0..N {
-        out[k] = a[k] - b[k];
-    }
-    out
+    from_fn(
+        |k|
+            requires { k < N }
+            ensures { result ≡ f64.sub (Matrix.at f64 a.entry.now k) (Matrix.at f64 b.entry.now k) }
+        { a[k] - b[k] },
+    )
 }
 
 // Half the sum of a matrix and its transpose.
@@ -100,9 +94,5 @@ pub fn half_sum6(a: &[f64; 36]) -> [f64; 36]
     ensures { result ≡ Matrix.half_sum f64 a.now }
 {
     let t = transpose6(a);
-    let mut out = [0.0; 36];
-    for n in 0..36 {
-        out[n] = 0.5 * (a[n] + t[n]);
-    }
-    out
+    from_fn(|n| 0.5 * (a[n] + t[n]))
 }

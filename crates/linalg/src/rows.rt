@@ -22,17 +22,13 @@ pub fn column(a: &[f64; 36], j: usize) -> [f64; 6]
 }
 
 // Stores six numbers, s places apart from place p on.
-// As it is: the clause names six writes, one after the other, and the code shows them; a loop would need them counted.
 fn put_strided(m: &mut [f64; 36], p: usize, s: usize, v: &[f64; 6])
     requires { p + 5 * s < 36 }
     ensures { m.new ≡ Rows.stored f64 m.old p s v.now }
 {
-    m[p] = v[0];
-    m[p + s] = v[1];
-    m[p + 2 * s] = v[2];
-    m[p + 3 * s] = v[3];
-    m[p + 4 * s] = v[4];
-    m[p + 5 * s] = v[5];
+    for (k, x) in v.iter().enumerate() {
+        m[p + s * k] = *x;
+    }
 }
 
 // Stores row i.

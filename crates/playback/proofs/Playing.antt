@@ -33,10 +33,9 @@ use Rattle.histories.specs.Joined as Joined
 use Rattle.histories.proofs.RefinedLaw.{at_new}
 use Rattle.histories.proofs.JoinedLaw.{settings, fine, at_opened}
 use Rattle.playback.specs.Told.{counted_line}
-use Rattle.playback.specs.declared.sink.Sink.{Sink}
-use Rattle.playback.specs.declared.sink.Sink.TheVariants.{Short, Full, Smoother}
 use Rattle.playback.specs.declared.steps.Player.{Player}
-use Rattle.playback.specs.Played.{pushes, takes, Fresh, Led, Leads, Fewer, TakesAll, Smoothed, Serves, Plain, Emptied, Played}
+use Rattle.playback.specs.Smoothed.{Smoothed}
+use Rattle.playback.specs.Played.{pushes, takes, Fresh, Led, Leads, Fewer, TakesAll, Played}
 
 -- ---- where calls lead
 
@@ -114,8 +113,8 @@ module _ (r : FixedLagRefiner) (m : Memory) (f : Fresh r) where
   fresh_led h = led_on (record { settings = f.settings; calls = []; reached = opened }) h
 
   pub played :
-      {s : List ℕ} {n : ℕ} {r' : FixedLagRefiner} {m' : Memory} {r'' : FixedLagRefiner} {m'' : Memory} (p : Player) →
-      Leads (pushes s n) r m r' m' → TakesAll r' m' r'' m'' → p.refiner ≡ r'' → p.memory ≡ m'' → Emptied p.sink → Played s n r p
+      {K : Type 0} {emptied : K → Type 0} {s : List ℕ} {n : ℕ} {r' : FixedLagRefiner} {m' : Memory} {r'' : FixedLagRefiner} {m'' : Memory} (p : Player K) →
+      Leads (pushes s n) r m r' m' → TakesAll r' m' r'' m'' → p.refiner ≡ r'' → p.memory ≡ m'' → emptied p.sink → Played emptied s n r p
   played {s} {n} {r'} p h t e memory rest =
       record {
         held = r'.held;
@@ -148,9 +147,3 @@ opened_serves d w {s = s} e h =
     let a = at_opened d s w [] q in
     let g : s.config ≡ d = settings d ok [] s w a in
     record { settings = ap Config.legal g ∙ ok; calls = []; reached = subst (λ d. Joined.Reached d [] s w) (sym g) a }
-
--- where there is none
-pub plain_serves : (k : Sink) (w : Window) → Plain k → Serves k w
-plain_serves Short w h = tt
-plain_serves Full w h = tt
-plain_serves (Smoother s) w h = absurd h

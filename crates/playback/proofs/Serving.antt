@@ -1,14 +1,16 @@
--- A push and a take of a smoother behind a sink: what is told of it, where it leads, and that a take leaves one frame fewer. Assumes nothing.
-use Prim.Native.Nat.{ℕ, suc, ◌≤◌, ◌<◌}
+-- A push and a take of a smoother behind the refiner: what is told of it, where it leads, and that a take leaves one frame fewer. Assumes nothing.
+use Prim.Native.Nat.{ℕ, suc, ◌<◌}
 use native.Mathlib.Omega.{arith}
 use mathlib.Core.Path.{◌≡◌, refl, sym, ap, ◌∙◌, subst}
 use mathlib.Core.Bool.{true, cond}
 use mathlib.Core.List.{List, [], ◌∷◌, ◌++◌}
 use lib.ListN.{length, length-replicate}
 use lib.Ieee.{Float}
+use Rattle.std.proofs.Math.Logic.{∥∥₁_map, ∥∥₁_elim}
+use Rattle.std.proofs.Math.Nat.{ℕ_set}
 use Rattle.bounds.specs.Bounds.{WORDS, NUMBERS, TEXT}
 use Rattle.scalar.specs.Digits.{nil}
-use Rattle.buffers.specs.Answer.{Op, taken, Written, roomy, checked, Answer, Refused, Held, Frame}
+use Rattle.buffers.specs.Answer.{Op, taken, Written, roomy, checked}
 use Rattle.print.specs.Text.{Puts, full_answer}
 use Rattle.print.proofs.Showing.{shown}
 use Rattle.print.proofs.Fitting.{full_answer_few, ready}
@@ -22,25 +24,24 @@ use Rattle.histories.specs.Smoothed.{smoothing}
 use Rattle.histories.specs.Joined.{Call, Same, Reached}
 use Rattle.histories.proofs.CallsLaw.{more}
 use Rattle.histories.proofs.JoinedLaw.{known, settings}
-use Rattle.playback.specs.declared.sink.FrameBuffers.{FrameBuffers}
-use Rattle.playback.specs.declared.sink.Sink.{Sink}
-use Rattle.playback.specs.declared.sink.Sink.TheVariants.{Short, Full, Smoother}
-use Rattle.playback.specs.Told.{empty_buffers, Tells, Stays, Smooths, Prints}
-use Rattle.playback.specs.Played.{Smoothed, Serves}
+use Rattle.playback.specs.declared.output.FrameBuffers.{FrameBuffers}
+use Rattle.playback.specs.declared.smoothed.Smoother.{Smoother}
+use Rattle.playback.specs.Told.{empty_buffers, lent_to, Tells}
+use Rattle.playback.specs.Smoothed.{Smoothed}
 
 -- ---- what is told
 
 pub tells :
-    {o : Op Written} {s : FixedLagSmoother} {w : Window} {b : FrameBuffers} {p : Pushed} {w' : Window} {ws : List ℕ} {ns : List Float} {out out' : List ℕ} {end : ℕ} →
-    b ≡ empty_buffers → Promised o s w b.words b.numbers p w' ws ns → length out ≡ TEXT → Puts (full_answer p.answer ws ns) 0 out out' end →
-    Tells s w p.state w' out' end o
-tells {o} {s} {w} {p = p} {w'} {ws} {ns} e h room q =
+    {o : Op Written} (k k' : Smoother) {b : FrameBuffers} {p : Pushed} {ws : List ℕ} {ns : List Float} {out out' : List ℕ} {end : ℕ} →
+    b ≡ empty_buffers → Promised o k.state (lent_to k) b.words b.numbers p (lent_to k') ws ns → k'.state ≡ p.state → length out ≡ TEXT →
+    Puts (full_answer p.answer ws ns) 0 out out' end → Tells k k' out' end o
+tells {o} k k' {p = p} {ws} {ns} e h state room q =
     record {
       given = p;
       words = ws;
       numbers = ns;
-      promised = subst (λ (b : FrameBuffers). Promised o s w b.words b.numbers p w' ws ns) e h;
-      state = refl;
+      promised = subst (λ (b : FrameBuffers). Promised o k.state (lent_to k) b.words b.numbers p (lent_to k') ws ns) e h;
+      state = state;
       text = ready q (full_answer_few ws ns p.answer (shown (λ f. f) state_in h.ends)) (omega (arith, room));
     }
 
@@ -94,48 +95,28 @@ module _ (o : Op Written) (s : FixedLagSmoother) (w : Window) {p : Pushed} {w' :
         reached = subst (λ (d : SmootherConfig). Reached d (l.calls ++ more (roomy (length call.words) (length call.numbers)) o) p.state w') (sym e) a;
       }
 
-module _ {s : FixedLagSmoother} {w : Window} {s' : FixedLagSmoother} {w' : Window} {out' : List ℕ} {end : ℕ} where
-  pub tells_on : {o : Op Written} → Smoothed s w → Tells s w s' w' out' end o → Smoothed s' w'
-  tells_on {o} l h = subst (λ s. Smoothed s w') (sym h.state) (serves o s w l h.promised)
+-- the same of a call with output buffers b
+pub served :
+    {o : Op Written} {s : FixedLagSmoother} {w : Window} {b : FrameBuffers} {p : Pushed} {w' : Window} {ws : List ℕ} {ns : List Float} →
+    b ≡ empty_buffers → Promised o s w b.words b.numbers p w' ws ns → ∥ Smoothed s w ∥₁ → ∥ Smoothed p.state w' ∥₁
+served {o} {s} {w} {p = p} {w'} {ws} {ns} e h t =
+    ∥∥₁_map t (λ l. serves o s w l (subst (λ (b : FrameBuffers). Promised o s w b.words b.numbers p w' ws ns) e h))
 
-  stays_on : {line : List ℕ} → Smoothed s w → Stays s w s' w' out' end line → Smoothed s' w'
-  stays_on l h = subst (λ s. Smoothed s w') (sym h.state) (subst (Smoothed s) (sym h.window) l)
-
-  pub tells_fewer : Smoothed s w → 0 < s.held → Tells s w s' w' out' end taken → s.held ≡ suc s'.held
+module _ {k k' : Smoother} {out' : List ℕ} {end : ℕ} where
+  fewer : Smoothed k.state (lent_to k) → 0 < k.state.held → Tells k k' out' end taken → k.state.held ≡ suc k'.state.held
   unfolding takes
-  tells_fewer l some h =
+  fewer l some h =
+      let s = k.state in
+      let w = lent_to k in
       let d = s.config in
       let u = (smoothing d l.calls).state in
       let n = ((known d l.settings).ends l.calls s w l.reached (call taken s w l h.promised) tt (same s w, h.promised)).state in
       let held : length u.frames ≡ s.held = sym (ap (λ t. length t.frames) l.reached.state) ∙ held_is s w in
-      let after : s'.held ≡ length (emit_oldest u u.frames).1.frames =
+      let after : k'.state.held ≡ length (emit_oldest u u.frames).1.frames =
       ap (λ s. s.held) h.state
-      ∙ sym (held_is h.given.state w')
+      ∙ sym (held_is h.given.state (lent_to k'))
       ∙ ap (λ t. length t.frames) (n ∙ ap (λ b. (checked (cond b 0 4) u (reply u taken)).1) enough) in
       sym held ∙ take-fewer u u.frames (omega arith) ∙ ap suc (sym after)
 
--- ---- an answer of the refiner
-
-module _ (s : FixedLagSmoother) (w : Window) (s' : FixedLagSmoother) (w' : Window) (out' : List ℕ) (end : ℕ) where
-  smooths-on : (answer : Answer) (b : FrameBuffers) → Smoothed s w → Smooths s w s' w' out' end answer b → Smoothed s' w'
-  smooths-on (Refused n) b l h = stays_on l h
-  smooths-on Held b l h = stays_on l h
-  smooths-on (Frame m n) b l h = tells_on l h
-
-  smooths-within : (answer : Answer) (b : FrameBuffers) → Smooths s w s' w' out' end answer b → end ≤ length out'
-  smooths-within (Refused n) b h = h.text.within
-  smooths-within Held b h = h.text.within
-  smooths-within (Frame m n) b h = h.text.within
-
--- ---- a sink
-
-module _ (w : Window) (k' : Sink) (w' : Window) (out' : List ℕ) (end : ℕ) where
-  pub prints_on : (k : Sink) (answer : Answer) (b : FrameBuffers) → Serves k w → Prints w k' w' out' end k answer b → Serves k' w'
-  prints_on Short answer b l h = subst (λ k. Serves k w') (sym h.sink) tt
-  prints_on Full answer b l h = subst (λ k. Serves k w') (sym h.sink) tt
-  prints_on (Smoother s) answer b l h = subst (λ k. Serves k w') (sym h.sink) (smooths-on s w h.state w' out' end answer b l h.smooths)
-
-  pub prints_within : (k : Sink) (answer : Answer) (b : FrameBuffers) → Prints w k' w' out' end k answer b → end ≤ length out'
-  prints_within Short answer b h = h.text.within
-  prints_within Full answer b h = h.text.within
-  prints_within (Smoother s) answer b h = smooths-within s w h.state w' out' end answer b h.smooths
+  pub tells_fewer : 0 < k.state.held → Tells k k' out' end taken → k.state.held ≡ suc k'.state.held
+  tells_fewer some h = ∥∥₁_elim k.led (ℕ_set _ _) (λ l. fewer l some h)

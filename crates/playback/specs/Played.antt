@@ -1,6 +1,6 @@
 -- What a run of a recording is: every frame pushed in order, then takes until none is held. Definitions only.
 use Rattle.std.specs.Prelude.{ℕ, suc, ◌<◌, ◌≡◌, true, List, ◌++◌, replicate}
-use Rattle.buffers.specs.Answer.{Op, pushed, taken, Written}
+use Rattle.buffers.specs.Answer.{Op, pushed, taken}
 use Rattle.engine.specs.declared.types.BodyKind.TheVariants.{Narrow}
 use Rattle.engine.specs.Body.{Body, body, rows}
 use Rattle.engine.specs.Config.{legal}
@@ -8,14 +8,9 @@ use Rattle.recording.specs.Recording.{recorded_body}
 use Rattle.fgo_state.specs.declared.state.FixedLagRefiner.{FixedLagRefiner}
 use Rattle.fgo_state.specs.declared.state.Memory.{Memory}
 use Rattle.fgo.specs.Promise.{new_by}
-use Rattle.smoother_window.specs.declared.FixedLagSmoother.{FixedLagSmoother}
-use Rattle.smoother_window.specs.Config as Smoothing
-use Rattle.smoother.specs.Promise.{Window}
 use Rattle.histories.specs.Refined as Refined
-use Rattle.histories.specs.Joined as Joined
-use Rattle.playback.specs.declared.sink.Sink.{Sink}
+use Rattle.playback.specs.declared.smoothed.Smoother.{Smoother}
 use Rattle.playback.specs.declared.steps.Player.{Player}
-use Rattle.playback.specs.declared.sink.Sink.TheVariants.{Short, Full, Smoother}
 
 -- ---- the refiner
 
@@ -52,37 +47,16 @@ pub record TakesAll (r : FixedLagRefiner) (m : Memory) (r' : FixedLagRefiner) (m
   pub leads : Leads (takes r.held) r m r' m'
   pub none : r'.held ≡ 0
 
--- ---- the smoother
-
--- pushes and takes have led to a smoother and its window
-pub record Smoothed (s : FixedLagSmoother) (w : Window) : Type 0 where
-  pub settings : Smoothing.legal s.config ≡ true
-  pub calls : List (Op Written)
-  pub reached : Joined.Reached s.config calls s w
-
--- that behind a sink, if there is one
-abbrev pub Serves : Sink → Window → Type 0
-Serves Short w = Unit {0}
-Serves Full w = Unit {0}
-Serves (Smoother s) w = Smoothed s w
-
--- there is none
-abbrev pub Plain : Sink → Type 0
-Plain Short = Unit {0}
-Plain Full = Unit {0}
-Plain (Smoother s) = ⊥
-
 -- ---- the run
 
--- none is held behind a sink
-abbrev pub Emptied : Sink → Type 0
-Emptied Short = Unit {0}
-Emptied Full = Unit {0}
-Emptied (Smoother s) = s.held ≡ 0
+-- a smoother holds none
+abbrev pub Emptied : Smoother → Type 0
+Emptied k = k.state.held ≡ 0
 
--- the n frames of the recording s were pushed to a refiner r as it is opened, then all taken, so that none is held, then all from a smoother behind it
-pub record Played (s : List ℕ) (n : ℕ) (r : FixedLagRefiner) (p : Player) : Type 0 where
+-- the n frames of the recording s were pushed to a refiner r as it is opened, then all taken, so that none is held, then all from where its frames go, as
+-- emptied says
+pub record Played {K : Type 0} (emptied : K → Type 0) (s : List ℕ) (n : ℕ) (r : FixedLagRefiner) (p : Player K) : Type 0 where
   pub held : ℕ
   pub reached : Refined.Reached r.config (pushes s n ++ takes held) p.refiner p.memory
   pub none : p.refiner.held ≡ 0
-  pub rest : Emptied p.sink
+  pub rest : emptied p.sink

@@ -1,140 +1,118 @@
 // Where the refiner's frames go: into text, in short or in full; or to a smoother, whose frames go into text in full.
 //
-// A smoother has its window in window and values, which are empty where there is none. The text of an answer is put together at the start of text, and a
-// function gives back the place where it ends.
-ghost use Rattle.std.specs.Prelude.{◌≡◌};
-ghost use Rattle.buffers.specs.Answer.{answer_in, pushed, taken};
+// The text of an answer is put together at the start of text, and a function gives back the place where it ends.
+ghost use Rattle.std.specs.Prelude.{◌≤◌, length};
+ghost use Rattle.bounds.specs.Bounds.{LAG};
+ghost use Rattle.buffers.specs.Answer.{answer_in};
 ghost use Rattle.print.specs.Printed.{Shown, Counted};
-ghost use Rattle.smoother_frame.specs.Frame.{frame as frame_of};
-ghost use Rattle.smoother.specs.Promise as Smoothing;
-ghost use Rattle.playback.specs.Told.{empty_buffers, Tells, Smooths, Prints};
 
-use bounds::{NUMBERS, TEXT, WORDS};
+use crate::output::FrameBuffers;
+use bounds::TEXT;
 use buffers::Answer;
-use print::{answers, lines};
-use smoother_window::FixedLagSmoother;
-
-// FrameBuffers buffers, with room for the longest frame.
-#[derive(Drop)]
-pub struct FrameBuffers {
-    pub words: [u64; WORDS],
-    pub numbers: [f64; NUMBERS],
-}
-
-impl FrameBuffers {
-    pub fn new() -> FrameBuffers
-        ensures { result ≡ empty_buffers }
-    {
-        FrameBuffers {
-            words: [0; WORDS],
-            numbers: [0.0; NUMBERS],
-        }
-    }
-}
+use console::Console;
+use engine::config::FgoConfig;
+use print::answers;
+use refusals::Refusal;
 
 // Where the frames go.
-#[derive(Clone, Copy)]
-pub enum Sink {
-    Short,
-    Full,
-    Smoother(FixedLagSmoother),
-}
+pub trait Sink: Drop {
+    ghost use Rattle.std.specs.Prelude.{ℕ, List};
+    ghost use Rattle.buffers.specs.Answer.{Answer};
+    ghost use Rattle.playback.specs.declared.output.FrameBuffers.{FrameBuffers};
 
-// ---- a smoother's answers
+    // It holds no frame.
+    ghost emptied_of: { Self → Type 0 };
 
-// A frame, pushed to a smoother, and its answer.
-fn smooth_one(
-    state: &mut FixedLagSmoother,
-    words: &[u64],
-    numbers: &[f64],
-    window: &mut [u64],
-    values: &mut [f64],
-    text: &mut [u8; TEXT],
-) -> usize
-    ensures { Tells state.old (Smoothing.window window.old values.old) state.new (Smoothing.window window.new values.new) text.new result
-        (pushed (frame_of words.now numbers.now)) }
-{
-    let mut smoothed = FrameBuffers::new();
-    let answer = smoother::push(
-        state,
-        window,
-        values,
-        words,
-        numbers,
-        &mut smoothed.words,
-        &mut smoothed.numbers,
-    );
-    answers::put_full(text, answer, &smoothed.words, &smoothed.numbers)
-}
+    // An answer of the refiner comes to it, with its frame at the front of these buffers: what is left of it, and the text, which ends there.
+    ghost prints_of: { Self → Self → List ℕ → ℕ → Answer → FrameBuffers → Type 0 };
 
-// The oldest frame that a smoother holds, taken.
-pub fn take_smoothed(
-    state: &mut FixedLagSmoother,
-    window: &[u64],
-    values: &[f64],
-    text: &mut [u8; TEXT],
-) -> usize
-    ensures { Tells state.old (Smoothing.window window.now values.now) state.new (Smoothing.window window.now values.now) text.new result taken }
-{
-    let mut smoothed = FrameBuffers::new();
-    let answer = smoother::take(
-        state,
-        window,
-        values,
-        &mut smoothed.words,
-        &mut smoothed.numbers,
-    );
-    answers::put_full(text, answer, &smoothed.words, &smoothed.numbers)
-}
+    // Opened behind a refiner with these settings; or its refusal.
+    fn open(c: FgoConfig) -> Result<Self, Refusal>
+        requires { c.lag_frames ≤ LAG };
 
-// ---- the refiner's answers
-
-// An answer of the refiner, to a smoother: a refusal is told, and a frame is pushed.
-fn put_smoothed(
-    state: &mut FixedLagSmoother,
-    answer: Answer,
-    output: &FrameBuffers,
-    window: &mut [u64],
-    values: &mut [f64],
-    text: &mut [u8; TEXT],
-) -> usize
-    requires { Shown (answer_in answer) output.now.words output.now.numbers }
-    ensures { Smooths state.old (Smoothing.window window.old values.old) state.new (Smoothing.window window.new values.new) text.new result
-        (answer_in answer) output.now }
-{
-    match answer {
-        Err(refusal) => lines::put_refused(text, 0, refusal),
-        Ok(None) => 0,
-        Ok(Some(f)) => smooth_one(
-            state,
-            &output.words[..f.words],
-            &output.numbers[..f.numbers],
-            window,
-            values,
-            text,
-        ),
-    }
-}
-
-impl Sink {
     // An answer of the refiner, to where its frames go.
-    pub fn put_answer(
+    fn put_answer(&mut self, answer: Answer, output: &FrameBuffers, text: &mut [u8; TEXT]) -> usize
+        requires shown { Shown (answer_in answer) output.now.words output.now.numbers }
+        requires counted { Counted (answer_in answer) output.now.words }
+        ensures prints { prints_of self.old self.new text.new result (answer_in answer) output.now }
+        ensures within { result ≤ length text.new };
+
+    // All that is still held, taken and printed.
+    fn take_rest(
+        &mut self,
+        rt: &(impl Print + Eprint),
+        text: &mut [u8; TEXT],
+        console: &mut Console,
+    )
+        ensures { emptied_of self.new };
+}
+
+// Into text, in short.
+#[derive(Drop)]
+pub struct Short;
+
+impl Sink for Short {
+    ghost use Rattle.print.specs.Text.{short_answer};
+    ghost use Rattle.playback.specs.Told.{Puts};
+
+    ghost emptied_of = { λ k. Unit {0} };
+
+    ghost prints_of = { λ k k' out end answer b. Puts k k' out end (short_answer answer b.words b.numbers) };
+
+    fn open(_c: FgoConfig) -> Result<Short, Refusal> {
+        Ok(Short)
+    }
+
+    #[tactic(auto, using(print::proofs::Fitting::ready, print::proofs::Fitting::short_answer_few))]
+    fn put_answer(
         &mut self,
         answer: Answer,
         output: &FrameBuffers,
-        window: &mut [u64],
-        values: &mut [f64],
         text: &mut [u8; TEXT],
-    ) -> usize
-        requires shown { Shown (answer_in answer) output.now.words output.now.numbers }
-        requires counted { Counted (answer_in answer) output.now.words }
-        ensures { Prints (Smoothing.window window.old values.old) self.new (Smoothing.window window.new values.new) text.new result
-            self.old (answer_in answer) output.now }
-    {
-        match self {
-            Sink::Short => answers::put_short(text, answer, &output.words, &output.numbers),
-            Sink::Full => answers::put_full(text, answer, &output.words, &output.numbers),
-            Sink::Smoother(state) => put_smoothed(state, answer, output, window, values, text),
-        }
+    ) -> usize {
+        answers::put_short(text, answer, &output.words, &output.numbers)
     }
+
+    fn take_rest(
+        &mut self,
+        _rt: &(impl Print + Eprint),
+        _text: &mut [u8; TEXT],
+        _console: &mut Console,
+    ) {}
+}
+
+// Into text, in full.
+// As it is: an impl for each form. One for both, over a trait of forms, would need two impls of that trait: each would name the definition, the function and
+// the lemma of its length, which are all that differs here.
+#[derive(Drop)]
+pub struct Full;
+
+impl Sink for Full {
+    ghost use Rattle.print.specs.Text.{full_answer};
+    ghost use Rattle.playback.specs.Told.{Puts};
+
+    ghost emptied_of = { λ k. Unit {0} };
+
+    ghost prints_of = { λ k k' out end answer b. Puts k k' out end (full_answer answer b.words b.numbers) };
+
+    fn open(_c: FgoConfig) -> Result<Full, Refusal> {
+        Ok(Full)
+    }
+
+    #[tactic(auto, using(print::proofs::Fitting::ready, print::proofs::Fitting::full_answer_few))]
+    fn put_answer(
+        &mut self,
+        answer: Answer,
+        output: &FrameBuffers,
+        text: &mut [u8; TEXT],
+    ) -> usize {
+        answers::put_full(text, answer, &output.words, &output.numbers)
+    }
+
+    fn take_rest(
+        &mut self,
+        _rt: &(impl Print + Eprint),
+        _text: &mut [u8; TEXT],
+        _console: &mut Console,
+    ) {}
 }

@@ -1,21 +1,18 @@
 // The steps of a run: every frame of a recording is pushed to the refiner, at the end all are taken, then all from the smoother, if there is one. Each answer
 // is printed when it comes.
-//
-// Of window and values sink.rt says what they hold.
 ghost use Rattle.std.specs.Prelude.{◌≡◌, [], ◌∷◌, ◌≤◌, length};
 ghost use Rattle.buffers.specs.Answer.{answer_in, pushed, taken};
 ghost use Rattle.engine.specs.declared.types.BodyKind.TheVariants.{Narrow};
 ghost use Rattle.engine.specs.Body.{body as body_in};
 ghost use Rattle.recording.specs.Recording.{recorded_body};
-ghost use Rattle.smoother.specs.Promise as Smoothing;
 ghost use Rattle.print.specs.Text.{Puts};
 ghost use Rattle.print.specs.Printed.{Shown, Counted as InBounds};
 ghost use Rattle.fgo.specs.Promise.{counted_in};
 ghost use Rattle.playback.specs.Told.{counted_line};
-ghost use Rattle.playback.specs.Played.{pushes, Led, Leads, Fewer, TakesAll, Smoothed, Serves, Emptied};
+ghost use Rattle.playback.specs.Played.{pushes, Led, Leads, Fewer, TakesAll};
 
-use crate::sink;
-use crate::sink::{FrameBuffers, Sink};
+use crate::output::FrameBuffers;
+use crate::sink::Sink;
 use bounds::TEXT;
 use buffers::Answer;
 use console::Console;
@@ -25,13 +22,12 @@ use fgo_spec::moves::FgoCounters;
 use fgo_state::state::{FixedLagRefiner, Memory};
 use print::lines;
 use refusals::Refusal;
-use smoother_window::FixedLagSmoother;
 
 // Where a run stands: the refiner, and where its frames go; the refiner's memory, and its output buffers; the text of an answer; and standard output.
 #[derive(Drop)]
-pub struct Player {
+pub struct Player<S> {
     pub refiner: FixedLagRefiner,
-    pub sink: Sink,
+    pub sink: S,
     pub memory: Memory,
     pub output: FrameBuffers,
     pub text: [u8; TEXT],
@@ -48,28 +44,9 @@ fn put_counted(out: &mut [u8], k: Result<FgoCounters, Refusal>) -> usize
     }
 }
 
-// All that a smoother holds, taken and printed.
-fn smooth_rest(
-    rt: &(impl Print + Eprint),
-    state: &mut FixedLagSmoother,
-    window: &[u64],
-    values: &[f64],
-    text: &mut [u8; TEXT],
-    console: &mut Console,
-)
-    requires { Smoothed state.old (Smoothing.window window.now values.now) }
-    ensures { state.new.held ≡ 0 }
-{
-    // As it is: a loop until none is held, which no range says.
-    while 0 < state.held {
-        let end = sink::take_smoothed(state, window, values, text);
-        console.write(rt, &text[..end]);
-    }
-}
-
-impl Player {
+impl<S: Sink> Player<S> {
     // A run that has not begun.
-    pub fn new(refiner: FixedLagRefiner, sink: Sink) -> Player
+    pub fn new(refiner: FixedLagRefiner, sink: S) -> Player<S>
         ensures refiner { result.refiner ≡ refiner }
         ensures sink { result.sink ≡ sink }
     {
@@ -94,38 +71,19 @@ impl Player {
     }
 
     // An answer of the refiner, printed.
-    fn print_step(
-        &mut self,
-        rt: &(impl Print + Eprint),
-        answer: Answer,
-        window: &mut [u64],
-        values: &mut [f64],
-    )
+    fn print_step(&mut self, rt: &(impl Print + Eprint), answer: Answer)
         requires shown { Shown (answer_in answer) self.old.output.words self.old.output.numbers }
         requires in_bounds { InBounds (answer_in answer) self.old.output.words }
-        requires serves { Serves self.old.sink (Smoothing.window window.old values.old) }
-        ensures serves { Serves self.new.sink (Smoothing.window window.new values.new) }
         ensures refiner { self.new.refiner ≡ self.old.refiner }
         ensures memory { self.new.memory ≡ self.old.memory }
     {
-        let end = self
-            .sink
-            .put_answer(answer, &self.output, window, values, &mut self.text);
+        let end = self.sink.put_answer(answer, &self.output, &mut self.text);
         self.print_text(rt, end);
     }
 
     // Frame i of a recording, pushed.
-    fn push_one(
-        &mut self,
-        rt: &(impl Print + Eprint),
-        s: &[u8],
-        i: usize,
-        window: &mut [u64],
-        values: &mut [f64],
-    )
-        requires { Serves self.old.sink (Smoothing.window window.old values.old) }
-        ensures serves { Serves self.new.sink (Smoothing.window window.new values.new) }
-        ensures leads { Leads (pushed (body_in Narrow (recorded_body s.now i)) ∷ [])
+    fn push_one(&mut self, rt: &(impl Print + Eprint), s: &[u8], i: usize)
+        ensures { Leads (pushed (body_in Narrow (recorded_body s.now i)) ∷ [])
             self.old.refiner self.old.memory self.new.refiner self.new.memory }
     {
         let body = Body {
@@ -139,13 +97,11 @@ impl Player {
             &mut self.output.words,
             &mut self.output.numbers,
         );
-        self.print_step(rt, answer, window, values);
+        self.print_step(rt, answer);
     }
 
     // The oldest frame, taken.
-    fn take_one(&mut self, rt: &(impl Print + Eprint), window: &mut [u64], values: &mut [f64])
-        requires { Serves self.old.sink (Smoothing.window window.old values.old) }
-        ensures serves { Serves self.new.sink (Smoothing.window window.new values.new) }
+    fn take_one(&mut self, rt: &(impl Print + Eprint))
         ensures leads { Leads (taken ∷ []) self.old.refiner self.old.memory self.new.refiner self.new.memory }
         ensures fewer { Fewer self.old.refiner self.old.memory self.new.refiner }
     {
@@ -155,53 +111,40 @@ impl Player {
             &mut self.output.words,
             &mut self.output.numbers,
         );
-        self.print_step(rt, answer, window, values);
+        self.print_step(rt, answer);
     }
 
     // The n frames of a recording, pushed.
-    pub fn push_all(
-        &mut self,
-        rt: &(impl Print + Eprint),
-        s: &[u8],
-        n: usize,
-        window: &mut [u64],
-        values: &mut [f64],
-    )
-        requires { Serves self.old.sink (Smoothing.window window.old values.old) }
-        ensures serves { Serves self.new.sink (Smoothing.window window.new values.new) }
-        ensures leads { Leads (pushes s.now n) self.old.refiner self.old.memory self.new.refiner self.new.memory }
+    pub fn push_all(&mut self, rt: &(impl Print + Eprint), s: &[u8], n: usize)
+        ensures { Leads (pushes s.now n) self.old.refiner self.old.memory self.new.refiner self.new.memory }
     {
         for i in 0..n {
-            self.push_one(rt, s, i, window, values);
+            self.push_one(rt, s, i);
         }
     }
 
     // All that are held, taken.
-    pub fn take_all(&mut self, rt: &(impl Print + Eprint), window: &mut [u64], values: &mut [f64])
-        requires serves { Serves self.old.sink (Smoothing.window window.old values.old) }
-        requires led { Led self.old.refiner self.old.memory }
-        ensures serves { Serves self.new.sink (Smoothing.window window.new values.new) }
-        ensures takes_all { TakesAll self.old.refiner self.old.memory self.new.refiner self.new.memory }
+    pub fn take_all(&mut self, rt: &(impl Print + Eprint))
+        requires { Led self.old.refiner self.old.memory }
+        ensures { TakesAll self.old.refiner self.old.memory self.new.refiner self.new.memory }
     {
         // As it is: a loop until none is held, which no range says.
         while 0 < self.refiner.held {
-            self.take_one(rt, window, values);
+            self.take_one(rt);
         }
     }
 
     // What a sink still holds, taken and printed.
-    pub fn take_rest(&mut self, rt: &(impl Print + Eprint), window: &[u64], values: &[f64])
-        requires { Serves self.old.sink (Smoothing.window window.now values.now) }
+    pub fn take_rest(&mut self, rt: &(impl Print + Eprint))
         ensures refiner { self.new.refiner ≡ self.old.refiner }
         ensures memory { self.new.memory ≡ self.old.memory }
-        ensures emptied { Emptied self.new.sink }
+        ensures emptied { S.emptied_of self.new.sink }
     {
-        if let Sink::Smoother(state) = &mut self.sink {
-            smooth_rest(rt, state, window, values, &mut self.text, &mut self.console);
-        }
+        self.sink.take_rest(rt, &mut self.text, &mut self.console);
     }
 
     // The counters, printed.
+    #[tactic(auto, using(print::proofs::Fitting::ready, crate::proofs::Playing::counted_few))]
     pub fn print_counters(&mut self, rt: &(impl Print + Eprint))
         ensures refiner { self.new.refiner ≡ self.old.refiner }
         ensures memory { self.new.memory ≡ self.old.memory }

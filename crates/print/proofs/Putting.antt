@@ -1,5 +1,5 @@
 -- Texts put into a buffer, one after the other; and numbers as text. Assumes nothing.
-use Prim.Native.Nat.{ℕ, zero, suc, ◌+◌, ◌-◌, ◌^◌, ◌≤◌, ◌<◌}
+use Prim.Native.Nat.{ℕ, zero, suc, ◌+◌, ◌-◌, ◌%◌, ◌^◌, ◌≤◌, ◌<◌}
 use native.Mathlib.Nat.{zero-lt-suc, pow-le-pow_right}
 use native.Mathlib.Numerals.{add-one}
 use native.Mathlib.Omega.{arith}
@@ -195,9 +195,10 @@ signed_low w h = let e : ltb w 9223372036854775808 ≡ true = lt-ltb w 922337203
 
 -- any other is as far below 0 as it is below 2^64
 pub signed_high :
-    (w : ℕ) → 9223372036854775808 ≤ w → w < 18446744073709551616 → signed_decimal (signed w) ≡ ascii "-" ++ decimal (18446744073709551615 - w + 1)
+    (w m : ℕ) → 9223372036854775808 ≤ w → w < 18446744073709551616 → m < 18446744073709551616 → (m + w) % 18446744073709551616 ≡ 0
+    → signed_decimal (signed w) ≡ ascii "-" ++ decimal m
 unfolding signed_decimal
-signed_high w h l =
+signed_high w m h l k z =
     let e : ltb w 9223372036854775808 ≡ false = le-ltb w 9223372036854775808 h in
-    let g : suc (18446744073709551616 - suc w) ≡ 18446744073709551615 - w + 1 = omega arith in
+    let g : suc (18446744073709551616 - suc w) ≡ m = omega arith in
     rw (e, g) refl

@@ -1,5 +1,7 @@
 // An answer of refiner or smoother, from the start of a buffer on: the line of a refusal; nothing where a frame is held; or the frame that stands at the front
 // of words and numbers.
+// As it is, `put_full` and `put_short` differ in one call. One function of both would take that call, with a clause of its own that is either definition's arms
+// again: longer than the four lines that they share.
 ghost use Rattle.buffers.specs.Answer.{answer_in};
 ghost use Rattle.print.specs.Text.{short_answer, full_answer, call_answer, Puts};
 ghost use Rattle.print.specs.Printed.{Shown, Counted};
@@ -9,7 +11,7 @@ use buffers::Answer;
 
 // With its frame in full.
 #[tactic(auto, unfolding(crate::specs::Text::full_answer), using(crate::proofs::Putting::puts_none))]
-pub fn put_full<'a>(out: &mut [u8], answer: Answer, words: &'a [u64], numbers: &'a [f64]) -> usize
+pub fn put_full(out: &mut [u8], answer: Answer, words: &[u64], numbers: &[f64]) -> usize
     requires { Shown (answer_in answer) words.now numbers.now }
     ensures { Puts (full_answer (answer_in answer) words.now numbers.now) 0 out.old out.new result }
 {
@@ -22,7 +24,7 @@ pub fn put_full<'a>(out: &mut [u8], answer: Answer, words: &'a [u64], numbers: &
 
 // With its frame in short.
 #[tactic(auto, unfolding(crate::specs::Text::short_answer), using(crate::proofs::Putting::puts_none))]
-pub fn put_short<'a>(out: &mut [u8], answer: Answer, words: &'a [u64], numbers: &'a [f64]) -> usize
+pub fn put_short(out: &mut [u8], answer: Answer, words: &[u64], numbers: &[f64]) -> usize
     requires { Shown (answer_in answer) words.now numbers.now × Counted (answer_in answer) words.now }
     ensures { Puts (short_answer (answer_in answer) words.now numbers.now) 0 out.old out.new result }
 {
@@ -35,7 +37,7 @@ pub fn put_short<'a>(out: &mut [u8], answer: Answer, words: &'a [u64], numbers: 
 
 // With its frame in full, and where one is held that is said.
 #[tactic(auto, unfolding(crate::specs::Text::call_answer))]
-pub fn put_call<'a>(out: &mut [u8], answer: Answer, words: &'a [u64], numbers: &'a [f64]) -> usize
+pub fn put_call(out: &mut [u8], answer: Answer, words: &[u64], numbers: &[f64]) -> usize
     requires { Shown (answer_in answer) words.now numbers.now }
     ensures { Puts (call_answer (answer_in answer) words.now numbers.now) 0 out.old out.new result }
 {

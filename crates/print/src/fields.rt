@@ -1,14 +1,13 @@
 // Text as it is, and the fields of a line: numbers as text, each after a space.
 
-ghost use Rattle.std.specs.Prelude.{◌≡◌, get_or};
-ghost use Rattle.std.specs.Float.{nan};
-ghost use Rattle.scalar.specs.Scalar.{signed};
-ghost use Rattle.print.specs.Text.{decimal, signed_decimal, hexadecimal, field, word_field, signed_field, bits_field, Puts};
+ghost use Rattle.std.specs.Prelude.{◌≡◌, ℕ, List, length, get_or};
+ghost use Rattle.scalar.specs.Scalar.{signed, bits_of};
+ghost use Rattle.print.specs.Text.{decimal, signed_decimal, hexadecimal, field, word_field, signed_field, bits_field, texts, Puts};
 
 use scalar::bits;
 
 // Bytes as they are.
-pub fn put_text<'a, 'b>(out: &'a mut [u8], n: usize, s: &'b [u8]) -> usize
+pub fn put_text(out: &mut [u8], n: usize, s: &[u8]) -> usize
     ensures { Puts s.now n out.old out.new result }
 {
     if out.len() < n {
@@ -48,7 +47,7 @@ fn put_signed(out: &mut [u8], n: usize, word: u64) -> usize
         return put_decimal(out, n, word);
     }
     let at = put_text(out, n, b" -");
-    put_digits(out, at, 18446744073709551615 - word + 1)
+    put_digits(out, at, word.wrapping_neg())
 }
 
 // A number in 16 hexadecimal digits.
@@ -63,43 +62,62 @@ pub fn put_hex(out: &mut [u8], n: usize, x: u64) -> usize
 
 // ---- of a frame's words and numbers
 
-// Word i; 0 where there is none.
-fn word_at(words: &[u64], i: usize) -> u64
-    ensures { result ≡ get_or words.now i 0 }
-{
-    if i < words.len() {
-        return words[i];
-    }
-    0
+// A word or a number of a frame, which has a field of a line.
+pub(crate) trait HasField: Copy {
+    // Its field.
+    ghost text: { Self → List ℕ };
+
+    // Puts its field.
+    fn put(self, out: &mut [u8], n: usize) -> usize
+        ensures { Puts (text self) n out.old out.new result };
 }
 
-// Word i in decimal.
+// A word in decimal.
+impl HasField for u64 {
+    ghost text = { λ word. field (decimal word) };
+
+    fn put(self, out: &mut [u8], n: usize) -> usize {
+        put_decimal(out, n, self)
+    }
+}
+
+// A number by its bits.
+impl HasField for f64 {
+    ghost text = { λ x. field (hexadecimal (bits_of x)) };
+
+    fn put(self, out: &mut [u8], n: usize) -> usize {
+        put_hex(out, n, bits::to_bits(self))
+    }
+}
+
+// Each of a frame's words or numbers.
+pub(crate) fn put_each<T: HasField>(out: &mut [u8], n: usize, items: &[T]) -> usize
+    ensures { (past : T) → Puts (texts (λ i. T.text (get_or items.now i past)) (length items.now)) n out.old out.new result }
+{
+    let mut at = n;
+    for x in items {
+        at = x.put(out, at);
+    }
+    at
+}
+
+// Word i in decimal; 0 where there is none.
 pub fn put_word(out: &mut [u8], n: usize, words: &[u64], i: usize) -> usize
     ensures { Puts (word_field words.now i) n out.old out.new result }
 {
-    put_decimal(out, n, word_at(words, i))
+    put_decimal(out, n, words.get(i).copied().unwrap_or(0))
 }
 
-// Word i in decimal, signed.
+// Word i in decimal, signed; 0 where there is none.
 pub fn put_signed_word(out: &mut [u8], n: usize, words: &[u64], i: usize) -> usize
     ensures { Puts (signed_field words.now i) n out.old out.new result }
 {
-    put_signed(out, n, word_at(words, i))
+    put_signed(out, n, words.get(i).copied().unwrap_or(0))
 }
 
-// Number i; NaN where there is none.
-fn number_at(x: &[f64], i: usize) -> f64
-    ensures { result ≡ get_or x.now i nan }
-{
-    if i < x.len() {
-        return x[i];
-    }
-    0.0 / 0.0
-}
-
-// The bits of number i.
+// The bits of number i; those of NaN where there is none.
 pub fn put_bits(out: &mut [u8], n: usize, x: &[f64], i: usize) -> usize
     ensures { Puts (bits_field x.now i) n out.old out.new result }
 {
-    put_hex(out, n, bits::to_bits(number_at(x, i)))
+    put_hex(out, n, bits::to_bits(x.get(i).copied().unwrap_or(f64::NAN)))
 }

@@ -1,4 +1,5 @@
 // A frame in short: a line of the frame, one of each track and one of each association. Its counts must be in bounds.
+// As it is, here and below: numbers and words at a stride, which are the published format of an emitted frame.
 ghost use Rattle.std.specs.Prelude.{◌+◌, ◌*◌, ◌<◌, ◌≤◌};
 ghost use Rattle.bounds.specs.Bounds.{LINK, TRACKS, WORDS};
 ghost use Rattle.smoother_frame.specs.Frame.{Counts};
@@ -20,7 +21,6 @@ fn put_head(out: &mut [u8], n: usize, words: &[u64]) -> usize
 }
 
 // The position bits of track i.
-// As it is: numbers at a stride, which are the published format of an emitted frame.
 fn put_position(out: &mut [u8], n: usize, x: &[f64], i: usize) -> usize
     requires { i < TRACKS }
     ensures { Puts (position x.now i) n out.old out.new result }
@@ -32,7 +32,7 @@ fn put_position(out: &mut [u8], n: usize, x: &[f64], i: usize) -> usize
 }
 
 // `track` id, lifecycle, age, count, position bits.
-fn put_track<'a>(out: &mut [u8], n: usize, words: &'a [u64], x: &'a [f64], i: usize) -> usize
+fn put_track(out: &mut [u8], n: usize, words: &[u64], x: &[f64], i: usize) -> usize
     requires { i < TRACKS }
     ensures { Puts (track_line words.now x.now i) n out.old out.new result }
 {
@@ -59,7 +59,7 @@ fn put_association(out: &mut [u8], n: usize, words: &[u64], o: usize) -> usize
 }
 
 // A line for each track.
-fn put_tracks<'a>(out: &mut [u8], n: usize, words: &'a [u64], x: &'a [f64], many: usize) -> usize
+fn put_tracks(out: &mut [u8], n: usize, words: &[u64], x: &[f64], many: usize) -> usize
     requires { many ≤ TRACKS }
     ensures { Puts (texts (track_line words.now x.now) many) n out.old out.new result }
 {
@@ -83,7 +83,7 @@ fn put_associations(out: &mut [u8], n: usize, words: &[u64], o: usize, many: usi
 }
 
 // The lines of a frame.
-pub fn put_frame<'a>(out: &mut [u8], n: usize, words: &'a [u64], x: &'a [f64]) -> usize
+pub fn put_frame(out: &mut [u8], n: usize, words: &[u64], x: &[f64]) -> usize
     requires { Counts words.now }
     ensures { Puts (short_form words.now x.now) n out.old out.new result }
 {
@@ -94,7 +94,7 @@ pub fn put_frame<'a>(out: &mut [u8], n: usize, words: &'a [u64], x: &'a [f64]) -
         out,
         b,
         words,
-        HEAD + TRACK * counts.tracks,
+        counts.associations_from(),
         counts.associations,
     )
 }

@@ -46,6 +46,7 @@ fn fills_rest(s: &[u8]) -> bool
     ensures { result ≡ fills s.now }
 {
     let n = count_of(s);
+    // As it is: tried as a try_fold over 0..n. What it asks at each turn, that the next place fits its type, did not close: no clause has the places so far.
     let mut at = CONTENTS + ENTRY * n;
     for i in 0..n {
         if offset_of(s, i) != at {
@@ -57,67 +58,50 @@ fn fills_rest(s: &[u8]) -> bool
 }
 
 // 11: over RECORDING bytes, over FRAMES frames, or shorter than its contents table.
+#[tactic(auto, unfolding(crate::specs::Recording::ill_sized))]
 fn is_ill_sized(s: &[u8]) -> bool
     ensures { result ≡ ill_sized s.now }
 {
-    if RECORDING < s.len() {
-        return true;
-    }
-    if s.len() < CONTENTS {
-        return true;
-    }
-    let n = count_of(s);
-    if FRAMES < n {
-        return true;
-    }
-    s.len() < CONTENTS + ENTRY * n
+    RECORDING < s.len()
+        || s.len() < CONTENTS
+        || FRAMES < count_of(s)
+        || s.len() < CONTENTS + ENTRY * count_of(s)
 }
 
 // The eleven settings, in the order of `FgoConfig`.
+#[tactic(auto, unfolding(crate::specs::Recording::settings), using(engine::proofs::Bytes::signed_passed))]
 pub fn settings_of(s: &[u8]) -> FgoConfig
     requires { SETTINGS ≤ length s.now }
     ensures { result ≡ settings s.now }
 {
-    let lag_frames = little::u64_at(s, 0) as usize;
-    let radius_m = little::f64_at(s, SETTING);
-    let birth_cost = little::f64_at(s, SETTING * 2);
-    let miss_cost = little::f64_at(s, SETTING * 3);
-    let clutter_cost = little::f64_at(s, SETTING * 4);
-    let accel_spectral_density = little::f64_at(s, SETTING * 5);
-    let position_sigma_m = little::f64_at(s, SETTING * 6);
-    let initial_velocity_variance = little::f64_at(s, SETTING * 7);
-    let coast_ns = little::i64_at(s, SETTING * 8);
-    let forget_after_ns = little::i64_at(s, SETTING * 9);
-    let max_passes = little::u64_at(s, SETTING * 10) as usize;
     FgoConfig {
-        lag_frames,
-        radius_m,
-        birth_cost,
-        miss_cost,
-        clutter_cost,
-        accel_spectral_density,
-        position_sigma_m,
-        initial_velocity_variance,
-        coast_ns,
-        forget_after_ns,
-        max_passes,
+        lag_frames: little::u64_at(s, 0) as usize,
+        radius_m: little::f64_at(s, SETTING),
+        birth_cost: little::f64_at(s, SETTING * 2),
+        miss_cost: little::f64_at(s, SETTING * 3),
+        clutter_cost: little::f64_at(s, SETTING * 4),
+        accel_spectral_density: little::f64_at(s, SETTING * 5),
+        position_sigma_m: little::f64_at(s, SETTING * 6),
+        initial_velocity_variance: little::f64_at(s, SETTING * 7),
+        coast_ns: little::i64_at(s, SETTING * 8),
+        forget_after_ns: little::i64_at(s, SETTING * 9),
+        max_passes: little::u64_at(s, SETTING * 10) as usize,
     }
 }
 
 // What a recording says at its start, or the first of 11, 12 and 1 that it is refused for.
+#[tactic(auto, unfolding(crate::specs::Recording::contents_of, crate::specs::Recording::refusal), using(crate::proofs::Recorded::sized))]
 pub fn contents_of(s: &[u8]) -> Result<Contents, Refusal>
     ensures { contents_in result ≡ contents_of s.now }
 {
     if is_ill_sized(s) {
         return Err(Refusal::Size);
     }
-    let filled = fills_rest(s);
-    let config = settings_of(s);
-    let legal = config.is_legal();
-    if !filled {
+    if !fills_rest(s) {
         return Err(Refusal::Bodies);
     }
-    if !legal {
+    let config = settings_of(s);
+    if !config.is_legal() {
         return Err(Refusal::Setting);
     }
     Ok(Contents {
@@ -127,22 +111,19 @@ pub fn contents_of(s: &[u8]) -> Result<Contents, Refusal>
 }
 
 // The contents table is there as far as entry i, has that entry, and the recording has the bytes that it names.
+#[tactic(auto, unfolding(crate::specs::Recording::holds), using(engine::proofs::Bytes::little_below))]
 fn entry_holds(s: &[u8], i: usize) -> bool
     ensures { result ≡ holds s.now i }
 {
-    if s.len() < CONTENTS + ENTRY {
-        return false;
-    }
-    if (s.len() - CONTENTS - ENTRY) / ENTRY < i {
-        return false;
-    }
-    if count_of(s) <= i {
-        return false;
-    }
-    offset_of(s, i) + size_of(s, i) <= s.len()
+    CONTENTS + ENTRY <= s.len()
+        && i <= (s.len() - CONTENTS - ENTRY) / ENTRY
+        && i < count_of(s)
+        && offset_of(s, i) + size_of(s, i) <= s.len()
 }
 
 // The body of frame i, as a part of the recording; nothing where it does not hold one.
+// As it is, no Option: what is published of an entry without a frame is a body without bytes.
+#[tactic(auto, unfolding(crate::specs::Recording::recorded_body), using(crate::proofs::Recorded::held))]
 fn body_at(s: &[u8], i: usize) -> &[u8]
     ensures { result.now ≡ recorded_body s.now i }
 {

@@ -2,8 +2,8 @@
 #![tactic(auto)]
 
 use playback::play;
-use playback::play::Form;
+use playback::sink::Short;
 
 fn main(rt: HostRuntime) {
-    play::play_input(&rt, Form::Short);
+    play::play_input::<Short>(&rt);
 }

@@ -4,20 +4,21 @@
 
 use engine::little;
 use playback::play;
-use playback::play::Form;
+use playback::sink::{Full, Short};
 
 // Room for the sample.
 const SAMPLE: usize = 262144;
 
 // A recording, played in full, then in short.
 fn both(rt: &(impl Print + Eprint), s: &[u8]) {
-    play::play(rt, s, Form::Full);
-    play::play(rt, s, Form::Short);
+    play::play::<Full>(rt, s);
+    play::play::<Short>(rt, s);
 }
 
 fn play_all(rt: &(impl Print + Eprint), s: &[u8]) {
     let mut at = 0;
-    // As it is: a loop by the length that each recording has, which no range says.
+    // As it is: a loop by the length that each recording has, which no range says. `replay_bodies` has its twin, for lengths of two bytes; the two programs
+    // share no crate of recordings, and a function of both, with a contract and a definition of a block, would be longer than these ten lines.
     while at < s.len() {
         if s.len() - at < 4 {
             return;

@@ -89,11 +89,11 @@ pub fn back(
         return Step::Skipped;
     }
     let p_pred = predicted(q, dt, p);
-    if let Ok(l) = cholesky6(&p_pred) {
-        let g = gain(dt, p, &l);
-        *xs = smoothed_x(dt, x, &g, xs);
-        *ps = smoothed_p(p, &p_pred, &g, ps);
-        return Step::Smoothed;
-    }
-    Step::Failed
+    let Ok(l) = cholesky6(&p_pred) else {
+        return Step::Failed;
+    };
+    let g = gain(dt, p, &l);
+    *xs = smoothed_x(dt, x, &g, xs);
+    *ps = smoothed_p(p, &p_pred, &g, ps);
+    Step::Smoothed
 }

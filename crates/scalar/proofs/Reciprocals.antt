@@ -1,7 +1,6 @@
 -- The rule of the table of reciprocals, at all of its entries by one test that is computed. Assumes nothing.
-use Rattle.std.proofs.Common.{◌≡◌, ℕ, ◌+◌, ◌<◌, ◌≤◌, Bool, true, false, ◌&&◌, T, eqb, List, [], ◌∷◌, map, length, get_or, drop, refl, ap, ◌∙◌, add-one, eqb→eq, drop-cons}
+use Rattle.std.proofs.Common.{◌≡◌, ℕ, Bool, true, false, ◌&&◌, T, eqb, List, [], ◌∷◌, map, get_or, drop, refl, ap, ◌∙◌, eqb→eq}
 use Rattle.std.specs.List.{fold}
-use Rattle.std.proofs.lemmas.List.{at_drop_all}
 use lib.Ieee.{Float, nan, binary64, of_bits, to_bits, round}
 use lib.Ieee.Bits.{of_bits-to_bits}
 use lib.Ieee.Fits.{and_l, and_r, round-fits}
@@ -50,13 +49,7 @@ pub table_is : table ≡ map reciprocal (21 ∷ odds_down)
 unfolding odds_down patterns reciprocal to_bits round
 table_is = rule patterns (21 ∷ odds_down) tt
 
--- ---- the series: what is left of the table past its first entry, taken on from s, gives the whole sum
+-- ---- the series: the entries past the table's first, taken on from it, give the whole sum
 pub series_start : (w : Float) → fold (series_step w) (get_or table 0 nan) (drop 1 table) ≡ ln_series w
 unfolding ln_series
 series_start w = ap (λ (l : List Float). fold (series_step w) (get_or l 0 nan) (drop 1 l)) table_is
-
-pub series_next : (w s : Float) (l : List Float) (i : ℕ) → i < length l → fold (series_step w) (series_step w s (get_or l i nan)) (drop (i + 1) l) ≡ fold (series_step w) s (drop i l)
-series_next w s l i h = rw (add-one, drop-cons l i nan)
-
-pub series_end : (w s : Float) (l : List Float) (i : ℕ) → length l ≤ i → fold (series_step w) s (drop i l) ≡ s
-series_end w s l i h = at_drop_all (fold (series_step w) s) l i h

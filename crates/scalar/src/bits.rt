@@ -10,7 +10,8 @@ pub fn seconds(ns: i64) -> f64
     std::num::nearest_i64_to_f64(ns) * 1e-9
 }
 
-// As it is, here and below: functions of std under the documents' words, "finite" and "two's complement", which their callers' clauses have.
+// As it is, here and below: each is one call of std under the document's word, which the definitions and the callers use; a caller would say std's longer name.
+
 // Neither a NaN nor an infinity.
 pub fn is_finite(x: f64) -> bool
     ensures { result ≡ finite x }

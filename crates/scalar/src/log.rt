@@ -25,11 +25,9 @@ const RECIPROCALS: [f64; 11] = [
 fn series(w: f64) -> f64
     ensures { result ≡ ln_series w }
 {
-    let mut s = RECIPROCALS[0];
-    for r in &RECIPROCALS[1..] {
-        s = s * w + *r;
-    }
-    s
+    RECIPROCALS[1..]
+        .iter()
+        .fold(RECIPROCALS[0], |s, r| s * w + *r)
 }
 
 // The exponent k - 1074 as a float.

@@ -1,29 +1,27 @@
 -- What a pass takes over from the last one. Assumes nothing.
+use Rattle.search_rows.specs.declared.rows.Row.{Row}
 use Rattle.search.specs.declared.marks.Mark.{Mark}
 use Rattle.search.specs.declared.marks.Mark.TheVariants.{Resting, ByTrack}
 use Rattle.std.specs.Prelude.{◌≢◌}
 use Prim.Native.Nat.{ℕ, ◌+◌, ◌<◌}
 use native.Mathlib.Decide.{ℕ_discrete, dec_lt}
 use native.Mathlib.Omega.{arith}
-use mathlib.Core.Path.{◌≡◌, refl, sym, ap, ◌∙◌, subst}
+use mathlib.Core.Path.{◌≡◌, sym, ap, ◌∙◌, subst}
 use mathlib.Core.Bool.{true}
 use mathlib.Core.List.{List}
-use lib.ListN.{length, get_or, set, length-set}
+use lib.ListN.{get_or, set, length-set}
 use lib.Seq.{get_or-set_same, get_or-set_other}
-use lib.Ieee.{Float, nan}
+use lib.Ieee.{Float}
 use Rattle.bounds.specs.Bounds.{DETECTIONS}
 use Rattle.search_rows.specs.Rows.{Tabled}
 use Rattle.search_neighbours.specs.Near.{row_at}
-use Rattle.search.specs.Pass.{Scene, row_on, cost_on, pair_rest, track_rest, IdTable, Due, Swept, Left, From, Carried}
-use Rattle.search.proofs.Costing.{costed_start, costed_more}
-use Rattle.search.proofs.Meeting.{table_row, table_entered}
+use Rattle.search.specs.Pass.{Scene, row_on, cost_on, pair_rest, track_rest, IdTable, Due, Left, From, Carried}
+use Rattle.search.proofs.Costing.{costed_more}
+use Rattle.search.proofs.Meeting.{table_row}
 
 -- ---- place by place
 
 module _ {e : Scene} {n next : ℕ} {old : List ℕ} {moved : List Mark} {table ids : List ℕ} where
-  pub carried_start : {costs : List Float} {due : List Mark} → length ids ≡ DETECTIONS → length costs ≡ DETECTIONS → length due ≡ DETECTIONS → Carried e n next old moved table ids 0 costs due
-  carried_start {costs} a b c = record { costed = costed_start e table ids costs a b; long = c; from = λ k h z. absurd (omega arith) }
-
   module _ {i : ℕ} {costs : List Float} {due : List Mark} (h : i < DETECTIONS) (o : Carried e n next old moved table ids i costs due) where
     -- one place more
     pub carried-more :
@@ -47,14 +45,6 @@ module _ {e : Scene} {n next : ℕ} {old : List ℕ} {moved : List Mark} {table 
             subst (From n next old moved (get_or table j 0)) (sym (get_or-set_other due i j m Resting q))
             (o.from j (omega arith) (subst (λ (v : Mark). v ≢ ByTrack) (get_or-set_other due i j m Resting q) z))
 
--- what is taken over of an id that stood in the last pass
-module _ {e : Scene} {n next : ℕ} {old ids : List ℕ} {paid : List Float} {moved : List Mark} (l : Left e n next old ids paid moved) (k x : ℕ) (s : (k < n) × (x < next) × (get_or old k 0 ≡ x)) where
-  pub stood_cost : get_or paid k nan ≡ cost_on e ids x
-  stood_cost = l.costed k s.0 (subst (λ (x : ℕ). x < next) (sym s.2) s.1) ∙ ap (cost_on e ids) s.2
-
-  pub stood_from : From n next old moved x (get_or moved k Resting)
-  stood_from = record { place = k; within = s.0; below = s.1; is = s.2; mark = refl }
-
 -- ---- what is due
 
 resting : {m : Mark} → m ≡ Resting → m ≢ ByTrack
@@ -69,7 +59,7 @@ listed_order {n} {table} l k m h g b = go (dec_lt k m) (ℕ_discrete k m)
     go (no d) (yes q) = let w : get_or table k 0 ≡ get_or table m 0 = ap (λ (j : ℕ). get_or table j 0) q in absurd (omega arith)
     go (no d) (no q) = absurd (omega (arith, l.rises m k (omega arith) h))
 
-module _ {e : Scene} {n next count : ℕ} {old : List ℕ} {moved : List Mark} {table ids rows : List ℕ} {due : List Mark} {paid costs : List Float} (l : Left e count next old ids paid moved) (listed : IdTable n table) (tabled : Tabled e.starts ids table n rows) (o : Carried e count next old moved table ids n costs due) where
+module _ {e : Scene} {n next count : ℕ} {old : List ℕ} {moved : List Mark} {table ids : List ℕ} {rows : List Row} {due : List Mark} {paid costs : List Float} (l : Left e count next old ids paid moved) (listed : IdTable n table) (tabled : Tabled e.starts ids table n rows) (o : Carried e count next old moved table ids n costs due) where
   due-pair :
       (i j : ℕ) → i < j → j < n → From count next old moved (get_or table i 0) (get_or due i Resting) → From count next old moved (get_or table j 0) (get_or due j Resting) →
       get_or due i Resting ≡ Resting → get_or due j Resting ≡ Resting → pair_rest e (get_or table i 0) (get_or table j 0) (row_at rows i) (row_at rows j) ≡ true
@@ -93,17 +83,3 @@ module _ {e : Scene} {n next count : ℕ} {old : List ℕ} {moved : List Mark} {
         pair = λ i j h g. record { pair = λ p q. due-pair i j h g (o.from i (omega arith) (resting p)) (o.from j g (resting q)) p q };
         track = λ i h z. due-track i h z (o.from i h z);
       }
-
--- ---- a pass begins, and has moved nothing
-
-pub stands_first :
-    {e : Scene} {n next count : ℕ} {old : List ℕ} {was : List Mark} {table ids rows : List ℕ} {due moved : List Mark} {costs : List Float} → Tabled e.starts ids table n rows →
-    Carried e count next old was table ids n costs due → length moved ≡ DETECTIONS → Swept e n table rows ids costs moved
-stands_first tabled o m =
-    record {
-      costed = o.costed;
-      rows_long = tabled.long;
-      entered = table_entered tabled;
-      marks = m;
-      same = λ k h z. sym (table_row tabled k h);
-    }

@@ -7,6 +7,7 @@ use mathlib.Core.List.{List, [], ◌∷◌, map}
 use lib.ListN.{length, get_or}
 use lib.Dec.{T, eqb}
 use lib.Ieee.{Float}
+use Rattle.cost.specs.declared.Dot.{Dot}
 use Rattle.bounds.specs.Bounds.{SCANS, STARTS}
 use Rattle.fgo_spec.specs.Lists.{keep, cons_if, any, up_from}
 use Rattle.fgo_spec.proofs.All.{mem_All}
@@ -70,6 +71,6 @@ filled_cuts close h =
     cut false d t = absurd t
 
 -- a note for each of SCANS scans
-pub close_long : (q : Float) (dots : List Float) (a b : List ℕ) → length (close_scans q dots a b) ≡ SCANS
+pub close_long : (q : Float) (dots : List Dot) (a b : List ℕ) → length (close_scans q dots a b) ≡ SCANS
 unfolding close_scans
 close_long q dots a b = map_up_length (close_at q dots a b) 0 SCANS

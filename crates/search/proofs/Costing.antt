@@ -1,6 +1,5 @@
 -- What windows cost, and the costs kept of the first ids of a table. Assumes nothing.
 use Prim.Native.Nat.{ℕ, zero, suc, ◌+◌, ◌<◌}
-use native.Mathlib.Nat.{not-suc-le-zero}
 use native.Mathlib.Decide.{ℕ_discrete}
 use native.Mathlib.Omega.{arith}
 use mathlib.Core.Path.{◌≡◌, refl, sym, ap, ◌∙◌}
@@ -40,13 +39,7 @@ module _ (e : Scene) (ids : List ℕ) (x : ℕ) {p : Fold} {r : List ℕ} (row :
         long = ap length row ∙ row-length e.starts ids x;
       }
 
-  pub row_costs : row_cost e.hall.config (view_on e) p r ≡ cost_on e ids x
-  row_costs = λ i. row_cost e.hall.config (view_on e) (part i) (row i)
-
 -- ---- the costs kept
-
-pub costed_start : (e : Scene) (table ids : List ℕ) (costs : List Float) → length ids ≡ DETECTIONS → length costs ≡ DETECTIONS → Costed e 0 table ids costs
-costed_start e table ids costs h g = record { all = h; long = g; each = λ i l. absurd (not-suc-le-zero l) }
 
 pub costed_more :
     {e : Scene} {table ids : List ℕ} {costs : List Float} {i : ℕ} → i < DETECTIONS → Costed e i table ids costs →

@@ -9,6 +9,7 @@ use lib.ListN.{length, get_or, get_or-eq_default}
 use lib.Dec.{eqb}
 use lib.Ieee.{Float}
 use borrow.Author.Tests.{ne_eqb}
+use Rattle.cost.specs.declared.Dot.{Dot}
 use Rattle.bounds.specs.Bounds.{SCANS, STARTS}
 use Rattle.engine.specs.declared.config.FgoConfig.{FgoConfig}
 use Rattle.engine.specs.Config.{radius}
@@ -66,7 +67,7 @@ cut_dets c first ps v w g =
 
 -- ---- past the scans held
 
-none_close : (q : Float) (dots : List Float) (ra rb : List ℕ) (k : ℕ) → get_or ra k 0 ≡ 0 → get_or rb k 0 ≡ 0 → close_at q dots ra rb k ≡ false
+none_close : (q : Float) (dots : List Dot) (ra rb : List ℕ) (k : ℕ) → get_or ra k 0 ≡ 0 → get_or rb k 0 ≡ 0 → close_at q dots ra rb k ≡ false
 unfolding close_at near_slots
 none_close q dots ra rb k a b = rw (a, b) (go (eqb (get_or ra (k + 1) 0) 0))
   where

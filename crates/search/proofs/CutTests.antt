@@ -11,6 +11,7 @@ use lib.Dec.{T, eqb, leb}
 use lib.Ieee.{Float, binary64, add, sub, lt}
 use mir.Facts.{and_yes, yes_and, or_yes, eqb_yes, yes_eqb, leb_yes, yes_leb}
 use borrow.Author.Tests.{eq-eqb, ne_eqb}
+use Rattle.cost.specs.declared.Dot.{Dot}
 use Rattle.cost.specs.Cost.{View, Measurement, measurement_at, measurements}
 use Rattle.fgo_spec.specs.Lists.{any}
 use Rattle.fgo_spec.proofs.Counting.{or_right}
@@ -81,7 +82,7 @@ cut_by q g d e =
     (eqb g (min d.scan e.scan) || eqb g (suc (min d.scan e.scan)))
     && (leb d.scan (suc e.scan) && leb e.scan (suc d.scan) && lt (between d e) q)
 
-module _ (q : Float) (dots : List Float) where
+module _ (q : Float) (dots : List Dot) where
   near_is : (a b : ℕ) → near_slots q dots (suc a) (suc b) ≡ lt (apart2 dots a b) q
   unfolding near_slots
   near_is a b =
@@ -95,7 +96,7 @@ module _ (q : Float) (dots : List Float) where
   near_some (suc a) zero t = absurd (rw (ne_eqb (suc a) 0 (λ e. omega arith)) at t)
   near_some (suc a) (suc b) t = (a, b, refl, refl, subst T (near_is a b) t)
 
-module _ (dots : List Float) (q : Float) (ra rb : List ℕ) where
+module _ (dots : List Dot) (q : Float) (ra rb : List ℕ) where
   abbrev near : ℕ → ℕ → Bool
   near i j = near_slots q dots (get_or ra i 0) (get_or rb j 0)
 

@@ -1,28 +1,28 @@
 -- Two rows that are close in a scan meet: each begins no later than the other ends. So the entries of a table say which are close as the rows do, and outside of which scans they are not. Assumes nothing.
-use Prim.Native.Nat.{ℕ, ◌+◌, ◌-◌, ◌*◌, ◌≤◌, ◌<◌, max, min}
+use Prim.Native.Nat.{ℕ, ◌-◌, ◌≤◌, ◌<◌, max, min}
 use native.Mathlib.Nat.{le_refl}
 use native.Mathlib.Omega.{arith}
 use mathlib.Core.Path.{◌≡◌, refl, sym, ap, ◌∙◌, subst}
 use mathlib.Core.Logic.{◌⊎◌, inl, inr}
 use mathlib.Core.Bool.{Bool, true, false, ◌&&◌}
 use mathlib.Core.List.{List, [], ◌∷◌, map}
-use lib.ListN.{length, get_or, take, drop, length-take}
-use lib.Seq.{get_or-take, get_or-drop, take_at, take-take}
+use lib.ListN.{length, get_or}
 use lib.Dec.{T, leb}
 use lib.Ieee.{Float}
 use mir.Facts.{or_yes}
 use borrow.Author.Tests.{le-leb}
-use Rattle.bounds.specs.Bounds.{SCANS, ROW}
+use Rattle.search_rows.specs.declared.rows.Row.{Row}
+use Rattle.cost.specs.declared.Dot.{Dot}
+use Rattle.bounds.specs.Bounds.{SCANS}
 use Rattle.fgo_spec.specs.Lists.{any, up_from}
-use Rattle.search_rows.specs.Rows.{row_of, first_in, end_from, entry_of, Tabled}
-use Rattle.search_neighbours.specs.Near.{close_at, close_scans, any_close, meets, row_at, CloseWithin, Entered, CloseRows}
-use Rattle.search_rows.proofs.RowSlots.{row-length, entry_first, entry-end}
+use Rattle.search_rows.specs.Rows.{row_of, first_in, end_from, no_row, Tabled}
+use Rattle.search_neighbours.specs.Near.{close_at, close_scans, any_close, meets, row_at, CloseWithin, Entered}
 use Rattle.search_rows.proofs.RowEnds.{first_by, end_past, end_by}
 use Rattle.search.proofs.CutTests.{same_answer, Meet, close_meet, near_some}
 
 -- ---- two rows that are close in a scan
 
-module _ (q : Float) (dots : List Float) (a b : List ℕ) where
+module _ (q : Float) (dots : List Dot) (a b : List ℕ) where
   any-meet : (l : List ℕ) → T (any_close (map (close_at q dots a b) l)) → (k : ℕ) × Meet dots q a b k
   unfolding any
   any-meet [] t = absurd t
@@ -59,41 +59,15 @@ module _ (q : Float) (dots : List Float) (a b : List ℕ) where
 
 -- ---- the entries of a table
 
-module _ {starts ids table rows : List ℕ} {n : ℕ} (t : Tabled starts ids table n rows) (i : ℕ) (h : i < n) where
-  row : List ℕ
-  row = row_of starts ids (get_or table i 0)
-
-  entry-take : take ROW (drop (ROW * i) rows) ≡ entry_of row
-  unfolding row
-  entry-take = ap (λ m. take m (drop (ROW * i) rows)) (let e : ROW ≡ ROW * i + ROW - ROW * i = omega arith in e) ∙ t.each i h
-
+module _ {starts ids table : List ℕ} {rows : List Row} {n : ℕ} (t : Tabled starts ids table n rows) (i : ℕ) (h : i < n) where
   pub table_row : row_at rows i ≡ row_of starts ids (get_or table i 0)
-  unfolding row
-  table_row =
-      ap (λ m. take m (drop (ROW * i) rows)) (let e : ROW * i + SCANS - ROW * i ≡ SCANS = omega arith in e)
-      ∙ sym (take-take SCANS ROW (drop (ROW * i) rows) (omega arith))
-      ∙ ap (take SCANS) entry-take
-      ∙ take_at row (first_in row ∷ end_from 0 0 row ∷ []) SCANS (row-length starts ids (get_or table i 0))
+  table_row = ap (λ (r : Row). r.slots) (t.each i h)
 
-  entry-word : (k : ℕ) → k < ROW → get_or rows (ROW * i + k) 0 ≡ get_or (entry_of row) k 0
-  entry-word k g =
-      sym (get_or-drop (ROW * i) rows k 0)
-      ∙ sym (get_or-take ROW (drop (ROW * i) rows) k 0 g)
-      ∙ ap (λ l. get_or l k 0) entry-take
+  table-first : (get_or rows i no_row).first ≡ first_in (row_of starts ids (get_or table i 0))
+  table-first = ap (λ (r : Row). r.first) (t.each i h)
 
-  table-first : get_or rows (ROW * i + SCANS) 0 ≡ first_in (row_of starts ids (get_or table i 0))
-  unfolding row
-  table-first = entry-word SCANS (omega arith) ∙ entry_first row (row-length starts ids (get_or table i 0))
-
-  table-end : get_or rows (ROW * i + SCANS + 1) 0 ≡ end_from 0 0 (row_of starts ids (get_or table i 0))
-  unfolding row
-  table-end =
-      ap (λ m. get_or rows m 0) (let e : ROW * i + SCANS + 1 ≡ ROW * i + (SCANS + 1) = omega arith in e)
-      ∙ entry-word (SCANS + 1) (omega arith)
-      ∙ entry-end row (row-length starts ids (get_or table i 0))
-
-  pub table_entered : Entered rows i
-  table_entered = record { first = table-first ∙ sym (ap first_in table_row); end = table-end ∙ sym (ap (end_from 0 0) table_row) }
+  table-end : (get_or rows i no_row).end ≡ end_from 0 0 (row_of starts ids (get_or table i 0))
+  table-end = ap (λ (r : Row). r.end) (t.each i h)
 
 no_more : (m b : Bool) → (b ≡ true → m ≡ true) → (m && b) ≡ b
 no_more m true h = rw (h refl)
@@ -102,8 +76,8 @@ no_more false false h = refl
 
 -- the entries of a table are close just where the rows are
 pub table_close :
-    {starts is table rows : List ℕ} {n : ℕ} (q : Float) (dots : List Float) → Tabled starts is table n rows → (i j : ℕ) → i < n → j < n →
-    (meets rows i j && any_close (close_scans q dots (row_at rows i) (row_at rows j)))
+    {starts is table : List ℕ} {rows : List Row} {n : ℕ} (q : Float) (dots : List Dot) → Tabled starts is table n rows → (i j : ℕ) → i < n → j < n →
+    (meets (get_or rows i no_row) (get_or rows j no_row) && any_close (close_scans q dots (row_at rows i) (row_at rows j)))
     ≡ any_close (close_scans q dots (row_of starts is (get_or table i 0)) (row_of starts is (get_or table j 0)))
 table_close {starts} {is} {table} {rows} q dots t i j h g =
     let a = row_of starts is (get_or table i 0) in
@@ -111,27 +85,8 @@ table_close {starts} {is} {table} {rows} q dots t i j h g =
     (λ k. (leb (table-first t i h k) (table-end t j g k) && leb (table-first t j g k) (table-end t i h k)) && any_close (close_scans q dots (table_row t i h k) (table_row t j g k)))
     ∙ no_more (leb (first_in a) (end_from 0 0 b) && leb (first_in b) (end_from 0 0 a)) (any_close (close_scans q dots a b)) (close-meets q dots a b)
 
--- ---- what is found of two entries
+-- ---- what is found of two rows
 
-pub rows-within :
-    (q : Float) (dots : List Float) (rows : List ℕ) (i j : ℕ) {from to : ℕ} → Entered rows i → Entered rows j →
-    from ≡ max (get_or rows (ROW * i + SCANS) 0) (get_or rows (ROW * j + SCANS) 0) - 1 → to ≡ min (get_or rows (ROW * i + SCANS + 1) 0) (get_or rows (ROW * j + SCANS + 1) 0) →
-    CloseWithin q dots (row_at rows i) (row_at rows j) from to
-rows-within q dots rows i j a b f t =
-    close-within q dots (row_at rows i) (row_at rows j) (f ∙ (λ m. max (a.first m) (b.first m) - 1))
-    (t ∙ (λ m. min (a.end m) (b.end m))) (omega (arith, length-take (ROW * i + SCANS - ROW * i) (drop (ROW * i) rows)))
-
-module _ (q : Float) (dots : List Float) (rows : List ℕ) (i j : ℕ) {m : Bool} (meet : m ≡ meets rows i j) where
-  pub rows_apart : (close : List Bool) → m ≡ false → CloseRows q dots rows i j false close
-  rows_apart close h =
-      record {
-        found = ap (λ (b : Bool). b && any_close (close_scans q dots (row_at rows i) (row_at rows j))) (sym h ∙ meet);
-        scans = λ z. let n : ◌≡◌ {A = ℕ} 0 1 = cc in absurd (omega arith);
-      }
-
-  pub rows_meet : {r : Bool} {close : List Bool} → m ≡ true → close ≡ close_scans q dots (row_at rows i) (row_at rows j) → r ≡ any_close close → CloseRows q dots rows i j r close
-  rows_meet h c r =
-      record {
-        found = r ∙ ap any_close c ∙ ap (λ (b : Bool). b && any_close (close_scans q dots (row_at rows i) (row_at rows j))) (sym h ∙ meet);
-        scans = λ z. c;
-      }
+module _ (q : Float) (dots : List Dot) (a b : Row) where
+  pub rows-within : {from to : ℕ} → Entered a → Entered b → from ≡ max a.first b.first - 1 → to ≡ min a.end b.end → length a.slots ≤ SCANS → CloseWithin q dots a.slots b.slots from to
+  rows-within x y f t few = close-within q dots a.slots b.slots (f ∙ (λ m. max (x.first m) (y.first m) - 1)) (t ∙ (λ m. min (x.end m) (y.end m))) few

@@ -1,4 +1,5 @@
 -- One pass, and the loop over the passes: what is left of them. Assumes nothing.
+use Rattle.search_rows.specs.declared.rows.Row.{Row}
 use Rattle.search.specs.declared.marks.Mark.{Mark}
 use Prim.Native.Nat.{ℕ, suc, ◌-◌, ◌≤◌, ◌<◌}
 use native.Mathlib.Omega.{arith}
@@ -25,7 +26,7 @@ pass_is e ids t₀ n table is b v =
 
 -- ---- what it leaves to the next
 
-module _ {e : Scene} {n next : ℕ} {table rows : List ℕ} {swept : List Mark} {ids : List ℕ} {costs : List Float} {moved : List Mark} (listed : IdTable n table) (rests : (i j : ℕ) → i < j → j < n → Rests e table rows swept i j) (v : Visits e n table rows next n ids costs moved) (grows : Grows n swept moved) where
+module _ {e : Scene} {n next : ℕ} {table : List ℕ} {rows : List Row} {swept : List Mark} {ids : List ℕ} {costs : List Float} {moved : List Mark} (listed : IdTable n table) (rests : (i j : ℕ) → i < j → j < n → Rests e table rows swept i j) (v : Visits e n table rows next n ids costs moved) (grows : Grows n swept moved) where
   pub pass_leaves : Left e n next table ids costs moved
   pass_leaves =
       record {

@@ -1,4 +1,5 @@
 -- What need not be looked at again: pairs and tracks at rest, and the marks of those that moved. Assumes nothing.
+use Rattle.search_rows.specs.declared.rows.Row.{Row}
 use Rattle.search.specs.declared.marks.Mark.{Mark}
 use Rattle.search.specs.declared.marks.Mark.TheVariants.{Resting, ByPair}
 use Rattle.std.specs.Prelude.{◌≢◌}
@@ -70,14 +71,11 @@ module _ (e : Scene) (a : ℕ) (ids : List ℕ) where
 
 -- ---- marks
 
-pub grows_none : (n : ℕ) (marks : List Mark) → Grows n marks marks
-grows_none n marks = record { back = λ k h z. z }
-
 pub grows_on : {n : ℕ} {a b c : List Mark} → Grows n a b → Grows n b c → Grows n a c
 grows_on g h = record { back = λ k l z. g.back k l (h.back k l z) }
 
 pub rests_grow :
-    {e : Scene} {n : ℕ} {table rows : List ℕ} {marks marks' : List Mark} → Grows n marks marks' → {i j : ℕ} → i < n → j < n → Rests e table rows marks i j → Rests e table rows marks' i j
+    {e : Scene} {n : ℕ} {table : List ℕ} {rows : List Row} {marks marks' : List Mark} → Grows n marks marks' → {i j : ℕ} → i < n → j < n → Rests e table rows marks i j → Rests e table rows marks' i j
 rests_grow g {i} {j} h k r = record { pair = λ p q. r.pair (g.back i h p) (g.back j k q) }
 
 module _ (moved : List Mark) (long : length moved ≡ DETECTIONS) (i j : ℕ) (v : Mark) (h : i < DETECTIONS) (g : j < DETECTIONS) (some : v ≢ Resting) where
@@ -97,7 +95,7 @@ by_pair : ByPair ≢ Resting
 by_pair e = cc
 
 -- the rows of two ids of the table change: their costs are worked out anew, and they are marked
-module _ {e : Scene} {n : ℕ} {table rows ids : List ℕ} {costs : List Float} {moved : List Mark} (listed : IdTable n table) (s : Swept e n table rows ids costs moved) (i j : ℕ) (h : i < j) (g : j < n) where
+module _ {e : Scene} {n : ℕ} {table ids : List ℕ} {rows : List Row} {costs : List Float} {moved : List Mark} (listed : IdTable n table) (s : Swept e n table rows ids costs moved) (i j : ℕ) (h : i < j) (g : j < n) where
   pub stands_anew :
       (new : List ℕ) → length new ≡ DETECTIONS →
       ((x : ℕ) → 0 < x → (x ≡ get_or table i 0 → ⊥) → (x ≡ get_or table j 0 → ⊥) → row_on e new x ≡ row_on e ids x) →
@@ -106,16 +104,9 @@ module _ {e : Scene} {n : ℕ} {table rows ids : List ℕ} {costs : List Float} 
   stands_anew new l other v w p q =
       record {
         costed = costed_anew listed s.costed i j h g new l other v w p q;
-        rows_long = s.rows_long;
         entered = s.entered;
         marks = length-set (set moved i ByPair) j ByPair ∙ length-set moved i ByPair ∙ s.marks;
         same = λ k b z.
             let m = two-marks moved s.marks i j ByPair (omega (arith, listed.within)) (omega (arith, listed.within)) by_pair k z in
             other (get_or table k 0) (listed.above k b) (listed_apart listed k i b (omega arith) m.0) (listed_apart listed k j b g m.1) ∙ s.same k b m.2;
       }
-
-  pub marks_grow : Grows n moved (set (set moved i ByPair) j ByPair)
-  marks_grow = record { back = λ k b z. (two-marks moved s.marks i j ByPair (omega (arith, listed.within)) (omega (arith, listed.within)) by_pair k z).2 }
-
-  pub marks-set : get_or (set (set moved i ByPair) j ByPair) i Resting ≡ Resting → ⊥
-  marks-set z = (two-marks moved s.marks i j ByPair (omega (arith, listed.within)) (omega (arith, listed.within)) by_pair i z).0 refl

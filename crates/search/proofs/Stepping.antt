@@ -86,11 +86,6 @@ module _ (e : Scene) (a : ℕ) (ids : List ℕ) where
         (λ i. progress_of (n i) (r i))
         ∙ sym (ap (λ (o : Option TrackMove). track_moved e o a (progress_of ids t)) (sym best ∙ h))
 
-pub track_long :
-    (e : Scene) → Starts e.starts → (a x : ℕ) (ids : List ℕ) → length ids ≡ DETECTIONS → (m : TrackMove) {new : List ℕ} → new ≡ track_ids e.hall.first.0 e.starts m a x ids → length new ≡ DETECTIONS
-unfolding track_ids
-track_long e begins a x ids long m made = ap length made ∙ renamed_length begins a x _ ids long
-
 -- the next id does not fall
 pub next_from : (m : TrackMove) (n : ℕ) → n ≤ next_id_after m n
 next_from (Split f g) n = go (ltb n (2 ^ 63))

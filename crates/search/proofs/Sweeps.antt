@@ -1,35 +1,36 @@
 -- The loops over the pairs of a table: what is left of the sweep, and what of it is at rest. Assumes nothing.
+use Rattle.search_rows.specs.declared.rows.Row.{Row}
 use Rattle.search.specs.declared.marks.Mark.{Mark}
 use Rattle.search.specs.declared.marks.Mark.TheVariants.{Resting}
 use Prim.Native.Nat.{ℕ, ◌+◌, ◌≤◌, ◌<◌}
 use native.Mathlib.Decide.{ℕ_discrete}
 use native.Mathlib.Omega.{arith}
-use mathlib.Core.Path.{◌≡◌, refl, sym, ap, ◌∙◌}
+use mathlib.Core.Path.{◌≡◌, sym, ap, ◌∙◌}
 use mathlib.Core.Bool.{Bool, true, false, cond}
 use mathlib.Core.List.{List}
 use lib.ListN.{get_or, take, drop}
 use lib.Ieee.{Float}
 use Rattle.engine.specs.Config.{radius}
 use Rattle.search_rows.specs.declared.moves.Tally.{Tally}
-use Rattle.search_rows.specs.Rows.{Tabled}
+use Rattle.search_rows.specs.Rows.{no_row, Tabled}
 use Rattle.fgo_spec.specs.Searching.{square}
 use Rattle.search_neighbours.specs.Near.{any_close, row_at, CloseRows}
 use Rattle.std.specs.Prelude.{is_none}
 use Rattle.search.specs.Pass.{Scene, progress_of, row_on, close_on, pair_best, pair_step_on, pair_if, sweep_one, sweep, IdTable, Rests, Grows, Due, Swept}
 use Rattle.search.proofs.Listing.{listed_next, listed_end}
 use Rattle.search.proofs.Meeting.{table_row, table_close}
-use Rattle.search.proofs.Resting.{rest-passes, stay_rests, apart_rests, grows_none, grows_on, rests_grow}
+use Rattle.search.proofs.Resting.{rest-passes, stay_rests, apart_rests, grows_on, rests_grow}
 
 -- ---- a pair
 
 -- what the pair at places i, j comes to, by the rows at the beginning of the pass
-abbrev pub Turned : Scene → ℕ → ℕ → ℕ → List ℕ → List ℕ → List ℕ → Tally → List ℕ → List Mark → Tally → Type 0
+abbrev pub Turned : Scene → ℕ → ℕ → ℕ → List ℕ → List Row → List ℕ → Tally → List ℕ → List Mark → Tally → Type 0
 Turned e n i j table rows ids t ids' moved' t' =
     (is : List ℕ) → Tabled e.starts is table n rows →
     (progress_of ids' t' ≡ pair_if e (close_on e (row_on e is (get_or table i 0)) (row_on e is (get_or table j 0))) (get_or table i 0) (get_or table j 0) (progress_of ids t))
     × Rests e table rows moved' i j
 
-module _ {e : Scene} {n i j : ℕ} {table rows ids : List ℕ} {costs : List Float} {moved : List Mark} (t : Tally) (h : i < j) (g : j < n) (s : Swept e n table rows ids costs moved) where
+module _ {e : Scene} {n i j : ℕ} {table ids : List ℕ} {rows : List Row} {costs : List Float} {moved : List Mark} (t : Tally) (h : i < j) (g : j < n) (s : Swept e n table rows ids costs moved) where
   -- neither row changed since the pair was last looked at
   pub turn_rests :
       {due : List Mark} → Due e n table rows due → (get_or due i Resting ≡ Resting) × (get_or moved i Resting ≡ Resting) × (get_or due j Resting ≡ Resting) × (get_or moved j Resting ≡ Resting) →
@@ -42,7 +43,7 @@ module _ {e : Scene} {n i j : ℕ} {table rows ids : List ℕ} {costs : List Flo
         record { pair = λ p q. r },
       )
 
-  module _ {r : Bool} {close : List Bool} (found : CloseRows (square (radius e.hall.config)) e.dots rows i j r close) where
+  module _ {r : Bool} {close : List Bool} (found : CloseRows (square (radius e.hall.config)) e.dots (get_or rows i no_row) (get_or rows j no_row) r close) where
     -- what was found of the entries of the table is so of the rows
     is-close : (is : List ℕ) → Tabled e.starts is table n rows → r ≡ any_close (close_on e (row_on e is (get_or table i 0)) (row_on e is (get_or table j 0)))
     is-close is b = found.found ∙ table_close (square (radius e.hall.config)) e.dots b i j (omega arith) g
@@ -79,7 +80,7 @@ module _ {e : Scene} {n i j : ℕ} {table rows ids : List ℕ} {costs : List Flo
 -- ---- the id at place i with each after it
 
 -- those before j are done
-pub record SweptOne (e : Scene) (n i : ℕ) (table rows ids₀ : List ℕ) (moved₀ : List Mark) (t₀ : Tally) (ids : List ℕ) (costs : List Float) (moved : List Mark) (t : Tally) (j : ℕ) : Type 0 where
+pub record SweptOne (e : Scene) (n i : ℕ) (table : List ℕ) (rows : List Row) (ids₀ : List ℕ) (moved₀ : List Mark) (t₀ : Tally) (ids : List ℕ) (costs : List Float) (moved : List Mark) (t : Tally) (j : ℕ) : Type 0 where
   pub after : i < j
   pub within : j ≤ n
   pub stands : Swept e n table rows ids costs moved
@@ -89,10 +90,7 @@ pub record SweptOne (e : Scene) (n i : ℕ) (table rows ids₀ : List ℕ) (move
       (sweep_one e is (get_or table i 0) (drop (i + 1) (take n table)) (progress_of ids₀ t₀) ≡ sweep_one e is (get_or table i 0) (drop j (take n table)) (progress_of ids t))
       × ((k : ℕ) → i < k → k < j → Rests e table rows moved i k)
 
-module _ {e : Scene} {n i : ℕ} {table rows ids₀ : List ℕ} {moved₀ : List Mark} {t₀ : Tally} (listed : IdTable n table) where
-  pub one-start : {costs : List Float} → i < n → Swept e n table rows ids₀ costs moved₀ → SweptOne e n i table rows ids₀ moved₀ t₀ ids₀ costs moved₀ t₀ (i + 1)
-  one-start h s = record { after = omega arith; within = omega arith; stands = s; grows = grows_none n moved₀; left = λ is b. (refl, λ k h g. absurd (omega arith)) }
-
+module _ {e : Scene} {n i : ℕ} {table ids₀ : List ℕ} {rows : List Row} {moved₀ : List Mark} {t₀ : Tally} (listed : IdTable n table) where
   module _ {ids : List ℕ} {costs : List Float} {moved : List Mark} {t : Tally} {j : ℕ} (o : SweptOne e n i table rows ids₀ moved₀ t₀ ids costs moved t j) where
     pub one_next :
         {ids' : List ℕ} {costs' : List Float} {moved' : List Mark} {t' : Tally} → j < n → Turned e n i j table rows ids t ids' moved' t' →
@@ -128,7 +126,7 @@ module _ {e : Scene} {n i : ℕ} {table rows ids₀ : List ℕ} {moved₀ : List
 -- ---- every pair
 
 -- the ids before place i are done, each with all after it
-pub record SweptAll (e : Scene) (n : ℕ) (table rows ids₀ : List ℕ) (t₀ : Tally) (ids : List ℕ) (costs : List Float) (moved : List Mark) (t : Tally) (i : ℕ) : Type 0 where
+pub record SweptAll (e : Scene) (n : ℕ) (table : List ℕ) (rows : List Row) (ids₀ : List ℕ) (t₀ : Tally) (ids : List ℕ) (costs : List Float) (moved : List Mark) (t : Tally) (i : ℕ) : Type 0 where
   pub within : i ≤ n
   pub stands : Swept e n table rows ids costs moved
   pub left :
@@ -136,10 +134,7 @@ pub record SweptAll (e : Scene) (n : ℕ) (table rows ids₀ : List ℕ) (t₀ :
       (sweep e is (take n table) (progress_of ids₀ t₀) ≡ sweep e is (drop i (take n table)) (progress_of ids t))
       × ((h k : ℕ) → h < i → h < k → k < n → Rests e table rows moved h k)
 
-module _ {e : Scene} {n : ℕ} {table rows ids₀ : List ℕ} {t₀ : Tally} (listed : IdTable n table) where
-  pub all_start : {costs : List Float} {moved : List Mark} → Swept e n table rows ids₀ costs moved → SweptAll e n table rows ids₀ t₀ ids₀ costs moved t₀ 0
-  all_start s = record { within = omega arith; stands = s; left = λ is b. (refl, λ h k a c d. absurd (omega arith)) }
-
+module _ {e : Scene} {n : ℕ} {table ids₀ : List ℕ} {rows : List Row} {t₀ : Tally} (listed : IdTable n table) where
   module _ {ids : List ℕ} {costs : List Float} {moved : List Mark} {t : Tally} {i : ℕ} (o : SweptAll e n table rows ids₀ t₀ ids costs moved t i) where
     pub all-step :
         {ids' : List ℕ} {costs' : List Float} {moved' : List Mark} {t' : Tally} → i < n →

@@ -1,29 +1,26 @@
 -- The loop over the tracks of a table: what is left to visit, and what is at rest. Assumes nothing.
+use Rattle.search_rows.specs.declared.rows.Row.{Row}
 use Rattle.search.specs.declared.marks.Mark.{Mark}
 use Rattle.search.specs.declared.marks.Mark.TheVariants.{Resting, ByTrack}
 use Rattle.std.specs.Prelude.{◌≢◌}
 use Prim.Native.Nat.{ℕ, ◌+◌, ◌≤◌, ◌<◌}
-use native.Mathlib.Nat.{le_refl, le_trans}
+use native.Mathlib.Nat.{le_trans}
 use native.Mathlib.Decide.{ℕ_discrete}
 use native.Mathlib.Omega.{arith}
 use mathlib.Core.Path.{◌≡◌, refl, sym, ap, ◌∙◌, subst}
 use mathlib.Core.Bool.{true}
 use mathlib.Core.List.{List}
-use lib.ListN.{length, get_or, set, take, drop, length-set}
-use lib.Seq.{get_or-set_same, get_or-set_other}
+use lib.ListN.{length, get_or, take, drop}
 use lib.Ieee.{Float, nan}
 use Rattle.bounds.specs.Bounds.{DETECTIONS}
 use Rattle.search_rows.specs.declared.moves.Tally.{Tally}
 use Rattle.search_rows.specs.Rows.{Starts}
 use Rattle.search_neighbours.specs.Near.{row_at}
-use Rattle.search.specs.Pass.{Scene, Progress, progress_of, row_on, cost_on, track_step_on, track_rest, visit, IdTable, Grows, Due, Swept, Visits, TrackStepped}
+use Rattle.search.specs.Pass.{Scene, Progress, progress_of, row_on, cost_on, track_step_on, track_rest, visit, IdTable, Grows, Due, Visits, TrackStepped}
 use Rattle.search.proofs.Listing.{listed_apart, listed_next, listed_end}
 use Rattle.search.proofs.Costing.{cost-stays}
 use Rattle.search.proofs.Stepping.{track_step_other}
-use Rattle.search.proofs.Resting.{track_passes, grows_none, grows_on}
-
-by_track : ByTrack ≢ Resting
-by_track e = cc
+use Rattle.search.proofs.Resting.{track_passes, grows_on}
 
 -- ---- the step of a track
 
@@ -41,37 +38,9 @@ module _ {e : Scene} {i a : ℕ} {base : Float} {ids : List ℕ} {costs : List F
         rested = λ z. r;
       }
 
-  pub stepped_made : {ids' : List ℕ} → i < DETECTIONS → length ids' ≡ DETECTIONS → (v : Float) → v ≡ cost_on e ids' a → TrackStepped e i a base ids costs moved ids' (set costs i v) (set moved i ByTrack)
-  stepped_made h l v q =
-      record {
-        all = l;
-        long = length-set costs i v ∙ long;
-        marks = length-set moved i ByTrack ∙ marks;
-        costs_other = λ k n. get_or-set_other costs i k v nan n;
-        marks_other = λ k n. get_or-set_other moved i k ByTrack Resting n;
-        cost = λ p. get_or-set_same costs i v nan (omega (arith, long)) ∙ q;
-        unmarked = λ z. absurd (by_track (sym is ∙ z));
-        rested = λ z. absurd (z is);
-      }
-    where
-      is : get_or (set moved i ByTrack) i Resting ≡ ByTrack
-      is = get_or-set_same moved i ByTrack Resting (omega (arith, h, marks))
-
 -- ---- a turn of the loop
 
-pub visits_start : {e : Scene} {n : ℕ} {table rows ids : List ℕ} {costs : List Float} {moved : List Mark} (next : ℕ) → Swept e n table rows ids costs moved → Visits e n table rows next 0 ids costs moved
-visits_start next s =
-    record {
-      all = s.costed.all;
-      long = s.costed.long;
-      rows_long = s.rows_long;
-      marks = s.marks;
-      costed = λ k h l. s.costed.each k h;
-      same = λ k h l z. s.same k h z;
-      rested = λ k h l z. absurd (omega arith);
-    }
-
-module _ {e : Scene} {n : ℕ} {table rows : List ℕ} {next i : ℕ} {ids : List ℕ} {costs : List Float} {moved : List Mark} (listed : IdTable n table) (h : i < n) (v : Visits e n table rows next i ids costs moved) where
+module _ {e : Scene} {n : ℕ} {table : List ℕ} {rows : List Row} {next i : ℕ} {ids : List ℕ} {costs : List Float} {moved : List Mark} (listed : IdTable n table) (h : i < n) (v : Visits e n table rows next i ids costs moved) where
   -- its row did not change since it was last visited
   pub visits_past :
       {due : List Mark} (t : Tally) → Due e n table rows due → get_or table i 0 < next → (get_or due i Resting ≢ ByTrack) × (get_or moved i Resting ≡ Resting) →
@@ -81,7 +50,6 @@ module _ {e : Scene} {n : ℕ} {table rows : List ℕ} {next i : ℕ} {ids : Lis
     record {
       all = v.all;
       long = v.long;
-      rows_long = v.rows_long;
       marks = v.marks;
       costed = v.costed;
       same = v.same;
@@ -139,7 +107,6 @@ module _ {e : Scene} {n : ℕ} {table rows : List ℕ} {next i : ℕ} {ids : Lis
         record {
           all = s.all;
           long = s.long;
-          rows_long = v.rows_long;
           marks = s.marks;
           costed = λ k b below. costed-on k b below paid (ℕ_discrete k i);
           same = λ k b below z. same-on k b below z (ℕ_discrete k i);
@@ -149,17 +116,14 @@ module _ {e : Scene} {n : ℕ} {table rows : List ℕ} {next i : ℕ} {ids : Lis
 -- ---- the loop
 
 -- those before place i are done
-pub record Visited (e : Scene) (n : ℕ) (table rows ids₀ : List ℕ) (moved₀ : List Mark) (t₀ : Tally) (ids : List ℕ) (costs : List Float) (moved : List Mark) (t : Tally) (i : ℕ) : Type 0 where
+pub record Visited (e : Scene) (n : ℕ) (table : List ℕ) (rows : List Row) (ids₀ : List ℕ) (moved₀ : List Mark) (t₀ : Tally) (ids : List ℕ) (costs : List Float) (moved : List Mark) (t : Tally) (i : ℕ) : Type 0 where
   pub within : i ≤ n
   pub from : t₀.next_id.0 ≤ t.next_id.0
   pub visits : Visits e n table rows t₀.next_id.0 i ids costs moved
   pub grows : Grows n moved₀ moved
   pub left : visit e (take n table) (progress_of ids₀ t₀) ≡ visit e (drop i (take n table)) (progress_of ids t)
 
-module _ {e : Scene} {n : ℕ} {table rows ids₀ : List ℕ} {moved₀ : List Mark} {t₀ : Tally} (listed : IdTable n table) where
-  pub visit-start : {costs : List Float} → Swept e n table rows ids₀ costs moved₀ → Visited e n table rows ids₀ moved₀ t₀ ids₀ costs moved₀ t₀ 0
-  visit-start s = record { within = omega arith; from = le_refl t₀.next_id.0; visits = visits_start t₀.next_id.0 s; grows = grows_none n moved₀; left = refl }
-
+module _ {e : Scene} {n : ℕ} {table ids₀ : List ℕ} {rows : List Row} {moved₀ : List Mark} {t₀ : Tally} (listed : IdTable n table) where
   module _ {ids : List ℕ} {costs : List Float} {moved : List Mark} {t : Tally} {i : ℕ} (o : Visited e n table rows ids₀ moved₀ t₀ ids costs moved t i) where
     pub visit-step :
         {ids' : List ℕ} {costs' : List Float} {moved' : List Mark} {t' : Tally} → Starts e.starts → i < n →

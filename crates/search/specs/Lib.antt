@@ -1,3 +1,4 @@
 pub mod Pass
 pub mod Lent
 pub mod Represents
+pub mod Stands

@@ -3,19 +3,22 @@ use Rattle.std.specs.Prelude.{ℕ, zero, suc, ◌^◌, ◌≤◌, ◌<◌, ◌�
 use Rattle.std.specs.Prelude.{cond, List, [], ◌∷◌, length, get_or, Float, Option, Some, None, is_none}
 use Rattle.std.specs.Float.{nan, binary64}
 use Rattle.std.specs.Float.Ieee.{add}
-use Rattle.bounds.specs.Bounds.{DETECTIONS, FROZEN, ROWS}
+use Rattle.bounds.specs.Bounds.{DETECTIONS, FROZEN}
+use Rattle.engine.specs.declared.config.FgoConfig.{FgoConfig}
 use Rattle.engine.specs.declared.types.RefinedId.{RefinedId}
+use Rattle.engine.specs.declared.types.ScanIndex.{ScanIndex}
 use Rattle.engine.specs.Config.{radius}
+use Rattle.cost.specs.declared.Dot.{Dot}
 use Rattle.cost.specs.declared.Fold.{Fold}
 use Rattle.cost.specs.declared.prices.Prices.{Prices}
 use Rattle.cost.specs.Cost.{View, view_of}
 use Rattle.fgo_spec.specs.declared.moves.PairMove.{PairMove}
 use Rattle.fgo_spec.specs.declared.moves.TrackMove.{TrackMove}
-use Rattle.cost_row.specs.declared.Hall.{Hall}
 use Rattle.search.specs.declared.marks.Mark.{Mark}
 use Rattle.search.specs.declared.marks.Mark.TheVariants.{Resting, ByTrack}
 use Rattle.search_rows.specs.declared.moves.Tally.{Tally}
-use Rattle.search_rows.specs.Rows.{Starts, row_of, present_in}
+use Rattle.search_rows.specs.declared.rows.Row.{Row}
+use Rattle.search_rows.specs.Rows.{Starts, row_of, present_in, no_row}
 use Rattle.fgo_spec.specs.Searching.{square}
 use Rattle.search_neighbours.specs.Near.{close_scans, any_close, row_at, Entered}
 use Rattle.cost_row.specs.Price.{fold_among, row_cost}
@@ -36,16 +39,23 @@ progress_of ids t = record { ids = ids; tally = t }
 abbrev pub id_of : ℕ → RefinedId
 id_of x = record { 0 = x }
 
+-- the settings, the number of the oldest scan held, the detections gathered and the frozen tracks
+pub record Hall : Type 0 where
+  pub config : FgoConfig
+  pub first : ScanIndex
+  pub detections : ℕ
+  pub frozen : ℕ
+
 -- what does not change during a search
 pub record Scene : Type 0 where
   pub hall : Hall
   pub starts : List ℕ
-  pub dots : List Float
+  pub dots : List Dot
   pub tracks : List ℕ
   pub filters : List Float
 
 -- the scene of what is lent
-abbrev pub scene_of : Hall → List ℕ → List Float → List ℕ → List Float → Scene
+abbrev pub scene_of : Hall → List ℕ → List Dot → List ℕ → List Float → Scene
 scene_of h starts dots ts fs = record { hall = h; starts = starts; dots = dots; tracks = ts; filters = fs }
 
 -- the scene by what prices its windows, the detections gathered and the frozen tracks
@@ -179,7 +189,7 @@ unfoldable pub track_rest : Scene → ℕ → List ℕ → Bool
 track_rest e a ra = is_none (best_track_row e.hall.config (view_on e) (fold_on e a) ra (row_cost e.hall.config (view_on e) (fold_on e a) ra))
 
 -- the places i and j of the table have no move by the table of rows, if neither is marked
-pub record Rests (e : Scene) (table rows : List ℕ) (marks : List Mark) (i j : ℕ) : Type 0 where
+pub record Rests (e : Scene) (table : List ℕ) (rows : List Row) (marks : List Mark) (i j : ℕ) : Type 0 where
   pub pair : get_or marks i Resting ≡ Resting → get_or marks j Resting ≡ Resting →
       pair_rest e (get_or table i 0) (get_or table j 0) (row_at rows i) (row_at rows j) ≡ true
 
@@ -189,24 +199,23 @@ pub record Grows (n : ℕ) (marks marks' : List Mark) : Type 0 where
 
 -- by the rows at the beginning of the pass: where nothing is due neither the pairs nor the track need a look, and the track needs none either where only its
 -- pairs are due
-pub record Due (e : Scene) (n : ℕ) (table rows : List ℕ) (due : List Mark) : Type 0 where
+pub record Due (e : Scene) (n : ℕ) (table : List ℕ) (rows : List Row) (due : List Mark) : Type 0 where
   pub long : length due ≡ DETECTIONS
   pub pair : (i j : ℕ) → i < j → j < n → Rests e table rows due i j
   pub track : (i : ℕ) → i < n → get_or due i Resting ≢ ByTrack → track_rest e (get_or table i 0) (row_at rows i) ≡ true
 
 -- where the pairs are swept: costs kept, the table of rows, and at each place that did not move in this pass its row
-pub record Swept (e : Scene) (n : ℕ) (table rows ids : List ℕ) (costs : List Float) (moved : List Mark) : Type 0 where
+pub record Swept (e : Scene) (n : ℕ) (table : List ℕ) (rows : List Row) (ids : List ℕ) (costs : List Float) (moved : List Mark) : Type 0 where
   pub costed : Costed e n table ids costs
-  pub rows_long : length rows ≡ ROWS
-  pub entered : (k : ℕ) → k < n → Entered rows k
+  pub entered : (k : ℕ) → k < n → Entered (get_or rows k no_row)
   pub marks : length moved ≡ DETECTIONS
   pub same : (k : ℕ) → k < n → get_or moved k Resting ≡ Resting → row_on e ids (get_or table k 0) ≡ row_at rows k
 
 -- where the tracks before place i have been visited: the same of each id below next, which no other track is given meanwhile
-pub record Visits (e : Scene) (n : ℕ) (table rows : List ℕ) (next i : ℕ) (ids : List ℕ) (costs : List Float) (moved : List Mark) : Type 0 where
+pub record Visits (e : Scene) (n : ℕ) (table : List ℕ) (rows : List Row) (next i : ℕ) (ids : List ℕ)
+    (costs : List Float) (moved : List Mark) : Type 0 where
   pub all : length ids ≡ DETECTIONS
   pub long : length costs ≡ DETECTIONS
-  pub rows_long : length rows ≡ ROWS
   pub marks : length moved ≡ DETECTIONS
   pub costed : (k : ℕ) → k < n → get_or table k 0 < next → get_or costs k nan ≡ cost_on e ids (get_or table k 0)
   pub same : (k : ℕ) → k < n → get_or table k 0 < next → get_or moved k Resting ≡ Resting → row_on e ids (get_or table k 0) ≡ row_at rows k

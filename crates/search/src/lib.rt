@@ -1,9 +1,10 @@
 // The search: passes over the pairs of tracks that come close, and over the tracks.
 #![tactic(auto)]
 
+mod listed;
 mod marks;
 mod pairs;
 pub mod pass;
-mod scene;
+pub mod scene;
 mod tables;
 mod tracks;

@@ -1,64 +1,58 @@
 // A pass over the pairs of tracks that come close.
-ghost use Rattle.std.specs.Prelude.{◌≡◌, true, false, List, ℕ, ◌+◌, ◌-◌, ◌<◌, max, min, get_or, take, drop, replicate, is_none};
+ghost use Rattle.std.specs.Prelude.{◌≡◌, true, false, List, ℕ, ◌+◌, ◌-◌, ◌<◌, max, min, get_or, drop, replicate, is_none};
 ghost use Rattle.bounds.specs.Bounds.{DETECTIONS, SCANS};
 ghost use Rattle.engine.specs.Config.{radius};
 ghost use Rattle.fgo_spec.specs.Searching.{square};
 ghost use Rattle.search_neighbours.specs.Near.{Entered, CloseRows};
-ghost use Rattle.search_rows.specs.Rows.{Tabled};
-ghost use Rattle.search.specs.Pass.{progress_of, row_on, close_on, pair_best, pair_step_on, pair_if, sweep_one, sweep, IdTable, Rests, Grows, Due, Swept};
+ghost use Rattle.search.specs.Pass.{row_on, close_on, pair_best, pair_step_on, pair_if, sweep_one, sweep, Grows};
+ghost use Rattle.search.specs.Stands.{progress_in, scene_under, listed_in, listed_at, TabledIn, RestsIn, SweptIn};
 ghost use Rattle.search.specs.declared.marks.Mark.TheVariants.{Resting};
-ghost use Rattle.search.specs.Lent.{scene_in};
 
+use crate::listed::{Listing, Pass};
 use crate::marks::Mark;
-use crate::scene::SceneRef;
-use crate::tables;
-use crate::tables::{Course, Listing};
-use bounds::{DETECTIONS, ROW, ROWS, SCANS};
+use crate::tables::Course;
+use bounds::SCANS;
 use cost::prices::Prices;
 use cost_row::window::Window;
 use engine::types::RefinedId;
 use search_rows::moves;
 use search_rows::moves::PairWithRows;
+use search_rows::rows::Row;
 
-// The best move of the pair at two places of the table, made; only the costs of these two change.
-fn pair_step(
-    scene: &SceneRef<'_>,
-    list: &Listing,
-    i: usize,
-    j: usize,
-    close: &[bool; SCANS],
-    ids: &mut [u64; DETECTIONS],
-    course: &mut Course,
-)
-    requires { let l = list.now in (i < j) × (j < l.count) × IdTable l.count l.table
-        × Swept (scene_in scene.now) l.count l.table l.rows ids.old course.old.costs course.old.moved }
-    ensures step { let l = list.now in
-        progress_of ids.new course.new.tally
-        ≡ pair_step_on (scene_in scene.now) close.now (get_or l.table i 0) (get_or l.table j 0) (progress_of ids.old course.old.tally) }
-    ensures swept { let l = list.now in Swept (scene_in scene.now) l.count l.table l.rows ids.new course.new.costs course.new.moved }
-    ensures grows { Grows list.now.count course.old.moved course.new.moved }
-    ensures rests { let l = list.now in get_or course.new.moved i Resting ≡ Resting
-        → is_none (pair_best (scene_in scene.now) close.now (get_or l.table i 0) (get_or l.table j 0) ids.old) ≡ true }
+// Makes the best move, if there is one, of the pair at two places of the table; only the costs of these two change.
+fn pair_step(pass: &Pass<'_>, i: usize, j: usize, close: &[bool; SCANS], course: &mut Course)
+    requires { (i < j) × (j < pass.now.list.now.count) × SweptIn pass.now course.old }
+    ensures step { let p = pass.now in
+        progress_in course.new
+        ≡ pair_step_on (scene_under p) close.now (listed_at p i) (listed_at p j) (progress_in course.old) }
+    ensures swept { SweptIn pass.now course.new }
+    ensures grows { Grows pass.now.list.now.count course.old.moved course.new.moved }
+    ensures rests { let p = pass.now in get_or course.new.moved i Resting ≡ Resting
+        → is_none (pair_best (scene_under p) close.now (listed_at p i) (listed_at p j) course.old.ids) ≡ true }
 {
-    let x = RefinedId(list.table[i]);
-    let y = RefinedId(list.table[j]);
-    let mut ra = [0usize; SCANS];
-    let mut rb = [0usize; SCANS];
-    let same = course.moved[i] == Mark::Resting;
-    tables::row_now(scene, list, i, same, ids, &mut ra);
-    let same = course.moved[j] == Mark::Resting;
-    tables::row_now(scene, list, j, same, ids, &mut rb);
+    let scene = pass.scene;
+    let x = RefinedId(pass.list.table[i]);
+    let y = RefinedId(pass.list.table[j]);
+    let ra = pass.row_now(i, course.moved[i] == Mark::Resting, &course.ids);
+    let rb = pass.row_now(j, course.moved[j] == Mark::Resting, &course.ids);
     let a = Window::new(x, scene.fold_of(x), &ra, course.costs[i]);
     let b = Window::new(y, scene.fold_of(y), &rb, course.costs[j]);
-    if let Some(m) = search_pair::best_of_pair(&scene.prices, close, &a, &b, &mut course.logs) {
+    if let Some(m) = search_pair::best_of_pair(scene.prices, close, &a, &b, &mut course.logs) {
         let pair = PairWithRows {
             m,
             ra: &ra,
             rb: &rb,
         };
-        moves::apply(&pair, scene.prices.first, x, y, scene.starts, ids);
-        course.costs[i] = scene.track_cost(x, ids, &mut course.logs);
-        course.costs[j] = scene.track_cost(y, ids, &mut course.logs);
+        moves::apply(
+            &pair,
+            scene.prices.first,
+            x,
+            y,
+            scene.starts,
+            &mut course.ids,
+        );
+        course.costs[i] = scene.track_cost(x, &course.ids, &mut course.logs);
+        course.costs[j] = scene.track_cost(y, &course.ids, &mut course.logs);
         course.moved[i] = Mark::ByPair;
         course.moved[j] = Mark::ByPair;
         course.tally = course.tally.count(m);
@@ -79,41 +73,26 @@ fn close_to(a: u8, b: u8) -> usize
     usize::from(a.min(b))
 }
 
-// Two entries of the table of rows are close: in which scans, and whether in any. Most pairs have no scan in common or beside each other; the others are looked
-// at only there. It asks that the entries say where their rows begin and end, and that no scan is noted yet.
-fn close_rows(
-    prices: &Prices<'_>,
-    rows: &[u8; ROWS],
-    i: usize,
-    j: usize,
-    close: &mut [bool; SCANS],
-) -> bool
-    requires { (i < DETECTIONS) × (j < DETECTIONS) × Entered rows.now i × Entered rows.now j × (close.old ≡ replicate SCANS false) }
-    ensures { CloseRows (square (radius prices.now.config)) prices.now.dots.now rows.now i j result close.new }
+// Whether two rows are close in some scan; `close` then notes in which. Most pairs have no scan in common or beside each other; the others are looked at only
+// in such scans. It asks that the rows say where they begin and end, and that no scan is noted yet.
+fn close_rows(prices: &Prices<'_>, a: &Row, b: &Row, close: &mut [bool; SCANS]) -> bool
+    requires { Entered a.now × Entered b.now × (close.old ≡ replicate SCANS false) }
+    ensures { CloseRows (square (radius prices.now.config)) prices.now.dots.now a.now b.now result close.new }
 {
-    if search_neighbours::meet(rows, i, j) {
-        let a = ROW * i;
-        let b = ROW * j;
-        let ea = a + SCANS;
-        let eb = b + SCANS;
-        let from = close_from(rows[ea], rows[eb]);
-        let to = close_to(rows[ea + 1], rows[eb + 1]);
-        let q = prices.config.radius_m * prices.config.radius_m;
-        return search_neighbours::close_scans(
-            q,
-            &rows[a..ea],
-            &rows[b..eb],
-            from,
-            to,
+    search_neighbours::meet(a, b)
+        && search_neighbours::close_scans(
+            prices.config.radius_m * prices.config.radius_m,
+            &a.slots,
+            &b.slots,
+            close_from(a.first, b.first),
+            close_to(a.end, b.end),
             prices.dots,
             close,
-        );
-    }
-    false
+        )
 }
 
-// The row at place i has not changed since its pairs were last looked at.
-fn pairs_rest(list: &Listing, course: &Course, i: usize) -> bool
+// Nothing is due of the row at place i: it has not changed since its pairs were last looked at.
+fn row_rests(list: &Listing, course: &Course, i: usize) -> bool
     requires { i < DETECTIONS }
     ensures { result ≡ true → (get_or list.now.due i Resting ≡ Resting) × (get_or course.now.moved i Resting ≡ Resting) }
 {
@@ -126,75 +105,55 @@ fn pair_rests(list: &Listing, course: &Course, i: usize, j: usize) -> bool
     ensures { result ≡ true → (get_or list.now.due i Resting ≡ Resting) × (get_or course.now.moved i Resting ≡ Resting)
         × (get_or list.now.due j Resting ≡ Resting) × (get_or course.now.moved j Resting ≡ Resting) }
 {
-    pairs_rest(list, course, i) && pairs_rest(list, course, j)
+    row_rests(list, course, i) && row_rests(list, course, j)
 }
 
-// The pair at two places of the table: its best move, made, if one of the rows has changed and they are close somewhere.
-fn pair_turn(
-    scene: &SceneRef<'_>,
-    list: &Listing,
-    i: usize,
-    j: usize,
-    ids: &mut [u64; DETECTIONS],
-    course: &mut Course,
-)
-    requires { let l = list.now in (i < j) × (j < l.count) × IdTable l.count l.table × Due (scene_in scene.now) l.count l.table l.rows l.due
-        × Swept (scene_in scene.now) l.count l.table l.rows ids.old course.old.costs course.old.moved }
-    ensures turned { let e = scene_in scene.now in let l = list.now in let a = get_or l.table i 0 in let b = get_or l.table j 0 in
-        (is : List ℕ) → Tabled e.starts is l.table l.count l.rows →
-        (progress_of ids.new course.new.tally ≡ pair_if e (close_on e (row_on e is a) (row_on e is b)) a b (progress_of ids.old course.old.tally))
-        × Rests e l.table l.rows course.new.moved i j }
-    ensures swept { let l = list.now in Swept (scene_in scene.now) l.count l.table l.rows ids.new course.new.costs course.new.moved }
-    ensures grows { Grows list.now.count course.old.moved course.new.moved }
+// Makes the best move of the pair at two places of the table, if one of the rows has changed and they are close somewhere.
+fn pair_turn(pass: &Pass<'_>, i: usize, j: usize, course: &mut Course)
+    requires { (i < j) × (j < pass.now.list.now.count) × SweptIn pass.now course.old }
+    ensures turned { let p = pass.now in let e = scene_under p in let a = listed_at p i in let b = listed_at p j in
+        (is : List ℕ) → TabledIn p is →
+        (progress_in course.new ≡ pair_if e (close_on e (row_on e is a) (row_on e is b)) a b (progress_in course.old))
+        × RestsIn p course.new.moved i j }
+    ensures swept { SweptIn pass.now course.new }
+    ensures grows { Grows pass.now.list.now.count course.old.moved course.new.moved }
 {
-    if pair_rests(list, course, i, j) {
+    if pair_rests(pass.list, course, i, j) {
         return;
     }
+    let rows = &pass.list.rows;
     let mut close = [false; SCANS];
-    if close_rows(&scene.prices, &list.rows, i, j, &mut close) {
-        pair_step(scene, list, i, j, &close, ids, course);
+    if close_rows(pass.scene.prices, &rows[i], &rows[j], &mut close) {
+        pair_step(pass, i, j, &close, course);
     }
 }
 
-// The track at place i of the table with each after it.
-fn sweep_one(
-    scene: &SceneRef<'_>,
-    list: &Listing,
-    i: usize,
-    ids: &mut [u64; DETECTIONS],
-    course: &mut Course,
-)
-    requires { let l = list.now in (i < l.count) × IdTable l.count l.table × Due (scene_in scene.now) l.count l.table l.rows l.due
-        × Swept (scene_in scene.now) l.count l.table l.rows ids.old course.old.costs course.old.moved }
-    ensures swept_one { let e = scene_in scene.now in let l = list.now in
-        (is : List ℕ) → Tabled e.starts is l.table l.count l.rows →
-        (progress_of ids.new course.new.tally
-        ≡ sweep_one e is (get_or l.table i 0) (drop (i + 1) (take l.count l.table)) (progress_of ids.old course.old.tally))
-        × ((j : ℕ) → i < j → j < l.count → Rests e l.table l.rows course.new.moved i j) }
-    ensures swept { let l = list.now in Swept (scene_in scene.now) l.count l.table l.rows ids.new course.new.costs course.new.moved }
-    ensures grows { Grows list.now.count course.old.moved course.new.moved }
+// Every pair of the track at place i of the table and one after it.
+fn sweep_one(pass: &Pass<'_>, i: usize, course: &mut Course)
+    requires { (i < pass.now.list.now.count) × SweptIn pass.now course.old }
+    ensures swept_one { let p = pass.now in
+        (is : List ℕ) → TabledIn p is →
+        (progress_in course.new
+        ≡ sweep_one (scene_under p) is (listed_at p i) (drop (i + 1) (listed_in p)) (progress_in course.old))
+        × ((j : ℕ) → i < j → j < p.list.now.count → RestsIn p course.new.moved i j) }
+    ensures swept { SweptIn pass.now course.new }
+    ensures grows { Grows pass.now.list.now.count course.old.moved course.new.moved }
 {
-    for j in i + 1..list.count {
-        pair_turn(scene, list, i, j, ids, course);
+    for j in i + 1..pass.list.count {
+        pair_turn(pass, i, j, course);
     }
 }
 
 // Every pair of the table.
-pub fn sweep_pairs(
-    scene: &SceneRef<'_>,
-    list: &Listing,
-    ids: &mut [u64; DETECTIONS],
-    course: &mut Course,
-)
-    requires { let l = list.now in IdTable l.count l.table × Due (scene_in scene.now) l.count l.table l.rows l.due
-        × Swept (scene_in scene.now) l.count l.table l.rows ids.old course.old.costs course.old.moved }
-    ensures swept_all { let e = scene_in scene.now in let l = list.now in
-        (is : List ℕ) → Tabled e.starts is l.table l.count l.rows →
-        (progress_of ids.new course.new.tally ≡ sweep e is (take l.count l.table) (progress_of ids.old course.old.tally))
-        × ((i j : ℕ) → i < j → j < l.count → Rests e l.table l.rows course.new.moved i j) }
-    ensures swept { let l = list.now in Swept (scene_in scene.now) l.count l.table l.rows ids.new course.new.costs course.new.moved }
+pub fn sweep_pairs(pass: &Pass<'_>, course: &mut Course)
+    requires { SweptIn pass.now course.old }
+    ensures swept_all { let p = pass.now in
+        (is : List ℕ) → TabledIn p is →
+        (progress_in course.new ≡ sweep (scene_under p) is (listed_in p) (progress_in course.old))
+        × ((i j : ℕ) → i < j → j < p.list.now.count → RestsIn p course.new.moved i j) }
+    ensures swept { SweptIn pass.now course.new }
 {
-    for i in 0..list.count {
-        sweep_one(scene, list, i, ids, course);
+    for i in 0..pass.list.count {
+        sweep_one(pass, i, course);
     }
 }

@@ -1,46 +1,42 @@
-// The tables of a pass: what it lists, what goes on changing in it, and what it takes over from the last.
-ghost use Rattle.std.specs.Prelude.{◌≡◌, ◌≢◌, true, ◌+◌, ◌≤◌, ◌<◌, get_or};
+// The tables of a pass: what goes on changing in it, and what it takes over from the last.
+ghost use Rattle.std.specs.Prelude.{◌≡◌, ◌≢◌, true, ◌≤◌, ◌<◌, get_or};
 ghost use Rattle.bounds.specs.Bounds.{DETECTIONS};
 ghost use Rattle.search_rows.specs.Rows.{present_in, Begins, Tabled};
-ghost use Rattle.search_neighbours.specs.Near.{row_at};
-ghost use Rattle.search.specs.Pass.{row_on, cost_on, Due, Swept, Left, From};
+ghost use Rattle.search.specs.Pass.{cost_on, Due, Swept, Left, From};
 ghost use Rattle.search.specs.declared.marks.Mark.TheVariants.{ByTrack};
 ghost use Rattle.search.specs.Lent.{scene_in};
+ghost use Rattle.search.specs.Stands.{progress_in, LeftIn};
 
+use crate::listed::Listing;
 use crate::marks::Mark;
 use crate::scene::SceneRef;
-use bounds::{DETECTIONS, ROW, ROWS, SCANS};
+use bounds::DETECTIONS;
 use cost::logs::Logs;
 use engine::types::RefinedId;
 use search_rows::moves::Tally;
 use search_rows::rows;
 
-// What a pass lists and does not change: how many ids have a window, these, ascending, their rows, and what is due of each.
-// As it is: the rows are one run of bytes, ROW for each, and ids, rows and marks stand beside each other: a row is cut out as a slice, and the ids that a pass
-// begins with are compared as a list with those of the definitions.
-#[derive(Drop)]
-pub struct Listing {
-    pub count: usize,
-    pub table: [u64; DETECTIONS],
-    pub rows: [u8; ROWS],
-    pub due: [Mark; DETECTIONS],
-}
-
-// What goes on changing: what each id listed costs, its mark, and the logarithms worked out; the next id before the tracks were visited; and what is counted.
+// What goes on changing: the gathered ids; what each id listed costs, and its mark; the first id that the visits of the last pass could give, which was the
+// next id when they began, and 0 before the first pass; the logarithms worked out; and what is counted, in it the next id now.
+// As it is: costs and marks stand beside each other, as in `Listing`. As structs they are no plainer: what the clauses say is of the costs alone or of the
+// marks alone (`Costed`, `Grows`), which would first be taken out of the structs, and a pass begins by clearing all marks and no cost.
 #[derive(Drop)]
 pub struct Course {
+    pub ids: [u64; DETECTIONS],
     pub costs: [f64; DETECTIONS],
     pub moved: [Mark; DETECTIONS],
-    pub next_id: RefinedId,
+    pub first_given: RefinedId,
     pub logs: Logs,
     pub tally: Tally,
 }
 
-// What the last pass left: the ids that it listed, what they cost, their marks, and the next id before it visited them.
+// What the last pass left: how many ids it listed; the first id that its visits could give; these ids, what they cost, and their marks.
+// As it is: the three stand beside each other, since they are taken over from `Listing` and `Course`, where they stand so; as structs each pass would put them
+// together first.
 #[derive(Drop)]
 struct Last {
     count: usize,
-    next_id: RefinedId,
+    first_given: RefinedId,
     table: [u64; DETECTIONS],
     costs: [f64; DETECTIONS],
     moved: [Mark; DETECTIONS],
@@ -53,30 +49,17 @@ struct Entry {
     due: Mark,
 }
 
-// The first place, from one on, whose id is not below x; n where there is none.
-// As it is: a loop, since `position` counts from `from` on and has a None for n: no plainer.
-fn seek(x: RefinedId, from: usize, n: usize, table: &[u64; DETECTIONS]) -> usize
-    requires { n ≤ DETECTIONS }
-{
-    for k in from..n {
-        if x.0 <= table[k] {
-            return k;
-        }
-    }
-    n
-}
-
 impl Last {
-    // The id x stood at place k, and was given out before that pass began.
+    // The id x stood at place k, and was given out before the visits of that pass began.
     fn has(&self, x: RefinedId, k: usize) -> bool
         requires { self.now.count ≤ DETECTIONS }
-        ensures { result ≡ true → (k < self.now.count) × (x.0 < self.now.next_id.0) × (get_or self.now.table k 0 ≡ x.0) }
+        ensures { result ≡ true → (k < self.now.count) × (x.0 < self.now.first_given.0) × (get_or self.now.table k 0 ≡ x.0) }
     {
-        k < self.count && x < self.next_id && self.table[k] == x.0
+        k < self.count && x < self.first_given && self.table[k] == x.0
     }
 }
 
-// The id x, which would be at place k of the last pass: what it costs and what is due, both as they were left; anew if it is new.
+// What the id x costs and what is due of it: as the last pass left both, if x stood at place k there; else its cost is worked out, and its track is due.
 fn carry(
     scene: &SceneRef<'_>,
     last: &Last,
@@ -85,9 +68,9 @@ fn carry(
     ids: &[u64; DETECTIONS],
     logs: &mut Logs,
 ) -> Entry
-    requires { Left (scene_in scene.now) last.now.count last.now.next_id.0 last.now.table ids.now last.now.costs last.now.moved }
+    requires { Left (scene_in scene.now) last.now.count last.now.first_given.0 last.now.table ids.now last.now.costs last.now.moved }
     ensures cost { result.cost ≡ cost_on (scene_in scene.now) ids.now x.0 }
-    ensures due { result.due ≢ ByTrack → From last.now.count last.now.next_id.0 last.now.table last.now.moved x.0 result.due }
+    ensures due { result.due ≢ ByTrack → From last.now.count last.now.first_given.0 last.now.table last.now.moved x.0 result.due }
 {
     if last.has(x, k) {
         return Entry {
@@ -102,66 +85,36 @@ fn carry(
 }
 
 // A pass begins: its tables are written, from those of the last.
-pub fn begin_pass(
-    scene: &SceneRef<'_>,
-    ids: &[u64; DETECTIONS],
-    list: &mut Listing,
-    course: &mut Course,
-)
-    requires { Left (scene_in scene.now) list.old.count course.old.next_id.0 list.old.table ids.now course.old.costs course.old.moved }
-    ensures listed { Begins (present_in scene.now.detections ids.now) list.new.count list.new.table }
-    ensures rows { Tabled scene.now.starts.now ids.now list.new.table list.new.count list.new.rows }
-    ensures swept { Swept (scene_in scene.now) list.new.count list.new.table list.new.rows ids.now course.new.costs course.new.moved }
+pub fn begin_pass(scene: &SceneRef<'_>, list: &mut Listing, course: &mut Course)
+    requires { LeftIn scene.now list.old course.old }
+    ensures listed { Begins (present_in scene.now.detections course.old.ids) list.new.count list.new.table }
+    ensures rows { Tabled scene.now.starts.now course.old.ids list.new.table list.new.count list.new.rows }
+    ensures swept { Swept (scene_in scene.now) list.new.count list.new.table list.new.rows course.new.ids course.new.costs course.new.moved }
     ensures due { Due (scene_in scene.now) list.new.count list.new.table list.new.rows list.new.due }
-    ensures tally { course.new.tally ≡ course.old.tally }
+    ensures stays { progress_in course.new ≡ progress_in course.old }
 {
     let last = Last {
         count: list.count,
-        next_id: course.next_id,
+        first_given: course.first_given,
         table: list.table,
         costs: course.costs,
         moved: course.moved,
     };
-    list.count = rows::present(scene.detections, ids, &mut list.table);
-    rows::fill_rows(list.count, &list.table, scene.starts, ids, &mut list.rows);
+    list.count = rows::present(scene.detections, &course.ids, &mut list.table);
+    rows::fill_rows(
+        list.count,
+        &list.table,
+        scene.starts,
+        &course.ids,
+        &mut list.rows,
+    );
     let mut k: usize = 0;
     for i in 0..list.count {
         let x = RefinedId(list.table[i]);
-        k = seek(x, k, last.count, &last.table);
-        let c = carry(scene, &last, x, k, ids, &mut course.logs);
+        k = rows::place_from(x, k, &last.table[..last.count]);
+        let c = carry(scene, &last, x, k, &course.ids, &mut course.logs);
         course.costs[i] = c.cost;
         list.due[i] = c.due;
     }
     course.moved = [Mark::Resting; DETECTIONS];
-}
-
-// The row at place i of the table of rows.
-fn copy_row(i: usize, rows: &[u8; ROWS], row: &mut [usize; SCANS])
-    requires { i < DETECTIONS }
-    ensures { row.new ≡ row_at rows.now i }
-{
-    let at = ROW * i;
-    for k in 0..SCANS {
-        row[k] = usize::from(rows[at + k]);
-    }
-}
-
-// The row of the id at place i of the table as it is now: that of the table of rows, if it is known to be the same.
-pub fn row_now(
-    scene: &SceneRef<'_>,
-    list: &Listing,
-    i: usize,
-    same: bool,
-    ids: &[u64; DETECTIONS],
-    row: &mut [usize; SCANS],
-)
-    requires { (i < DETECTIONS)
-        × (same ≡ true → row_on (scene_in scene.now) ids.now (get_or list.now.table i 0) ≡ row_at list.now.rows i) }
-    ensures { row.new ≡ row_on (scene_in scene.now) ids.now (get_or list.now.table i 0) }
-{
-    if same {
-        copy_row(i, &list.rows, row);
-        return;
-    }
-    scene.fill_row(RefinedId(list.table[i]), ids, row);
 }

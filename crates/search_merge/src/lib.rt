@@ -10,47 +10,40 @@ use bounds::SCANS;
 use cost::logs::Logs;
 use cost::prices::Prices;
 use cost_row::window::Window;
-use engine::types::RefinedId;
 use fgo_spec::moves::PairMove;
 use search_rows::moves::better;
+use std::array::from_fn;
 
-// Of two detections in one scan the keeper's own is kept, or the other's.
+// The detection in a scan that the merged track keeps: the keeper's x or the other's y, of which 0 is none. Where both have one, it is the keeper's if `own`
+// says so, else the other's.
 fn kept_slot(own: bool, x: usize, y: usize) -> usize
     ensures { result ≡ kept_slot own x y }
 {
-    if x == 0 {
-        return y;
-    }
-    if y == 0 {
-        return x;
-    }
-    if own { x } else { y }
+    if x == 0 || (y != 0 && !own) { y } else { x }
 }
 
 // The row of a merged track.
-fn merge_rows(own: bool, a: &[usize; SCANS], b: &[usize; SCANS], row: &mut [usize; SCANS])
-    ensures { row.new ≡ merged_row own a.now b.now }
+fn merged_row(own: bool, a: &[usize; SCANS], b: &[usize; SCANS]) -> [usize; SCANS]
+    ensures { result ≡ merged_row own a.now b.now }
 {
-    for k in 0..SCANS {
-        row[k] = kept_slot(own, a[k], b[k]);
-    }
+    from_fn(|k| kept_slot(own, a[k], b[k]))
 }
 
-// 1 where a scan has a detection of both rows: a merge loses one of them.
+// 1 if both rows have a detection in a scan, of which a merge loses one; else 0.
 fn both_have(x: usize, y: usize) -> u64
     ensures { result ≡ both_have x y }
 {
-    if x == 0 || y == 0 { 0 } else { 1 }
+    u64::from(x != 0 && y != 0)
 }
 
-// 1 where a scan has a detection of the first row and none of the second.
+// 1 if the first row has a detection in a scan and the second has none; else 0.
 fn only_has(x: usize, y: usize) -> u64
     ensures { result ≡ only_has x y }
 {
-    if x == 0 || y != 0 { 0 } else { 1 }
+    u64::from(x != 0 && y == 0)
 }
 
-// How two rows lie to each other: the scans that both have, those that only the first has, and those that only the second has.
+// How two rows lie to each other: in how many scans both have a detection, in how many only the first, and in how many only the second.
 #[derive(Clone, Copy)]
 pub struct Overlap {
     pub shared: u64,
@@ -72,6 +65,7 @@ impl Overlap {
 }
 
 // How two rows lie to each other.
+// As it is: three counts in one pass over both rows, where a count by `zip` and `filter` each would go over them three times, for each pair of a pass.
 pub fn overlap_of(a: &[usize; SCANS], b: &[usize; SCANS]) -> Overlap
     ensures { result ≡ overlap_of a.now b.now }
 {
@@ -92,98 +86,82 @@ pub fn overlap_of(a: &[usize; SCANS], b: &[usize; SCANS]) -> Overlap
     }
 }
 
-// What the row of a merged track costs.
-fn merged_cost(
-    prices: &Prices<'_>,
-    own: bool,
-    keeper: &Window<'_>,
-    other: &Window<'_>,
-    logs: &mut Logs,
-) -> f64
-    ensures { result ≡ row_cost prices.now.config (view_in prices.now) keeper.now.from (merged_row own keeper.now.row.now other.now.row.now) }
-{
-    let mut row = [0usize; SCANS];
-    merge_rows(own, keeper.row, other.row, &mut row);
-    cost_row::row_cost(prices, &keeper.from, &row, keeper.end.max(other.end), logs)
+// Two windows, of which the keeper may take the detections of the other: how their rows lie to each other, and what the keeper would cost with the other's row,
+// which is right at least where there is no scan in which only the keeper has a detection.
+#[derive(Drop)]
+pub struct Merging<'a> {
+    pub prices: &'a Prices<'a>,
+    pub keeper: &'a Window<'a>,
+    pub other: &'a Window<'a>,
+    pub overlap: Overlap,
+    pub exchanged: f64,
+    pub ghost lie: { overlap ≡ overlap_of keeper.now.row.now other.now.row.now },
+    pub ghost paid: { keeper.now.cost ≡ row_cost prices.now.config (view_in prices.now) keeper.now.from keeper.now.row.now },
+    pub ghost priced: { overlap.mine ≡ 0 → exchanged ≡ row_cost prices.now.config (view_in prices.now) keeper.now.from other.now.row.now },
 }
 
-// The cost of a merged row that keeps the keeper's own detections: what the keeper costs now, where the other row has no scan that it has not.
-fn own_cost(
-    prices: &Prices<'_>,
-    keeper: &Window<'_>,
-    other: &Window<'_>,
-    o: Overlap,
-    logs: &mut Logs,
-) -> f64
-    requires { (o ≡ overlap_of keeper.now.row.now other.now.row.now)
-        × (keeper.now.cost ≡ row_cost prices.now.config (view_in prices.now) keeper.now.from keeper.now.row.now) }
-    ensures { result ≡ row_cost prices.now.config (view_in prices.now) keeper.now.from (merged_row true keeper.now.row.now other.now.row.now) }
-{
-    if o.theirs == 0 {
-        return keeper.cost;
+impl Merging<'_> {
+    ghost use Rattle.search_merge.specs.Lent.{merged_cost};
+
+    // What the row of the merged track costs.
+    fn merged_cost(&self, own: bool, logs: &mut Logs) -> f64
+        ensures { result ≡ merged_cost self.now own }
+    {
+        let row = merged_row(own, self.keeper.row, self.other.row);
+        let end = self.keeper.end.max(self.other.end);
+        cost_row::row_cost(self.prices, &self.keeper.from, &row, end, logs)
     }
-    merged_cost(prices, true, keeper, other, logs)
-}
 
-// The cost of a merged row that keeps the other's detections: that of the rows exchanged, where the keeper has no scan that the other has not.
-fn other_cost(
-    prices: &Prices<'_>,
-    keeper: &Window<'_>,
-    other: &Window<'_>,
-    exchanged: f64,
-    o: Overlap,
-    logs: &mut Logs,
-) -> f64
-    requires { (o ≡ overlap_of keeper.now.row.now other.now.row.now)
-        × (o.mine ≡ 0 → exchanged ≡ row_cost prices.now.config (view_in prices.now) keeper.now.from other.now.row.now) }
-    ensures { result ≡ row_cost prices.now.config (view_in prices.now) keeper.now.from (merged_row false keeper.now.row.now other.now.row.now) }
-{
-    if o.mine == 0 {
-        return exchanged;
+    // The cost of the merged row that keeps the keeper's own detections: what the keeper costs now, if there is no scan in which only the other has one.
+    fn own_cost(&self, logs: &mut Logs) -> f64
+        ensures { result ≡ merged_cost self.now true }
+    {
+        if self.overlap.theirs == 0 {
+            return self.keeper.cost;
+        }
+        self.merged_cost(true, logs)
     }
-    merged_cost(prices, false, keeper, other, logs)
-}
 
-// A merge by what its row costs.
-fn merge_of(
-    prices: &Prices<'_>,
-    keeper: RefinedId,
-    own: bool,
-    cost: f64,
-    lost: u64,
-    base: f64,
-) -> PairMove
-    ensures { result ≡ merge_of prices.now.config keeper own cost lost base }
-{
-    let gain = cost + std::num::nearest_u64_to_f64(lost) * prices.config.clutter_cost - base;
-    PairMove::Merge { keeper, own, gain }
-}
-
-// The best so far or one of the two merges into a keeper, whose window would cost `exchanged` with the other's row. Where no scan is shared both are the same
-// row, whose cost is worked out once.
-// As it is: eight parameters, since the prices and the windows are lent to be read and the logarithms to be written, and the base is what both windows cost in
-// the order of the pair, whichever of them is the keeper.
-pub fn better_merge(
-    prices: &Prices<'_>,
-    best: Option<PairMove>,
-    keeper: &Window<'_>,
-    other: &Window<'_>,
-    exchanged: f64,
-    o: Overlap,
-    base: f64,
-    logs: &mut Logs,
-) -> Option<PairMove>
-    requires { (o ≡ overlap_of keeper.now.row.now other.now.row.now)
-        × (keeper.now.cost ≡ row_cost prices.now.config (view_in prices.now) keeper.now.from keeper.now.row.now)
-        × (o.mine ≡ 0 → exchanged ≡ row_cost prices.now.config (view_in prices.now) keeper.now.from other.now.row.now) }
-    ensures { result ≡ better_merge prices.now.config (view_in prices.now) keeper.now.id keeper.now.from keeper.now.row.now other.now.row.now base best }
-{
-    let k = keeper.id;
-    let own = own_cost(prices, keeper, other, o, logs);
-    let first = better(best, merge_of(prices, k, true, own, o.shared, base));
-    if o.shared == 0 {
-        return better(first, merge_of(prices, k, false, own, o.shared, base));
+    // The cost of the merged row that keeps the other's detections: that of the rows exchanged, if there is no scan in which only the keeper has one.
+    fn other_cost(&self, logs: &mut Logs) -> f64
+        ensures { result ≡ merged_cost self.now false }
+    {
+        if self.overlap.mine == 0 {
+            return self.exchanged;
+        }
+        self.merged_cost(false, logs)
     }
-    let theirs = other_cost(prices, keeper, other, exchanged, o, logs);
-    better(first, merge_of(prices, k, false, theirs, o.shared, base))
+
+    // A merge by what its row costs.
+    fn merge_of(&self, own: bool, cost: f64, base: f64) -> PairMove
+        ensures { result ≡ merge_of self.now.prices.now.config self.now.keeper.now.id own cost self.now.overlap.shared base }
+    {
+        let lost = std::num::nearest_u64_to_f64(self.overlap.shared);
+        let gain = cost + lost * self.prices.config.clutter_cost - base;
+        PairMove::Merge {
+            keeper: self.keeper.id,
+            own,
+            gain,
+        }
+    }
+
+    // The best so far or one of the two merges into the keeper; base is what both windows cost now. Where no scan is shared both are the same row, and its
+    // cost is worked out once.
+    pub fn better_merge(
+        &self,
+        best: Option<PairMove>,
+        base: f64,
+        logs: &mut Logs,
+    ) -> Option<PairMove>
+        ensures { let p = self.now.prices.now in let k = self.now.keeper.now in
+            result ≡ better_merge p.config (view_in p) k.id k.from k.row.now self.now.other.now.row.now base best }
+    {
+        let own_row_cost = self.own_cost(logs);
+        let first = better(best, self.merge_of(true, own_row_cost, base));
+        if self.overlap.shared == 0 {
+            return better(first, self.merge_of(false, own_row_cost, base));
+        }
+        let other_row_cost = self.other_cost(logs);
+        better(first, self.merge_of(false, other_row_cost, base))
+    }
 }

@@ -1,32 +1,34 @@
 -- Which pairs of rows come close, and in which scans: document 01's list of pairs. Definitions only.
-use Rattle.std.specs.Prelude.{ℕ, ◌+◌, ◌-◌, ◌*◌, ◌≤◌, ◌<◌, ◌≡◌, Bool, true, false, cond, ◌&&◌, List, map, get_or, eqb, leb, Float}
+use Rattle.std.specs.Prelude.{ℕ, ◌+◌, ◌-◌, ◌≤◌, ◌<◌, ◌≡◌, Bool, true, false, cond, ◌&&◌, List, map, get_or, eqb, leb, Float}
 use Rattle.std.specs.Float.{nan}
 use Rattle.std.specs.Float.Ieee.{lt}
-use Rattle.bounds.specs.Bounds.{ROW, SCANS}
+use Rattle.bounds.specs.Bounds.{SCANS}
 use Rattle.cost.specs.Cost.{dot_at}
-use Rattle.fgo_spec.specs.Lists.{any, up_from, segment}
+use Rattle.cost.specs.declared.Dot.{Dot}
+use Rattle.fgo_spec.specs.Lists.{any, up_from}
 use Rattle.fgo_spec.specs.Searching.{◌⊕◌, ◌⊖◌, square}
 use Rattle.search_neighbours.specs.declared.Point.{Point}
-use Rattle.search_rows.specs.Rows.{first_in, end_from}
+use Rattle.search_rows.specs.Rows.{first_in, end_from, no_row}
+use Rattle.search_rows.specs.declared.rows.Row.{Row}
 
 -- "squared distance"
-abbrev pub apart2 : List Float → ℕ → ℕ → Float
+abbrev pub apart2 : List Dot → ℕ → ℕ → Float
 apart2 dots i j = square ((dot_at dots i).x ⊖ (dot_at dots j).x) ⊕ square ((dot_at dots i).y ⊖ (dot_at dots j).y)
 
 -- two entries of rows have a detection each, "at a squared distance below radius²", here q
-unfoldable pub near_slots : Float → List Float → ℕ → ℕ → Bool
+unfoldable pub near_slots : Float → List Dot → ℕ → ℕ → Bool
 near_slots q dots i j = cond (eqb i 0) false (cond (eqb j 0) false (lt (apart2 dots (i - 1) (j - 1)) q))
 
 -- "in one scan or in two consecutive scans": two rows have x and y in the earlier, nx and ny in the next
-abbrev pub close_slots : Float → List Float → ℕ → ℕ → ℕ → ℕ → Bool
+abbrev pub close_slots : Float → List Dot → ℕ → ℕ → ℕ → ℕ → Bool
 close_slots q dots x y nx ny = cond (near_slots q dots x y) true (cond (near_slots q dots x ny) true (near_slots q dots nx y))
 
 -- the earlier is k
-unfoldable pub close_at : Float → List Float → List ℕ → List ℕ → ℕ → Bool
+unfoldable pub close_at : Float → List Dot → List ℕ → List ℕ → ℕ → Bool
 close_at q dots a b k = close_slots q dots (get_or a k 0) (get_or b k 0) (get_or a (k + 1) 0) (get_or b (k + 1) 0)
 
 -- "it notes the earlier of their scans": for each scan whether it is noted
-unfoldable pub close_scans : Float → List Float → List ℕ → List ℕ → List Bool
+unfoldable pub close_scans : Float → List Dot → List ℕ → List ℕ → List Bool
 close_scans q dots a b = map (close_at q dots a b) (up_from 0 SCANS)
 
 -- some scan is noted
@@ -34,7 +36,7 @@ abbrev pub any_close : List Bool → Bool
 any_close close = any (λ (b : Bool). b) close
 
 -- where the detection of an entry of a row lies; at NaN, which is near nothing, where there is none
-unfoldable pub point_at : List Float → ℕ → Point
+unfoldable pub point_at : List Dot → ℕ → Point
 point_at dots i = cond (eqb i 0) (record { x = nan; y = nan }) (record { x = (dot_at dots (i - 1)).x; y = (dot_at dots (i - 1)).y })
 
 -- near_slots, by where the detections of the two entries lie
@@ -46,26 +48,25 @@ abbrev pub close_points : Float → Point → Point → Point → Point → Bool
 close_points q x y nx ny = cond (near_points q x y) true (cond (near_points q x ny) true (near_points q nx y))
 
 -- rows are close in no scan outside of those from `from` up to `to`
-pub record CloseWithin (q : Float) (dots : List Float) (a b : List ℕ) (from to : ℕ) : Type 0 where
+pub record CloseWithin (q : Float) (dots : List Dot) (a b : List ℕ) (from to : ℕ) : Type 0 where
   pub few : to ≤ SCANS
   pub before : (k : ℕ) → k < from → close_at q dots a b k ≡ false
   pub after : (k : ℕ) → to ≤ k → close_at q dots a b k ≡ false
 
--- the scans of two entries of a table are equal or consecutive somewhere: each begins no later than the other ends
-abbrev pub meets : List ℕ → ℕ → ℕ → Bool
-meets rows i j =
-    leb (get_or rows (ROW * i + SCANS) 0) (get_or rows (ROW * j + SCANS + 1) 0) && leb (get_or rows (ROW * j + SCANS) 0) (get_or rows (ROW * i + SCANS + 1) 0)
+-- the ranges of scans of two rows overlap or touch: each begins no later than one scan past the other's last
+abbrev pub meets : Row → Row → Bool
+meets a b = leb a.first b.end && leb b.first a.end
 
 -- the row of entry i of a table
-abbrev pub row_at : List ℕ → ℕ → List ℕ
-row_at rows i = segment (ROW * i) (ROW * i + SCANS) rows
+abbrev pub row_at : List Row → ℕ → List ℕ
+row_at rows i = (get_or rows i no_row).slots
 
--- entry i of a table says where its row begins and ends
-pub record Entered (rows : List ℕ) (i : ℕ) : Type 0 where
-  pub first : get_or rows (ROW * i + SCANS) 0 ≡ first_in (row_at rows i)
-  pub end : get_or rows (ROW * i + SCANS + 1) 0 ≡ end_from 0 0 (row_at rows i)
+-- a row says where it begins and ends
+pub record Entered (r : Row) : Type 0 where
+  pub first : r.first ≡ first_in r.slots
+  pub end : r.end ≡ end_from 0 0 r.slots
 
--- whether two entries of a table are close in any scan, and if so in which
-pub record CloseRows (q : Float) (dots : List Float) (rows : List ℕ) (i j : ℕ) (r : Bool) (close : List Bool) : Type 0 where
-  pub found : r ≡ (meets rows i j && any_close (close_scans q dots (row_at rows i) (row_at rows j)))
-  pub scans : r ≡ true → close ≡ close_scans q dots (row_at rows i) (row_at rows j)
+-- whether two rows are close in any scan, and if so in which
+pub record CloseRows (q : Float) (dots : List Dot) (a b : Row) (r : Bool) (close : List Bool) : Type 0 where
+  pub found : r ≡ (meets a b && any_close (close_scans q dots a.slots b.slots))
+  pub scans : r ≡ true → close ≡ close_scans q dots a.slots b.slots

@@ -1,13 +1,16 @@
 // Which rows come close to each other, and in which scans.
 #![tactic(auto)]
 
-ghost use Rattle.std.specs.Prelude.{◌≡◌, false, ◌<◌, length, get_or, replicate};
-ghost use Rattle.bounds.specs.Bounds.{DETECTIONS, ROWS, SCANS};
+ghost use Rattle.std.specs.Prelude.{◌≡◌, false, get_or, replicate};
+ghost use Rattle.bounds.specs.Bounds.{SCANS};
 ghost use Rattle.search_neighbours.specs.Near.{point_at, near_points, close_points, close_scans, any_close, meets, CloseWithin};
 
-use bounds::{DOTS, ROW, ROWS, SCANS};
+use bounds::{DETECTIONS, SCANS};
+use cost::Dot;
+use search_rows::rows::Row;
 
 // Where a detection lies. One that is not there lies at NaN, which is near nothing.
+// As it is: with an Option each comparison would first ask for both points; one with NaN is false by itself.
 #[derive(Clone, Copy)]
 struct Point {
     x: f64,
@@ -15,12 +18,14 @@ struct Point {
 }
 
 // Where the detection of an entry of a row lies.
-fn point_at(i: usize, dots: &[f64; DOTS]) -> Point
+fn point_at(i: usize, dots: &[Dot; DETECTIONS]) -> Point
     ensures { result ≡ point_at dots.now i }
 {
     if i == 0 {
-        let nan = 0.0 / 0.0;
-        return Point { x: nan, y: nan };
+        return Point {
+            x: f64::NAN,
+            y: f64::NAN,
+        };
     }
     let d = cost::dot_at(dots, i - 1);
     Point { x: d.x, y: d.y }
@@ -51,13 +56,14 @@ fn close_points(q: f64, x: Point, y: Point, nx: Point, ny: Point) -> bool
 
 // For each scan whether the rows are close in it; and whether they are close in any. It asks for scans outside of which they are not, and that no scan is
 // noted yet.
-pub fn close_scans<'a>(
+// As it is: what is lent is filled in place, and the answer comes of the same pass; `any` over what was filled would be a second one for each pair.
+pub fn close_scans(
     q: f64,
-    a: &'a [u8],
-    b: &'a [u8],
+    a: &[u8],
+    b: &[u8],
     from: usize,
     to: usize,
-    dots: &'a [f64; DOTS],
+    dots: &[Dot; DETECTIONS],
     close: &mut [bool; SCANS],
 ) -> bool
     requires { CloseWithin q dots.now a.now b.now from to × (close.old ≡ replicate SCANS false) }
@@ -80,12 +86,10 @@ pub fn close_scans<'a>(
     found
 }
 
-// Two entries of the table, both below DETECTIONS, have equal or consecutive scans somewhere.
-// As it is: four bytes of the table of rows by their places; cutting the two rows out of it is no plainer.
-pub fn meet(rows: &[u8; ROWS], i: usize, j: usize) -> bool
-    requires { (i < DETECTIONS) × (j < DETECTIONS) × (length rows.now ≡ ROWS) }
-    ensures { result ≡ meets rows.now i j }
+// The ranges of scans of two rows, each from its first detection to its last, overlap or touch. In no scan, and in no two consecutive ones, need both have
+// a detection: rows with detections in the scans 0 and 10, and in the scan 5, meet.
+pub fn meet(a: &Row, b: &Row) -> bool
+    ensures { result ≡ meets a.now b.now }
 {
-    rows[ROW * i + SCANS] <= rows[ROW * j + SCANS + 1]
-        && rows[ROW * j + SCANS] <= rows[ROW * i + SCANS + 1]
+    a.first <= b.end && b.first <= a.end
 }

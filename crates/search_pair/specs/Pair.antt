@@ -39,7 +39,8 @@ unfoldable pub best_swap_row : FgoConfig → View → Fold → Fold → List Boo
 best_swap_row c v pa pb close a b base = foldl better_pair None (map (try_swap_row c v pa pb a b base) (cuts_of close))
 
 -- "Merges are tried next, with a as the keeper and then with b"
-unfoldable pub best_pair_row : FgoConfig → View → RefinedId → RefinedId → Fold → Fold → List Bool → List ℕ → List ℕ → Float → Option PairMove
+unfoldable pub best_pair_row :
+    FgoConfig → View → RefinedId → RefinedId → Fold → Fold → List Bool → List ℕ → List ℕ → Float → Option PairMove
 best_pair_row c v x y pa pb close a b base =
     better_merge c v y pb b a base (better_merge c v x pa a b base (best_swap_row c v pa pb close a b base))
 

@@ -15,28 +15,8 @@ use cost::prices::Prices;
 use cost_row::window::Window;
 use engine::types::ScanIndex;
 use fgo_spec::moves::PairMove;
+use search_merge::Merging;
 use search_rows::moves::better;
-
-// The gain of the swap at a cut, by the folds over both rows before it.
-fn swap_gain(
-    prices: &Prices<'_>,
-    a: &Window<'_>,
-    b: &Window<'_>,
-    fa: &Fold,
-    fb: &Fold,
-    cut: usize,
-    logs: &mut Logs,
-) -> f64
-    requires { (misses_of fa.now < 2 ^ 58) × (misses_of fb.now < 2 ^ 58) }
-    ensures { result
-        ≡ cost prices.now.config fa.now (measurements (view_in prices.now) cut (drop cut b.now.row.now))
-        ⊕ cost prices.now.config fb.now (measurements (view_in prices.now) cut (drop cut a.now.row.now))
-        ⊖ (a.now.cost ⊕ b.now.cost) }
-{
-    let x = cost_row::rest_cost(prices, fa, b.row, cut, b.end, logs);
-    let y = cost_row::rest_cost(prices, fb, a.row, cut, a.end, logs);
-    x + y - (a.cost + b.cost)
-}
 
 // A pair may be cut at scan k: it is close in k, or in the scan before.
 fn is_cut(close: &[bool; SCANS], k: usize) -> bool
@@ -46,54 +26,76 @@ fn is_cut(close: &[bool; SCANS], k: usize) -> bool
     (k < SCANS && close[k]) || (0 < k && close[k - 1])
 }
 
-// The swap at the cut before all scans, if there is one: the rows are exchanged, and cost xa and xb then.
-fn first_swap(cut: bool, first: ScanIndex, xa: f64, xb: f64, base: f64) -> Option<PairMove>
-    ensures { result ≡ first_swap cut first xa xb base }
-{
-    if cut {
-        let gain = xa + xb - base;
-        return better(None, PairMove::Swap { cut: first, gain });
-    }
-    None
+// Two windows and the scans in which they are close. `base` is what both cost now; the exchanged costs are what each would cost with the other's row, and are
+// right at least where there is a cut before all scans.
+#[derive(Drop)]
+struct Pair<'a> {
+    prices: &'a Prices<'a>,
+    close: &'a [bool; SCANS],
+    a: &'a Window<'a>,
+    b: &'a Window<'a>,
+    base: f64,
+    exchanged_a: f64,
+    exchanged_b: f64,
+    ghost summed: { base ≡ a.now.cost ⊕ b.now.cost },
+    ghost priced: { Exchanged prices.now close.now a.now b.now exchanged_a exchanged_b },
 }
 
-// The best swap, at each cut: the folds over both rows go on from cut to cut. Before all scans the rows are exchanged, and cost xa and xb; a cut at or past the
-// end of both would leave them as they are.
-fn best_swap(
-    prices: &Prices<'_>,
-    close: &[bool; SCANS],
-    a: &Window<'_>,
-    b: &Window<'_>,
-    xa: f64,
-    xb: f64,
-    logs: &mut Logs,
-) -> Option<PairMove>
-    requires { Exchanged prices.now close.now a.now b.now xa xb }
-    ensures { result
-        ≡ best_swap_row prices.now.config (view_in prices.now) a.now.from b.now.from close.now
-        a.now.row.now b.now.row.now (a.now.cost ⊕ b.now.cost) }
-{
-    let paid = a.cost + b.cost;
-    let end = a.end.max(b.end);
-    let mut best = first_swap(is_cut(close, 0), prices.first, xa, xb, paid);
-    let mut fa = a.from;
-    let mut fb = b.from;
-    let mut done: usize = 0;
-    for k in 1..end {
-        if is_cut(close, k) {
-            fa = cost_row::fold_to(prices, &fa, a.row, done, k, logs);
-            fb = cost_row::fold_to(prices, &fb, b.row, done, k, logs);
-            done = k;
-            let gain = swap_gain(prices, a, b, &fa, &fb, k, logs);
-            let cut = ScanIndex(prices.first.0 + k as u64);
-            best = better(best, PairMove::Swap { cut, gain });
+impl Pair<'_> {
+    // The swap at the cut before all scans, if there is one: the rows are exchanged.
+    fn first_swap(&self) -> Option<PairMove>
+        ensures { let p = self.now in result ≡ first_swap (cut_at p.close.now 0) p.prices.now.first p.exchanged_a p.exchanged_b p.base }
+    {
+        if is_cut(self.close, 0) {
+            let cut = self.prices.first;
+            let gain = self.exchanged_a + self.exchanged_b - self.base;
+            return better(None, PairMove::Swap { cut, gain });
         }
+        None
     }
-    best
+
+    // The gain of the swap at a cut, by the folds over both rows before it.
+    fn swap_gain(&self, fa: &Fold, fb: &Fold, cut: usize, logs: &mut Logs) -> f64
+        requires { (misses_of fa.now < 2 ^ 58) × (misses_of fb.now < 2 ^ 58) }
+        ensures { let p = self.now.prices.now in result
+            ≡ cost p.config fa.now (measurements (view_in p) cut (drop cut self.now.b.now.row.now))
+            ⊕ cost p.config fb.now (measurements (view_in p) cut (drop cut self.now.a.now.row.now))
+            ⊖ self.now.base }
+    {
+        let x = cost_row::rest_cost(self.prices, fa, self.b.row, cut, self.b.end, logs);
+        let y = cost_row::rest_cost(self.prices, fb, self.a.row, cut, self.a.end, logs);
+        x + y - self.base
+    }
+
+    // The best swap, at each cut: the folds over both rows go on from cut to cut. A swap at or past the end of both would change nothing.
+    fn best_swap(&self, logs: &mut Logs) -> Option<PairMove>
+        ensures { let p = self.now.prices.now in let a = self.now.a.now in let b = self.now.b.now in
+            result ≡ best_swap_row p.config (view_in p) a.from b.from self.now.close.now a.row.now b.row.now self.now.base }
+    {
+        let prices = self.prices;
+        let a = self.a;
+        let b = self.b;
+        let end = a.end.max(b.end);
+        let mut best = self.first_swap();
+        let mut fa = a.from;
+        let mut fb = b.from;
+        let mut done: usize = 0;
+        for k in 1..end {
+            if is_cut(self.close, k) {
+                fa = cost_row::fold_to(prices, &fa, a.row, done, k, logs);
+                fb = cost_row::fold_to(prices, &fb, b.row, done, k, logs);
+                done = k;
+                let gain = self.swap_gain(&fa, &fb, k, logs);
+                let cut = ScanIndex(prices.first.0 + k as u64);
+                best = better(best, PairMove::Swap { cut, gain });
+            }
+        }
+        best
+    }
 }
 
-// What the window of `mine` would cost with another row. It is asked for by the cut before all scans, or by a merge into a track that has no scan alone; else
-// the answer is 0.0.
+// What the window `mine` would cost with the row of `other`. A swap reads it if there is a `cut` before all scans, and a merge if `mine` has no scan `alone`,
+// one in which `other` has no detection; else nobody does, and the answer is 0.0.
 // As it is: no Option, since who reads the answer knows by the cut, or by the scans alone, that it was asked for, and would have a None that never comes.
 fn exchanged_cost(
     prices: &Prices<'_>,
@@ -112,7 +114,7 @@ fn exchanged_cost(
     0.0
 }
 
-// The best move of a pair, or none: the scans in which they are close, and their windows. It asks for costs that are right.
+// The best move of a pair of windows, or none; `close` says in which scans they are close. It asks that the cost of each is that of its row.
 pub fn best_of_pair(
     prices: &Prices<'_>,
     close: &[bool; SCANS],
@@ -126,13 +128,34 @@ pub fn best_of_pair(
         ≡ best_pair_row prices.now.config (view_in prices.now) a.now.id b.now.id a.now.from b.now.from close.now
         a.now.row.now b.now.row.now (a.now.cost ⊕ b.now.cost) }
 {
-    let base = a.cost + b.cost;
-    let o = search_merge::overlap_of(a.row, b.row);
-    let back = o.turned();
+    let overlap = search_merge::overlap_of(a.row, b.row);
     let cut = is_cut(close, 0);
-    let xa = exchanged_cost(prices, a, b, cut, o.mine, logs);
-    let xb = exchanged_cost(prices, b, a, cut, back.mine, logs);
-    let swap = best_swap(prices, close, a, b, xa, xb, logs);
-    let best = search_merge::better_merge(prices, swap, a, b, xa, o, base, logs);
-    search_merge::better_merge(prices, best, b, a, xb, back, base, logs)
+    let exchanged_a = exchanged_cost(prices, a, b, cut, overlap.mine, logs);
+    let exchanged_b = exchanged_cost(prices, b, a, cut, overlap.theirs, logs);
+    let pair = Pair {
+        prices,
+        close,
+        a,
+        b,
+        base: a.cost + b.cost,
+        exchanged_a,
+        exchanged_b,
+    };
+    let into_a = Merging {
+        prices,
+        keeper: a,
+        other: b,
+        overlap,
+        exchanged: exchanged_a,
+    };
+    let into_b = Merging {
+        prices,
+        keeper: b,
+        other: a,
+        overlap: overlap.turned(),
+        exchanged: exchanged_b,
+    };
+    let swap = pair.best_swap(logs);
+    let best = into_a.better_merge(swap, pair.base, logs);
+    into_b.better_merge(best, pair.base, logs)
 }

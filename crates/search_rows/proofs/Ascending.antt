@@ -7,8 +7,10 @@ use native.Mathlib.Nat.{not-suc-le-zero, le_of_suc-le-suc}
 use native.Mathlib.Numerals.{add-one}
 use native.Mathlib.Omega.{arith}
 use lib.ListN.{length, get_or, take, drop, set, length-set}
-use lib.Seq.{length-take-le, take-take, take-set-lt, get_or-take, set_split}
+use lib.Seq.{length-take-le, take-take, take-set-lt, get_or-take, set_split, take_at}
 use lib.Dec.{ltb}
+use Rattle.std.specs.List.{push}
+use Rattle.std.proofs.lemmas.List.{length_push, get_or_push}
 use borrow.Author.Tests.{lt-ltb, le-ltb, ltb-true, ltb-false}
 use Rattle.bounds.specs.Bounds.{DETECTIONS}
 use Rattle.fgo_spec.specs.Lists.{cons_if, keep, insert, insert_by, segment, place_in}
@@ -58,7 +60,7 @@ place-suc x y l p = go (ltb y x) refl
     go true q e = (ltb-true y x q, omega arith)
     go false q e = absurd (omega arith)
 
-place-within : (x : ℕ) (l : List ℕ) (p : ℕ) → p ≡ place_in x l → p ≤ length l
+pub place-within : (x : ℕ) (l : List ℕ) (p : ℕ) → p ≡ place_in x l → p ≤ length l
 unfolding place_in
 place-within x [] p e = omega arith
 place-within x (y ∷ l) zero e = omega arith
@@ -118,63 +120,81 @@ inserted_new x n p a₀ a h size e d long low high =
 abbrev sorted : List ℕ → List ℕ
 sorted l = foldr insert [] (keep (ltb 0) l)
 
-pub record Presenting (n : ℕ) (ids table : List ℕ) (m i : ℕ) : Type 0 where
+-- rest holds the ids that are still to come, the last of them first
+pub record Presenting (n : ℕ) (ids table : List ℕ) (m : ℕ) (rest : List ℕ) : Type 0 where
   pub whole : n ≤ DETECTIONS
   pub size : length ids ≡ DETECTIONS
-  pub within : i ≤ n
-  pub few : m ≤ n - i
-  pub begins : Begins (sorted (segment i n ids)) m table
+  pub within : length rest ≤ n
+  pub left : rest ≡ take (length rest) ids
+  pub few : m ≤ n - length rest
+  pub begins : Begins (sorted (segment (length rest) n ids)) m table
 
 module _ (n : ℕ) (ids : List ℕ) where
-  pub presenting_start : (table : List ℕ) → n ≤ DETECTIONS → length ids ≡ DETECTIONS → length table ≡ DETECTIONS → Presenting n ids table 0 n
+  pub presenting_start : {table rest : List ℕ} → n ≤ DETECTIONS → length ids ≡ DETECTIONS → length table ≡ DETECTIONS → rest ≡ take n ids → Presenting n ids table 0 rest
   unfolding keep
-  presenting_start table h e f =
+  presenting_start {table} {rest} h e f q =
+      let l : length rest ≡ n = ap length q ∙ length-take-le n ids (omega arith) in
       record {
         whole = h;
         size = e;
         within = omega arith;
+        left = q ∙ sym (ap (λ (k : ℕ). take k ids) l);
         few = omega arith;
-        begins = record { within = omega arith; long = f; is = sym (ap sorted (segment_none n n ids (omega arith))) };
+        begins = record { within = omega arith; long = f; is = sym (ap sorted (segment_none (length rest) n ids (omega arith))) };
       }
 
-  next : {table : List ℕ} {m i : ℕ} → Presenting n ids table m i → 0 < i → segment (i - 1) n ids ≡ get_or ids (i - 1) 0 ∷ segment i n ids
-  next {table} {m} {i} o h =
-      let e : suc (i - 1) ≡ i = omega arith in
-      segment-cons (i - 1) n ids 0 (omega (arith, o.within)) (omega (arith, o.whole, o.size)) ∙ ap (λ (k : ℕ). get_or ids (i - 1) 0 ∷ segment k n ids) e
+  module _ (less : List ℕ) (x : ℕ) {table : List ℕ} {m : ℕ} {rest : List ℕ} (o : Presenting n ids table m rest) (e : rest ≡ push less x) where
+    one-less : length rest ≡ length less + 1
+    one-less = ap length e ∙ length_push less x
 
-  pub presenting_some : {table r : List ℕ} {m k i : ℕ} → Presenting n ids table m i → 0 < i → 0 < get_or ids (i - 1) 0 →
-      Begins (insert (get_or ids (i - 1) 0) (take m table)) k r → Presenting n ids r k (i - 1)
-  unfolding keep
-  presenting_some {table} {r} {m} {k} {i} o h g b =
-      let x = get_or ids (i - 1) 0 in
-      let lk : length (take k r) ≡ k = length-take-le k r (omega (arith, b.within, b.long)) in
-      let lm : length (take m table) ≡ m = length-take-le m table (omega (arith, o.begins.within, o.begins.long)) in
-      let s : insert x (take m table) ≡ sorted (segment (i - 1) n ids) =
-      ap (insert x) o.begins.is ∙ sym (ap sorted (next o h) ∙ ap (λ (t : Bool). foldr insert [] (cons_if t x (keep (ltb 0) (segment i n ids)))) (lt-ltb 0 x g)) in
-      record {
-        whole = o.whole;
-        size = o.size;
-        within = omega (arith, o.within);
-        few = omega (arith, insert-length x (take m table), ap length b.is, o.few, o.within);
-        begins = record { within = b.within; long = b.long; is = b.is ∙ s };
-      }
+    pub presenting_more : m < DETECTIONS
+    presenting_more = omega (arith, o.few, o.whole, o.within, one-less)
 
-  pub presenting_none : {table : List ℕ} {m i : ℕ} → Presenting n ids table m i → 0 < i → get_or ids (i - 1) 0 ≤ 0 → Presenting n ids table m (i - 1)
-  unfolding keep
-  presenting_none {table} {m} {i} o h g =
-      let x = get_or ids (i - 1) 0 in
-      let s : sorted (segment i n ids) ≡ sorted (segment (i - 1) n ids) =
-      sym (ap sorted (next o h) ∙ ap (λ (t : Bool). foldr insert [] (cons_if t x (keep (ltb 0) (segment i n ids)))) (le-ltb 0 x g)) in
-      record {
-        whole = o.whole;
-        size = o.size;
-        within = omega (arith, o.within);
-        few = omega (arith, o.few, o.within);
-        begins = record { within = o.begins.within; long = o.begins.long; is = o.begins.is ∙ s };
-      }
+    left-less : less ≡ take (length less) ids
+    left-less = sym (take_at less (x ∷ []) (length less) refl) ∙ ap (take (length less)) (sym e ∙ o.left) ∙ take-take (length less) (length rest) ids (omega (arith, one-less))
 
-  pub presenting_end : {table : List ℕ} {m i : ℕ} → Presenting n ids table m i → i ≤ 0 → Begins (present_in n ids) m table
+    stands : get_or ids (length less) 0 ≡ x
+    stands =
+        sym (get_or-take (length rest) ids (length less) 0 (omega (arith, one-less)))
+        ∙ ap (λ (l : List ℕ). get_or l (length less) 0) (sym o.left ∙ e)
+        ∙ get_or_push less x 0 (length less) refl
+
+    next : segment (length less) n ids ≡ x ∷ segment (length rest) n ids
+    next =
+        segment-cons (length less) n ids 0 (omega (arith, o.within, one-less)) (omega (arith, o.whole, o.size))
+        ∙ (λ i. stands i ∷ segment ((let q : suc (length less) ≡ length rest = omega (arith, one-less) in q) i) n ids)
+
+    pub presenting_some : {r : List ℕ} {k : ℕ} → 0 < x → Begins (insert x (take m table)) k r → Presenting n ids r k less
+    unfolding keep
+    presenting_some {r} {k} g b =
+        let lk : length (take k r) ≡ k = length-take-le k r (omega (arith, b.within, b.long)) in
+        let lm : length (take m table) ≡ m = length-take-le m table (omega (arith, o.begins.within, o.begins.long)) in
+        let s : insert x (take m table) ≡ sorted (segment (length less) n ids) =
+        ap (insert x) o.begins.is ∙ sym (ap sorted next ∙ ap (λ (t : Bool). foldr insert [] (cons_if t x (keep (ltb 0) (segment (length rest) n ids)))) (lt-ltb 0 x g)) in
+        record {
+          whole = o.whole;
+          size = o.size;
+          within = omega (arith, o.within, one-less);
+          left = left-less;
+          few = omega (arith, insert-length x (take m table), ap length b.is, o.few, o.within, one-less);
+          begins = record { within = b.within; long = b.long; is = b.is ∙ s };
+        }
+
+    pub presenting_none : x ≤ 0 → Presenting n ids table m less
+    unfolding keep
+    presenting_none g =
+        let s : sorted (segment (length rest) n ids) ≡ sorted (segment (length less) n ids) =
+        sym (ap sorted next ∙ ap (λ (t : Bool). foldr insert [] (cons_if t x (keep (ltb 0) (segment (length rest) n ids)))) (le-ltb 0 x g)) in
+        record {
+          whole = o.whole;
+          size = o.size;
+          within = omega (arith, o.within, one-less);
+          left = left-less;
+          few = omega (arith, o.few, o.within, one-less);
+          begins = record { within = o.begins.within; long = o.begins.long; is = o.begins.is ∙ s };
+        }
+
+  pub presenting_end : {table rest : List ℕ} {m : ℕ} → Presenting n ids table m rest → length rest ≡ 0 → Begins (present_in n ids) m table
   unfolding present_in
-  presenting_end {table} {m} {i} o h =
-      let e : i ≡ 0 = omega arith in
+  presenting_end o e =
       record { within = o.begins.within; long = o.begins.long; is = o.begins.is ∙ ap (λ (k : ℕ). sorted (segment k n ids)) e ∙ ap sorted (segment_cut 0 n ids) }

@@ -1,5 +1,6 @@
 pub mod Segments
 pub mod Filled
+pub mod Made
 pub mod Ascending
 pub mod RowSlots
 pub mod RowEnds

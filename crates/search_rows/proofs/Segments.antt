@@ -1,12 +1,12 @@
 -- Parts of a list, and a part of a list changed. Assumes nothing.
 use mathlib.Core.Path.{◌≡◌, refl, sym, ap, ◌∙◌}
-use mathlib.Core.List.{List, [], ◌∷◌, ◌++◌, map, append_assoc}
+use mathlib.Core.List.{List, [], ◌∷◌, ◌++◌, map, append_assoc, append-nil}
 use Prim.Native.Nat.{ℕ, zero, suc, ◌+◌, ◌-◌, ◌≤◌, ◌<◌}
 use native.Mathlib.Numerals.{add-one}
 use native.Mathlib.Omega.{arith}
-use lib.ListN.{length, get_or, take, drop, set, length-append, length-drop, length-map, take-append-drop}
+use lib.ListN.{length, get_or, take, drop, set, length-append, length-drop, length-map, drop_of_length-le}
 use native.Mathlib.Nat.{sub-zero, zero-sub, suc-sub-suc}
-use lib.Seq.{length-take-le, take-nil, take-suc, take_at, take-take, take-append-le, drop-cons, drop_at, drop-drop, get_or-drop, set_at, append_snoc, get_or_at, set-get_or}
+use lib.Seq.{take_all, length-take-le, take-nil, take-suc, take_at, take-take, take-append-le, drop-cons, drop_at, drop-drop, get_or-drop, set_at, append_snoc, get_or_at}
 use Rattle.fgo_spec.specs.Lists.{segment}
 use Rattle.search_rows.specs.Moves.{map_over}
 
@@ -78,8 +78,15 @@ map_snoc : (f : ℕ → ℕ) (l : List ℕ) (x : ℕ) → map f (l ++ (x ∷ [])
 map_snoc f [] x = refl
 map_snoc f (y ∷ l) x = ap (λ (r : List ℕ). f y ∷ r) (map_snoc f l x)
 
-pub over_none : (f : ℕ → ℕ) (a : ℕ) (l : List ℕ) → map_over f a a l ≡ l
-over_none f a l = rw (segment_none a a l (omega arith)) (take-append-drop a l)
+-- all of them
+pub over_all : (f : ℕ → ℕ) (i : ℕ) (l : List ℕ) → length l ≤ i → map_over f 0 i l ≡ map f l
+over_all f i l h = rw (sub-zero i, take_all i l h, drop_of_length-le l {i = i} h) (append-nil (map f l))
+
+-- a part changed as a list of its own
+pub over_part : (f : ℕ → ℕ) (a b : ℕ) (l : List ℕ) → a ≤ b → take a l ++ (map f (segment a b l) ++ drop (b - a) (drop a l)) ≡ map_over f a b l
+over_part f a b l h =
+    let e : a + (b - a) ≡ b = omega arith in
+    ap (λ (r : List ℕ). take a l ++ (map f (segment a b l) ++ r)) (drop-drop (b - a) a l ∙ ap (λ (n : ℕ). drop n l) e)
 
 module _ (f : ℕ → ℕ) (a i : ℕ) (l : List ℕ) (from : a ≤ i) (within : i < length l) where
   abbrev front : List ℕ
@@ -107,10 +114,7 @@ module _ (f : ℕ → ℕ) (a i : ℕ) (l : List ℕ) (from : a ≤ i) (within :
       ∙ append_assoc (take a l) (map f (segment a (i + 1) l)) rest
       ∙ ap (λ (n : ℕ). take a l ++ (map f (segment a (i + 1) l) ++ drop n l)) (sym (add-one i))
 
-  -- one turn of a loop that changes entry after entry: it writes, or finds nothing to change
+  -- one turn of a loop that changes entry after entry
   pub over_turn : (r : List ℕ) (v : ℕ) → r ≡ map_over f a i l → v ≡ f (get_or r i 0) → set r i v ≡ map_over f a (i + 1) l
   over_turn r v e q =
       ap (λ (s : List ℕ). set s i v) e ∙ ap (set (map_over f a i l) i) (q ∙ ap f (ap (λ (s : List ℕ). get_or s i 0) e ∙ over-old)) ∙ over-more
-
-  pub over_skip : (r : List ℕ) → r ≡ map_over f a i l → get_or r i 0 ≡ f (get_or r i 0) → r ≡ map_over f a (i + 1) l
-  over_skip r e q = sym (set-get_or r i 0) ∙ over_turn r (get_or r i 0) e q

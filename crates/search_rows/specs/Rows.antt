@@ -1,9 +1,10 @@
 -- The detections of the held windows, gathered: their ids in one list, scan by scan, and where each scan's begin. Definitions only.
-use Rattle.std.specs.Prelude.{ℕ, suc, ◌+◌, ◌*◌, ◌≤◌, ◌<◌, ◌≡◌, cond, length, get_or, take, eqb, ltb}
-use mathlib.Core.List.{List, [], ◌∷◌, ◌++◌, map, foldr}
-use Rattle.bounds.specs.Bounds.{DETECTIONS, ROW, ROWS, SCANS, STARTS}
-use Rattle.fgo_spec.specs.Lists.{keep, up_from, insert, segment}
+use Rattle.std.specs.Prelude.{ℕ, suc, ◌≤◌, ◌<◌, ◌≡◌, cond, length, get_or, take, eqb, ltb}
+use mathlib.Core.List.{List, [], ◌∷◌, map, foldr}
+use Rattle.bounds.specs.Bounds.{DETECTIONS, SCANS, STARTS}
+use Rattle.fgo_spec.specs.Lists.{keep, up_from, insert}
 use Rattle.fgo_spec.specs.Gathered.{column_at}
+use Rattle.search_rows.specs.declared.rows.Row.{Row}
 
 -- where the scans begin, one after the other, and where the last one ends: DETECTIONS at most
 pub record Starts (starts : List ℕ) : Type 0 where
@@ -39,17 +40,17 @@ end_from k e [] = e
 end_from k e (x ∷ r) = end_from (suc k) (cond (ltb 0 x) (suc k) e) r
 
 -- a row with its first scan and its end
-abbrev pub entry_of : List ℕ → List ℕ
-entry_of r = r ++ (first_in r ∷ end_from 0 0 r ∷ [])
+abbrev pub entry_of : List ℕ → Row
+entry_of r = record { slots = r; first = first_in r; end = end_from 0 0 r }
 
--- entry i of a table: a row with its first scan and its end
-abbrev pub entry_at : List ℕ → ℕ → List ℕ
-entry_at rows i = segment (ROW * i) (ROW * i + ROW) rows
+-- what stands past the end of a table of rows
+abbrev pub no_row : Row
+no_row = record { slots = []; first = 0; end = 0 }
 
--- the first n entries are the rows of the first n ids of a table
-pub record Tabled (starts ids table : List ℕ) (n : ℕ) (rows : List ℕ) : Type 0 where
-  pub long : length rows ≡ ROWS
-  pub each : (i : ℕ) → i < n → entry_at rows i ≡ entry_of (row_of starts ids (get_or table i 0))
+-- the first n of the rows of a table are those of its first n ids
+pub record Tabled (starts ids table : List ℕ) (n : ℕ) (rows : List Row) : Type 0 where
+  pub long : length rows ≡ DETECTIONS
+  pub each : (i : ℕ) → i < n → get_or rows i no_row ≡ entry_of (row_of starts ids (get_or table i 0))
 
 -- an array begins with a list
 pub record Begins (l : List ℕ) (n : ℕ) (array : List ℕ) : Type 0 where

@@ -1,5 +1,5 @@
 // What a move does to the gathered ids, and what it counts.
-ghost use Rattle.std.specs.Prelude.{◌≡◌, ◌+◌, ◌^◌, ◌≤◌, ◌<◌, cond, leb, ℕ, length, Float};
+ghost use Rattle.std.specs.Prelude.{◌≡◌, ◌+◌, ◌^◌, ◌≤◌, ◌<◌, cond, leb, ℕ, Float};
 ghost use Rattle.bounds.specs.Bounds.{DETECTIONS, SCANS};
 ghost use Rattle.fgo_spec.specs.Searching.{best_gain, better, pair_gain, track_gain};
 ghost use Rattle.search_rows.specs.Rows.{Starts};
@@ -17,10 +17,7 @@ const FULL: u64 = 0x8000_0000_0000_0000;
 fn one_more(n: u64) -> u64
     ensures { result ≡ one_more n }
 {
-    if n < FULL {
-        return n + 1;
-    }
-    n
+    if n < FULL { n + 1 } else { n }
 }
 
 // A candidate for the best move: what it gains, below 0 where it lowers the costs, and what is counted once it is made.
@@ -54,26 +51,17 @@ impl Candidate for PairMove {
 
     fn gain(self) -> f64 {
         match self {
-            PairMove::Swap { cut: _, gain } => gain,
-            PairMove::Merge {
-                keeper: _,
-                own: _,
-                gain,
-            } => gain,
+            PairMove::Swap { gain, .. } | PairMove::Merge { gain, .. } => gain,
         }
     }
 
     fn counters(self, k: FgoCounters) -> FgoCounters {
         match self {
-            PairMove::Swap { cut: _, gain: _ } => FgoCounters {
+            PairMove::Swap { .. } => FgoCounters {
                 swaps: one_more(k.swaps),
                 ..k
             },
-            PairMove::Merge {
-                keeper: _,
-                own: _,
-                gain: _,
-            } => FgoCounters {
+            PairMove::Merge { .. } => FgoCounters {
                 merges: one_more(k.merges),
                 ..k
             },
@@ -94,18 +82,17 @@ impl Candidate for TrackMove {
 
     fn gain(self) -> f64 {
         match self {
-            TrackMove::Split { cut: _, gain } => gain,
-            TrackMove::Drop { scan: _, gain } => gain,
+            TrackMove::Split { gain, .. } | TrackMove::Drop { gain, .. } => gain,
         }
     }
 
     fn counters(self, k: FgoCounters) -> FgoCounters {
         match self {
-            TrackMove::Split { cut: _, gain: _ } => FgoCounters {
+            TrackMove::Split { .. } => FgoCounters {
                 splits: one_more(k.splits),
                 ..k
             },
-            TrackMove::Drop { scan: _, gain: _ } => FgoCounters {
+            TrackMove::Drop { .. } => FgoCounters {
                 drops: one_more(k.drops),
                 ..k
             },
@@ -115,8 +102,8 @@ impl Candidate for TrackMove {
     // The tail of a split takes an id.
     fn next_id(self, n: RefinedId) -> RefinedId {
         match self {
-            TrackMove::Split { cut: _, gain: _ } => RefinedId(one_more(n.0)),
-            TrackMove::Drop { scan: _, gain: _ } => n,
+            TrackMove::Split { .. } => RefinedId(one_more(n.0)),
+            TrackMove::Drop { .. } => n,
         }
     }
 }
@@ -125,10 +112,7 @@ impl Candidate for TrackMove {
 fn best_gain<M: Candidate>(best: Option<M>) -> f64
     ensures { result ≡ best_gain M.gain_of best }
 {
-    match best {
-        Some(m) => m.gain(),
-        None => 0.0,
-    }
+    best.map_or(0.0, |m| m.gain())
 }
 
 // The best so far or a candidate, which wins only if its gain is below the best by more than 1e-9.
@@ -143,6 +127,7 @@ pub fn better<M: Candidate>(best: Option<M>, m: M) -> Option<M>
 }
 
 // What becomes of two ids in one scan; 0 is clutter.
+// As it is: the published id columns hold 0 for clutter, and an id is written into them as it stands here.
 #[derive(Clone, Copy)]
 pub struct Targets {
     pub a: RefinedId,
@@ -168,15 +153,14 @@ fn rename_scan(
     t: Targets,
     ids: &mut [u64; DETECTIONS],
 )
-    requires { (from ≤ to) × (to ≤ DETECTIONS) × (length ids.old ≡ DETECTIONS) }
+    requires { (from ≤ to) × (to ≤ DETECTIONS) }
     ensures { ids.new ≡ map_over (retarget a.0 b.0 t) from to ids.old }
 {
-    for i in from..to {
-        let x = ids[i];
-        if x == a.0 {
-            ids[i] = t.a.0;
-        } else if x == b.0 {
-            ids[i] = t.b.0;
+    for x in &mut ids[from..to] {
+        if *x == a.0 {
+            *x = t.a.0;
+        } else if *x == b.0 {
+            *x = t.b.0;
         }
     }
 }
@@ -185,20 +169,14 @@ fn rename_scan(
 fn keeper_target(own: bool, other: bool, k: RefinedId) -> RefinedId
     ensures { result.0 ≡ keeper_target own other k.0 }
 {
-    if own {
-        return k;
-    }
-    if other { RefinedId(0) } else { k }
+    if own || !other { k } else { RefinedId(0) }
 }
 
 // What becomes of the other in a scan of a merge; the keeper has a detection there or not.
 fn other_target(own: bool, keeper: bool, k: RefinedId) -> RefinedId
     ensures { result.0 ≡ other_target own keeper k.0 }
 {
-    if own {
-        return if keeper { RefinedId(0) } else { k };
-    }
-    k
+    if own && keeper { RefinedId(0) } else { k }
 }
 
 // What becomes of two ids in the scan n, if they are exchanged from a cut on.
@@ -206,9 +184,10 @@ fn exchanged(cut: ScanIndex, n: ScanIndex, a: RefinedId, b: RefinedId) -> Target
     ensures { result ≡ cond (leb cut.0 n.0) (become b.0 a.0) (become a.0 b.0) }
 {
     if cut <= n {
-        return Targets { a: b, b: a };
+        Targets { a: b, b: a }
+    } else {
+        Targets { a, b }
     }
-    Targets { a, b }
 }
 
 // A move, by what becomes of two ids in each scan.
@@ -238,21 +217,18 @@ impl Targeting for PairWithRows<'_> {
         let ha = 0 < self.ra[k];
         let hb = 0 < self.rb[k];
         match self.m {
-            PairMove::Swap { cut, gain: _ } => exchanged(cut, n, a, b),
-            PairMove::Merge {
-                keeper,
-                own,
-                gain: _,
-            } => {
+            PairMove::Swap { cut, .. } => exchanged(cut, n, a, b),
+            PairMove::Merge { keeper, own, .. } => {
                 if a == keeper {
-                    return Targets {
+                    Targets {
                         a: keeper_target(own, hb, a),
                         b: other_target(own, ha, a),
-                    };
-                }
-                Targets {
-                    a: other_target(own, hb, b),
-                    b: keeper_target(own, ha, b),
+                    }
+                } else {
+                    Targets {
+                        a: other_target(own, hb, b),
+                        b: keeper_target(own, ha, b),
+                    }
                 }
             }
         }
@@ -265,13 +241,11 @@ impl Targeting for TrackMove {
 
     fn targets(&self, a: RefinedId, b: RefinedId, k: usize, n: ScanIndex) -> Targets {
         match *self {
-            TrackMove::Split { cut, gain: _ } => exchanged(cut, n, a, b),
-            TrackMove::Drop { scan, gain: _ } => {
-                if scan == n {
-                    return Targets { a: RefinedId(0), b };
-                }
-                Targets { a, b }
-            }
+            TrackMove::Split { cut, .. } => exchanged(cut, n, a, b),
+            TrackMove::Drop { scan, .. } => Targets {
+                a: if scan == n { RefinedId(0) } else { a },
+                b,
+            },
         }
     }
 }

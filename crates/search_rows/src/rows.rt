@@ -1,24 +1,27 @@
 // Rows: for each scan one more than the place of a track's detection among those gathered, 0 where it has none.
-ghost use Rattle.std.specs.Prelude.{◌≡◌, ◌++◌, ℕ, ◌+◌, ◌*◌, ◌^◌, ◌≤◌, ◌<◌, length, get_or, take, drop};
-ghost use Rattle.bounds.specs.Bounds.{DETECTIONS, ROW, ROWS, SCANS};
+ghost use Rattle.std.specs.Prelude.{◌≡◌, ℕ, ◌+◌, ◌^◌, ◌≤◌, ◌<◌, get_or, take, drop, length};
+ghost use Rattle.bounds.specs.Bounds.{DETECTIONS, SCANS};
 ghost use Rattle.fgo_spec.specs.Lists.{insert as inserted, segment, place_in};
 ghost use Rattle.search_rows.specs.Rows.{Starts, slot_in, row_of, present_in, first_in, end_from, entry_of, Tabled, Begins};
 
-use bounds::{DETECTIONS, ROW, ROWS, SCANS, STARTS};
+use bounds::{DETECTIONS, SCANS, STARTS};
 use engine::types::RefinedId;
+use std::array::from_fn;
 
-// The first place whose id is not below x.
-fn place_of(x: RefinedId, n: usize, l: &[u64; DETECTIONS]) -> usize
-    requires { (n ≤ DETECTIONS) × (length l.now ≡ DETECTIONS) }
-    ensures { result ≡ place_in x.0 (take n l.now) }
+// The first place, from one on, whose id is not below x; the table's length where there is none.
+pub fn place_from(x: RefinedId, from: usize, table: &[u64]) -> usize
+    requires { from ≤ length table.now }
+    ensures { result ≡ from + place_in x.0 (drop from table.now) }
 {
-    l[..n].iter().position(|y| x.0 <= *y).unwrap_or(n)
+    table[from..]
+        .iter()
+        .position(|y| x.0 <= *y)
+        .map_or(table.len(), |k| from + k)
 }
 
 // The ids from p on move up by one place.
 fn move_up(p: usize, n: usize, l: &mut [u64; DETECTIONS])
-    requires { (p ≤ n) × (n < DETECTIONS) × (length l.old ≡ DETECTIONS) }
-    ensures long { length l.new ≡ DETECTIONS }
+    requires { (p ≤ n) × (n < DETECTIONS) }
     ensures before_stays { take p l.new ≡ take p l.old }
     ensures moved_up { segment (p + 1) (n + 1) l.new ≡ segment p n l.old }
 {
@@ -27,14 +30,12 @@ fn move_up(p: usize, n: usize, l: &mut [u64; DETECTIONS])
 
 // An id added to the first n of an ascending table, once.
 fn insert(x: RefinedId, n: usize, l: &mut [u64; DETECTIONS]) -> usize
-    requires { (n < DETECTIONS) × (length l.old ≡ DETECTIONS) }
+    requires { n < DETECTIONS }
     ensures { Begins (inserted x.0 (take n l.old)) result l.new }
 {
-    let p = place_of(x, n, l);
-    if p < n {
-        if l[p] == x.0 {
-            return n;
-        }
+    let p = place_from(x, 0, &l[..n]);
+    if p < n && l[p] == x.0 {
+        return n;
     }
     move_up(p, n, l);
     l[p] = x.0;
@@ -42,15 +43,16 @@ fn insert(x: RefinedId, n: usize, l: &mut [u64; DETECTIONS]) -> usize
 }
 
 // The ids that have a window, ascending, at the start of the table: of the first n, DETECTIONS at most.
+// As it is: here and in `fill_rows` a count stands beside a list of ids. The scene has that of the ids gathered and a pass that of its table, so a struct of
+// ids with their count would be made at each call of what these keep; and of a slice the room for its ids or rows would be asked in the same words.
 pub fn present(n: usize, ids: &[u64; DETECTIONS], table: &mut [u64; DETECTIONS]) -> usize
-    requires { (n ≤ DETECTIONS) × (length ids.now ≡ DETECTIONS) × (length table.old ≡ DETECTIONS) }
+    requires { n ≤ DETECTIONS }
     ensures { Begins (present_in n ids.now) result table.new }
 {
     let mut m: usize = 0;
-    for i in (0..n).rev() {
-        let x = ids[i];
-        if 0 < x {
-            m = insert(RefinedId(x), m, table);
+    for x in ids[..n].iter().rev() {
+        if 0 < *x {
+            m = insert(RefinedId(*x), m, table);
         }
     }
     m
@@ -58,79 +60,74 @@ pub fn present(n: usize, ids: &[u64; DETECTIONS], table: &mut [u64; DETECTIONS])
 
 // One more than the first place of x from a up to b, 0 where there is none.
 fn slot_in(x: RefinedId, a: usize, b: usize, ids: &[u64; DETECTIONS]) -> usize
-    requires { (a ≤ b) × (b ≤ DETECTIONS) × (length ids.now ≡ DETECTIONS) }
+    requires { (a ≤ b) × (b ≤ DETECTIONS) }
     ensures { result ≡ slot_in x.0 a (segment a b ids.now) }
 {
-    match ids[a..b].iter().position(|y| x.0 == *y) {
-        Some(i) => a + i + 1,
-        None => 0,
-    }
+    ids[a..b]
+        .iter()
+        .position(|y| x.0 == *y)
+        .map_or(0, |i| a + i + 1)
 }
 
 // The row of x. It asks for starts that rise to DETECTIONS at most.
-pub fn fill_row<'a>(
-    x: RefinedId,
-    starts: &'a [usize; STARTS],
-    ids: &'a [u64; DETECTIONS],
-    row: &mut [usize; SCANS],
-)
-    requires { Starts starts.now × (length ids.now ≡ DETECTIONS) × (length row.old ≡ SCANS) }
-    ensures { row.new ≡ row_of starts.now ids.now x.0 }
+pub fn row_of(x: RefinedId, starts: &[usize; STARTS], ids: &[u64; DETECTIONS]) -> [usize; SCANS]
+    requires { Starts starts.now }
+    ensures { result ≡ row_of starts.now ids.now x.0 }
 {
-    for k in 0..SCANS {
-        row[k] = slot_in(x, starts[k], starts[k + 1], ids);
-    }
+    from_fn(|k| slot_in(x, starts[k], starts[k + 1], ids))
 }
 
 // The first scan in which the row has a detection, SCANS where there is none.
 fn first_in(row: &[usize; SCANS]) -> usize
-    requires { length row.now ≡ SCANS }
     ensures { result ≡ first_in row.now }
 {
     row.iter().position(|x| 0 < *x).unwrap_or(SCANS)
 }
 
-// One more than the last scan in which the row has a detection, 0 where there is none. It asks for a whole row.
+// One more than the last scan in which the row has a detection, 0 where there is none.
 pub fn end_of(row: &[usize; SCANS]) -> usize
-    requires { length row.now ≡ SCANS }
     ensures { result ≡ end_from 0 0 row.now }
 {
-    for k in (0..SCANS).rev() {
-        if 0 < row[k] {
-            return k + 1;
+    row.iter().rposition(|x| 0 < *x).map_or(0, |k| k + 1)
+}
+
+// A row with its first scan and its end, all as bytes.
+// As it is: an entry is DETECTIONS at most and a scan SCANS, so each fits a byte; as words the table of all rows, whose rows are compared pair by pair,
+// would be eight times as large.
+#[derive(Clone, Copy)]
+pub struct Row {
+    pub slots: [u8; SCANS],
+    pub first: u8,
+    pub end: u8,
+}
+
+impl Row {
+    // It asks for a row whose entries fit a byte.
+    fn new(row: &[usize; SCANS]) -> Row
+        requires { (k : ℕ) → k < SCANS → get_or row.now k 0 < 2 ^ 8 }
+        ensures { result ≡ entry_of row.now }
+    {
+        Row {
+            slots: from_fn(|k| row[k] as u8),
+            first: first_in(row) as u8,
+            end: end_of(row) as u8,
         }
     }
-    0
 }
 
-// A row, its first scan and its end, as entry i of the table. It asks for a row whose entries fit a byte.
-// As it is: bytes at a stride, of which an entry is one slice; that it is a struct of bytes was not tried.
-fn put_entry(i: usize, row: &[usize; SCANS], rows: &mut [u8; ROWS])
-    requires { (i < DETECTIONS) × (length row.now ≡ SCANS) × ((k : ℕ) → k < SCANS → get_or row.now k 0 < 2 ^ 8) × (length rows.old ≡ ROWS) }
-    ensures { rows.new ≡ take (ROW * i) rows.old ++ (entry_of row.now ++ drop (ROW * i + ROW) rows.old) }
-{
-    let at = ROW * i;
-    for k in 0..SCANS {
-        rows[at + k] = row[k] as u8;
-    }
-    rows[at + SCANS] = first_in(row) as u8;
-    rows[at + SCANS + 1] = end_of(row) as u8;
-}
-
-// The rows of the first n ids of a table, DETECTIONS at most. It asks what `fill_row` asks.
-pub fn fill_rows<'a>(
+// The rows of the first n ids of a table, DETECTIONS at most. It asks what `row_of` asks.
+pub fn fill_rows(
     n: usize,
-    table: &'a [u64; DETECTIONS],
-    starts: &'a [usize; STARTS],
-    ids: &'a [u64; DETECTIONS],
-    rows: &mut [u8; ROWS],
+    table: &[u64; DETECTIONS],
+    starts: &[usize; STARTS],
+    ids: &[u64; DETECTIONS],
+    rows: &mut [Row; DETECTIONS],
 )
-    requires { (n ≤ DETECTIONS) × Starts starts.now × (length ids.now ≡ DETECTIONS) × (length table.now ≡ DETECTIONS) × (length rows.old ≡ ROWS) }
+    requires { (n ≤ DETECTIONS) × Starts starts.now }
     ensures { Tabled starts.now ids.now table.now n rows.new }
 {
-    let mut row = [0usize; SCANS];
-    for i in 0..n {
-        fill_row(RefinedId(table[i]), starts, ids, &mut row);
-        put_entry(i, &row, rows);
+    // As it is: of what is written through `rows.iter_mut().zip(&table[..n])` the proof learns nothing.
+    for (i, x) in table[..n].iter().enumerate() {
+        rows[i] = Row::new(&row_of(RefinedId(*x), starts, ids));
     }
 }

@@ -1,5 +1,5 @@
 -- The best move of one row: document 01's candidates, in its order. Definitions only.
-use Rattle.std.specs.Prelude.{ℕ, suc, ◌+◌, ◌<◌, ◌≡◌, Bool, true, cond, length, get_or, take, drop, ltb, Float, Option, None}
+use Rattle.std.specs.Prelude.{ℕ, suc, ◌+◌, ◌<◌, ◌≡◌, true, cond, length, get_or, take, drop, ltb, Float, Option, None}
 use mathlib.Core.List.{List, ◌++◌, map, foldl}
 use Rattle.std.specs.Float.{nan}
 use Rattle.bounds.specs.Bounds.{SCANS}
@@ -53,10 +53,9 @@ best_track_row c v p r base =
 
 -- ---- by the fold over the scans before a detection
 
--- the best so far or the split before scan k; there is none before the first detection
-abbrev pub better_split : FgoConfig → View → Option TrackMove → Bool → Fold → List ℕ → ℕ → Float → Option TrackMove
-better_split c v best seen f r k base =
-    cond seen (better_track best (Split (scan_at v k) (closed c f ⊕ cost c Fresh (measurements v k (drop k r)) ⊖ base))) best
+-- the best so far or the split before scan k
+abbrev pub better_split : FgoConfig → View → Option TrackMove → Fold → List ℕ → ℕ → Float → Option TrackMove
+better_split c v best f r k base = better_track best (Split (scan_at v k) (closed c f ⊕ cost c Fresh (measurements v k (drop k r)) ⊖ base))
 
 -- what the drop of the detection in scan k gains
 abbrev pub drop_gain : FgoConfig → View → Fold → List ℕ → ℕ → Float → Float

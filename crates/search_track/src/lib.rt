@@ -15,22 +15,18 @@ use engine::types::ScanIndex;
 use fgo_spec::moves::TrackMove;
 use search_rows::moves::better;
 
-// The best so far or the split before scan k, by the fold f over the row before it; there is none before the first detection.
+// The best so far or the split before scan k, by the fold f over the row before it.
 fn better_split(
     prices: &Prices<'_>,
     w: &Window<'_>,
     best: Option<TrackMove>,
-    seen: bool,
     f: &Fold,
     k: usize,
     logs: &mut Logs,
 ) -> Option<TrackMove>
     requires { k ≤ SCANS }
-    ensures { result ≡ better_split prices.now.config (view_in prices.now) best seen f.now w.now.row.now k w.now.cost }
+    ensures { result ≡ better_split prices.now.config (view_in prices.now) best f.now w.now.row.now k w.now.cost }
 {
-    if !seen {
-        return best;
-    }
     let tail = cost_row::rest_cost(prices, &Fold::Fresh, w.row, k, w.end, logs);
     let gain = f.close(prices.config) + tail - w.cost;
     let cut = ScanIndex(prices.first.0 + k as u64);
@@ -45,8 +41,10 @@ fn drop_gain(prices: &Prices<'_>, w: &Window<'_>, f: &Fold, k: usize, logs: &mut
     cost_row::rest_cost(prices, f, w.row, k + 1, w.end, logs) + prices.config.clutter_cost - w.cost
 }
 
-// The best split, after the first detection, the second and so on; and for each detection what its drop gains. The fold over the row goes on from one to the
-// next.
+// The best split, after the first detection, the second and so on, so before each detection but the first; and for each detection what its drop gains. The fold
+// over the row goes on from one to the next.
+// As it is: what the drops gain stands beside the row, a number for each scan. As an array of Options it says no more: a scan without a detection has no drop,
+// and `best_drop`, which goes by the same row, reads none of it.
 fn best_split(
     prices: &Prices<'_>,
     w: &Window<'_>,
@@ -64,7 +62,9 @@ fn best_split(
         if 0 < w.row[k] {
             fold = cost_row::fold_to(prices, &fold, w.row, done, k, logs);
             done = k;
-            best = better_split(prices, w, best, seen, &fold, k, logs);
+            if seen {
+                best = better_split(prices, w, best, &fold, k, logs);
+            }
             gains[k] = drop_gain(prices, w, &fold, k, logs);
             seen = true;
         }
@@ -73,6 +73,8 @@ fn best_split(
 }
 
 // The best so far, or the drop of a single detection, by what each gains.
+// As it is: as `filter` and `fold` over the range it was tried, and is as long. The closures are proved, but that the fold is the definition's was not found;
+// the scans from the end of the row on, which the definition goes over too, would want a lemma of their own.
 fn best_drop(
     first: ScanIndex,
     w: &Window<'_>,
@@ -98,28 +100,18 @@ fn best_drop(
     best
 }
 
-// The detections of a row.
+// How many detections a row has.
 fn length_of(row: &[usize; SCANS]) -> usize
     ensures { result ≡ length (marks row.now) }
 {
-    let mut n: usize = 0;
-    for x in row {
-        if 0 < *x {
-            n += 1;
-        }
-    }
-    n
+    row.iter().filter(|x| 0 < **x).count()
 }
 
-// 1 where there is a frozen part.
+// 1 if a window goes on from a frozen part, else 0.
 fn frozen_one(p: Fold) -> usize
     ensures { result ≡ frozen_one p }
 {
-    match p {
-        Fold::Fresh => 0,
-        Fold::Frozen { kf: _, last: _ } => 1,
-        Fold::Going(_) => 1,
-    }
+    usize::from(!matches!(p, Fold::Fresh))
 }
 
 // The best move of a track by its window, or none.

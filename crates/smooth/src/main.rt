@@ -3,8 +3,8 @@
 #![tactic(auto)]
 
 use playback::play;
-use playback::play::Form;
+use playback::smoothed::Smoother;
 
 fn main(rt: HostRuntime) {
-    play::play_input(&rt, Form::Smoothed);
+    play::play_input::<Smoother>(&rt);
 }

@@ -1,5 +1,5 @@
 -- The ways through opening, push and take, each with its promise. Assumes nothing.
-use Prim.Native.Nat.{ℕ, ◌+◌, ◌-◌, ◌≤◌, ◌<◌}
+use Prim.Native.Nat.{ℕ, ◌-◌, ◌≤◌, ◌<◌}
 use mathlib.Core.Path.{◌≡◌, refl, sym, ap, ◌∙◌, subst}
 use mathlib.Core.Bool.{true, false}
 use mathlib.Core.List.{List, [], ◌∷◌, ◌++◌}
@@ -13,13 +13,13 @@ use Rattle.buffers.proofs.Checking.{check_refused}
 use Rattle.smoother_frame.specs.Frame.{well_formed}
 use Rattle.smoother_window.specs.declared.FixedLagSmoother.{FixedLagSmoother}
 use Rattle.smoother_window.specs.Config.{lag, most}
-use Rattle.smoother_window.specs.Window.{held_frame, frames_from, frames_in, all_formed, more, fewer, Fitting, AllCounted, Stored}
+use Rattle.smoother_window.specs.Window.{held_frame, frames_from, frames_in, all_formed, more, fewer, Fitting, Stored}
 use Rattle.smoother_window.proofs.Forms.{frames_long, formed_more, all_counted, one_more_lem}
 use Rattle.smoother_window.proofs.Storing.{released}
 use Rattle.smoother_pass.specs.Pass.{emitted}
 use Rattle.smoother_pass.specs.Oldest.{oldest}
 use Rattle.smoother.specs.Smoother.{State, held, emit_oldest, settle, push, takes, reply}
-use Rattle.smoother.specs.Promise.{Window, state_in, later_refusal, due, Promised, refused_as, Emits, Pushed}
+use Rattle.smoother.specs.Promise.{Window, state_in, later_refusal, due, Promised, refused_as, Ready, Emits, Pushed}
 use Rattle.smoother.proofs.Refusals.{passing}
 
 -- ---- what is due
@@ -102,13 +102,6 @@ module _ (o : Op Written) (s : FixedLagSmoother) (w : Window) (ws : List ℕ) (n
 
 -- ---- a push that stores the frame
 
--- the oldest frame may leave
-pub record Ready (s : FixedLagSmoother) (w : Window) : Type 0 where
-  pub fits : Fitting s w.words w.numbers
-  pub few : s.held ≤ lag s.config + 1
-  pub some : 0 < s.held
-  pub counts : AllCounted s w.words
-
 module _ (s : FixedLagSmoother) (w : Window) (ws : List ℕ) (ns : List Float) (f : Written) (e : later_refusal s w (length ws) (length ns) ≡ 0) (h : well_formed (most s.config) f ≡ true)
     (r : FixedLagSmoother) (w' : Window) (d : Stored s w.words w.numbers f r w'.words w'.numbers) where
   stored-frames : frames_in (more s) w'.words w'.numbers ≡ frames_in s w.words w.numbers ++ (f ∷ [])
@@ -131,7 +124,7 @@ module _ (s : FixedLagSmoother) (w : Window) (ws : List ℕ) (ns : List Float) (
         fits = g;
         few = omega (arith, p.few);
         some = omega arith;
-        counts =
+        counted =
             all_counted (more s) w'.words w'.numbers g
             (subst (λ l. all_formed (most s.config) l ≡ true) (sym stored-frames) (formed_more (most s.config) (frames_in s w.words w.numbers) f p.formed h));
       })

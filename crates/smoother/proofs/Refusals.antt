@@ -1,11 +1,13 @@
 -- What a call may rely on that none of 1 to 4 refuses. Assumes nothing.
 use Prim.Native.Nat.{ℕ, ◌≤◌}
-use mathlib.Core.Path.{◌≡◌, refl}
+use mathlib.Core.Path.{◌≡◌, refl, ap, ◌∙◌}
 use mathlib.Core.Bool.{Bool, true, false, cond, ◌&&◌}
 use mathlib.Core.List.{List}
 use native.Mathlib.Omega.{arith}
 use Rattle.std.specs.declared.option.Option.{Option as Answer}
 use Rattle.std.specs.declared.option.Option.TheVariants.{Some, None}
+use Rattle.std.specs.Option.{ok_or}
+use Rattle.std.specs.Prelude.{Ok, Err}
 use lib.ListN.{length}
 use lib.Dec.{leb}
 use lib.Ieee.{Float}
@@ -33,15 +35,15 @@ fitting s win nums h g =
     let b = both _ _ g in
     record { lags = a.0; tracks = a.1; words = eqb-true _ _ b.0; numbers = eqb-true _ _ b.1 }
 
--- something is answered where b holds
-pub some_when : {A : Type 0} (b : Bool) {f g : A} {r : Answer A} → r ≡ cond b (Some f) None → r ≡ Some g → (b ≡ true) × (g ≡ f)
-some_when true p q = (refl, cc)
-some_when false p q = (cc, cc)
+-- something is there where b holds, and it is asked for: where it is had, b holds
+pub had_when : {A E : Type 0} (b : Bool) (e : E) {f g : A} {r : Answer A} → r ≡ cond b (Some f) None → Ok g ≡ ok_or r e → (b ≡ true) × (g ≡ f)
+had_when true e {f} {g} p q = let z : Ok g ≡ ok_or (Some f) e = q ∙ ap (λ r. ok_or r e) p in (refl, cc)
+had_when false e {f} {g} p q = let z : Ok g ≡ ok_or None e = q ∙ ap (λ r. ok_or r e) p in absurd cc
 
--- and nothing where it does not
-pub none_when : {A : Type 0} (b : Bool) (f : A) {r : Answer A} → r ≡ cond b (Some f) None → r ≡ None → b ≡ false
-none_when true f p q = cc
-none_when false f p q = refl
+-- and where it is lacking, b does not
+pub lacking_when : {A E : Type 0} (b : Bool) (f : A) {e d : E} {r : Answer A} → r ≡ cond b (Some f) None → Err d ≡ ok_or r e → (b ≡ false) × (d ≡ e)
+lacking_when true f {e} {d} p q = let z : Err d ≡ ok_or (Some f) e = q ∙ ap (λ r. ok_or r e) p in absurd cc
+lacking_when false f {e} {d} p q = let z : Err d ≡ ok_or None e = q ∙ ap (λ r. ok_or r e) p in (refl, cc)
 
 -- none of three conditions in a row refuses
 pub none_of : (p q r : Bool) → ◌≡◌ {A = ℕ} (cond p (cond q (cond r 0 4) 3) 2) 0 → (p ≡ true) × (q ≡ true) × (r ≡ true)

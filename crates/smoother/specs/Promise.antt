@@ -1,5 +1,5 @@
 -- What opening, push and take promise, for any values that a caller hands over. Definitions only.
-use Rattle.std.specs.Prelude.{ℕ, ◌≡◌, cond, ◌&&◌, List, length, Float, Result, Ok, Err, Option as Maybe}
+use Rattle.std.specs.Prelude.{ℕ, ◌≡◌, ◌+◌, ◌<◌, ◌≤◌, cond, ◌&&◌, List, length, take, drop, Float, Result, Ok, Err, Option as Maybe}
 use Rattle.refusals.specs.declared.Refusal.{Refusal}
 use Rattle.refusals.specs.Refusals.{number_of}
 use Rattle.buffers.specs.declared.FrameSize.{FrameSize}
@@ -7,8 +7,9 @@ use Rattle.buffers.specs.Answer.{Opening, opened, unopened, Op, Reply, gives, Wr
 use Rattle.buffers.specs.Answer.{checked, answer_of, Small, Ends, answer_in, Answer, Refused, Frame}
 use Rattle.buffers.specs.Buffers.{over}
 use Rattle.smoother_window.specs.declared.FixedLagSmoother.{FixedLagSmoother}
-use Rattle.smoother_window.specs.Config.{bounded}
-use Rattle.smoother_window.specs.Window.{frames_in, fewer}
+use Rattle.smoother_window.specs.declared.size.WindowSize.{WindowSize}
+use Rattle.smoother_window.specs.Config.{lag, bounded}
+use Rattle.smoother_window.specs.Window.{frames_in, fewer, Fitting, AllCounted}
 use Rattle.smoother_pass.specs.Oldest.{oldest}
 use Rattle.smoother.specs.Smoother.{State, window_fits, rule_ok, reply}
 
@@ -20,6 +21,14 @@ pub record Window : Type 0 where
 -- the window of two buffers
 abbrev pub window : List ℕ → List Float → Window
 window win nums = record { words = win; numbers = nums }
+
+-- so much of a window
+abbrev pub lent_of : WindowSize → Window → Window
+lent_of size w = window (take size.words w.words) (take size.numbers w.numbers)
+
+-- the rest of it
+abbrev pub rest_of : WindowSize → Window → Window
+rest_of size w = window (drop size.words w.words) (drop size.numbers w.numbers)
 
 -- what a struct and its window stand for
 unfoldable pub state_in : FixedLagSmoother → Window → State
@@ -43,9 +52,9 @@ pub record Pushed : Type 0 where
 abbrev pub pushed_as : Result (Maybe FrameSize) Refusal → FixedLagSmoother → Pushed
 pushed_as a s = record { answer = answer_in a; state = s }
 
--- a frame that is given, after which the state holds one fewer
+-- a frame that is given, and the state after it
 abbrev pub given_off : FrameSize → FixedLagSmoother → Pushed
-given_off f s = record { answer = Frame f.words f.numbers; state = fewer s }
+given_off f s = record { answer = Frame f.words f.numbers; state = s }
 
 -- push and take, with output buffers of so many words and numbers: 2, 3, 4 in the table's order; 0 for none
 unfoldable pub later_refusal : FixedLagSmoother → Window → ℕ → ℕ → ℕ
@@ -71,6 +80,13 @@ pub record Promised (o : Op Written) (s : FixedLagSmoother) (w : Window) (ws : L
 -- a refusal, which keeps the struct
 abbrev pub refused_as : FixedLagSmoother → ℕ → Pushed
 refused_as s n = record { answer = Refused n; state = s }
+
+-- the oldest frame may leave: one is held, no more than there are slots, and the counts in each slot in use are in bounds
+pub record Ready (s : FixedLagSmoother) (w : Window) : Type 0 where
+  pub fits : Fitting s w.words w.numbers
+  pub few : s.held ≤ lag s.config + 1
+  pub some : 0 < s.held
+  pub counted : AllCounted s w.words
 
 -- after the oldest frame left: it is put over the front of the output buffers, and "The rest stays"
 pub record Emits (s : FixedLagSmoother) (w : Window) (ws : List ℕ) (ns : List Float) (p : Pushed) (ws' : List ℕ) (ns' : List Float) : Type 0 where

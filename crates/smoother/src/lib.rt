@@ -2,18 +2,17 @@
 #![tactic(auto)]
 
 ghost use Rattle.std.specs.Prelude.{◌≡◌, ◌+◌, ◌<◌, ◌≤◌, length};
-ghost use Rattle.bounds.specs.Bounds.{LAG, TRACKS, WORDS, NUMBERS};
+ghost use Rattle.bounds.specs.Bounds.{LAG, TRACKS, WORDS, NUMBERS, WINDOW, VALUES};
 ghost use Rattle.refusals.specs.Refusals.{refused};
 ghost use Rattle.buffers.specs.Answer.{pushed, taken};
 ghost use Rattle.smoother_frame.specs.Frame.{frame as frame_of};
 ghost use Rattle.smoother_window.specs.Config as Config;
 ghost use Rattle.smoother_window.specs.Config.{lag, most};
-ghost use Rattle.smoother_window.specs.Held as Held;
 ghost use Rattle.smoother.specs.Smoother as Smoother;
 ghost use Rattle.smoother.specs.Promise as Promise;
-ghost use Rattle.smoother.specs.Promise.{state_in, opening_of, later_refusal, pushed_as, given_off, Promised, Emits};
+ghost use Rattle.smoother.specs.Promise.{state_in, opening_of, later_refusal, pushed_as, given_off, lent_of, rest_of, Promised, Ready, Emits};
 
-use bounds::{LAG, TRACKS};
+use bounds::{LAG, TRACKS, VALUES, WINDOW};
 use buffers::{Answer, FrameSize};
 use refusals::Refusal;
 use scalar::bits;
@@ -26,14 +25,14 @@ use smoother_window::{FixedLagSmoother, SmootherConfig};
 
 // ---- what is refused
 
-// Lag 0 to 16, C 1 to 128.
+// Whether the lag is from 0 to 16, and C from 1 to 128.
 fn bounded(c: SmootherConfig) -> bool
     ensures { result ≡ Config.bounded c }
 {
-    c.lag_frames <= LAG && 1 <= c.max_tracks && c.max_tracks <= TRACKS
+    c.lag_frames <= LAG && (1..=TRACKS).contains(&c.max_tracks)
 }
 
-// The window buffers have their lengths.
+// Whether the window buffers have the lengths that lag and C ask for.
 fn window_fits(c: SmootherConfig, words: usize, numbers: usize) -> bool
     requires { (lag c ≤ LAG) × (most c ≤ TRACKS) }
     ensures { result ≡ Smoother.window_fits c words numbers }
@@ -41,14 +40,12 @@ fn window_fits(c: SmootherConfig, words: usize, numbers: usize) -> bool
     window_size(c.lag_frames, c.max_tracks) == WindowSize { words, numbers }
 }
 
-// Whether a smoother may be opened: or 1 or 2.
+// Whether a smoother may be opened. Refused are settings out of bounds or not finite (`Setting`), then buffers that are not as long as these settings ask
+// (`Window`).
 fn check_open(c: SmootherConfig, words: usize, numbers: usize) -> Result<(), Refusal>
     ensures { refused result ≡ Smoother.open_refusal c words numbers }
 {
-    if !bounded(c) {
-        return Err(Refusal::Setting);
-    }
-    if !bits::is_finite(c.accel_spectral_density) {
+    if !bounded(c) || !bits::is_finite(c.accel_spectral_density) {
         return Err(Refusal::Setting);
     }
     if !window_fits(c, words, numbers) {
@@ -57,7 +54,7 @@ fn check_open(c: SmootherConfig, words: usize, numbers: usize) -> Result<(), Ref
     Ok(())
 }
 
-// The state keeps its rule: density finite, at most lag frames held, each well formed.
+// Whether the state keeps its rule: density finite, at most lag frames held, each well formed.
 fn rule_ok(window: &Window<'_>) -> bool
     ensures { result ≡ Smoother.rule_ok (state_in window.now.state (Promise.window window.now.words.now window.now.values.now)) }
 {
@@ -66,20 +63,18 @@ fn rule_ok(window: &Window<'_>) -> bool
         && window.all_formed()
 }
 
-// What push and take ask alike: or 2, 3 or 4.
-fn check_call<'a>(
+// What push and take ask alike. Refused are settings out of bounds or a window that is not as long as they ask (`Window`), then a state that breaks its rule
+// (`State`), then output buffers without room for any frame (`Output`).
+fn check_call(
     s: FixedLagSmoother,
-    win: &'a [u64],
-    nums: &'a [f64],
+    win: &[u64],
+    nums: &[f64],
     words: usize,
     numbers: usize,
 ) -> Result<(), Refusal>
     ensures { refused result ≡ later_refusal s (Promise.window win.now nums.now) words numbers }
 {
-    if !bounded(s.config) {
-        return Err(Refusal::Window);
-    }
-    if !window_fits(s.config, win.len(), nums.len()) {
+    if !bounded(s.config) || !window_fits(s.config, win.len(), nums.len()) {
         return Err(Refusal::Window);
     }
     let window = Window {
@@ -98,27 +93,39 @@ fn check_call<'a>(
 
 // ---- the entry points
 
-// The oldest frame held, smoothed, at the front of the output buffers: so many words and numbers.
-fn emit_oldest(held: &HeldFrames<'_>, words: &mut [u64], numbers: &mut [f64]) -> FrameSize
-    requires some { 0 < (Held.state_of held.now).held }
+// The oldest frame held leaves, smoothed, at the front of the output buffers: so many words and numbers.
+fn emit_oldest(
+    s: &mut FixedLagSmoother,
+    window: &[u64],
+    values: &[f64],
+    words: &mut [u64],
+    numbers: &mut [f64],
+) -> FrameSize
+    requires ready { Ready s.old (Promise.window window.now values.now) }
     requires words { WORDS ≤ length words.old }
     requires numbers { NUMBERS ≤ length numbers.old }
-    ensures { Emits (Held.state_of held.now) (Promise.window held.now.window.words.now held.now.window.values.now) words.old numbers.old
-        (given_off result (Held.state_of held.now)) words.new numbers.new }
+    ensures { Emits s.old (Promise.window window.now values.now) words.old numbers.old (given_off result s.new) words.new numbers.new }
 {
-    let n = emit_words(words, &held.frame(0), held.window.state.config);
-    let m = emit_numbers(numbers, held);
-    FrameSize {
-        words: n,
-        numbers: m,
-    }
+    let held = HeldFrames {
+        window: Window {
+            state: *s,
+            words: window,
+            values,
+        },
+    };
+    let size = FrameSize {
+        words: emit_words(words, &held),
+        numbers: emit_numbers(numbers, &held),
+    };
+    s.drop_oldest();
+    size
 }
 
 // A smoother that holds nothing, over these window buffers, into which it writes nothing yet. The density must be the tracker's.
-pub fn open<'a>(
+pub fn open(
     config: SmootherConfig,
-    window: &'a [u64],
-    values: &'a [f64],
+    window: &[u64],
+    values: &[f64],
 ) -> Result<FixedLagSmoother, Refusal>
     ensures { opening_of result (Promise.window window.now values.now) ≡ Smoother.opens config (length window.now) (length values.now) }
 {
@@ -130,46 +137,70 @@ pub fn open<'a>(
     })
 }
 
-// The next frame, as its words and its numbers. When more than lag frames are held, the oldest leaves.
-pub fn push<'a, 'b, 'c, 'd, 'e>(
+// A frame, as its words and its numbers.
+#[derive(Clone, Copy)]
+pub struct FrameRef<'a> {
+    pub words: &'a [u64],
+    pub numbers: &'a [f64],
+}
+
+// The next frame. When more than lag frames are held, the oldest leaves.
+pub fn push(
     s: &mut FixedLagSmoother,
-    window: &'a mut [u64],
-    values: &'b mut [f64],
-    fw: &'c [u64],
-    fx: &'c [f64],
-    words: &'d mut [u64],
-    numbers: &'e mut [f64],
+    window: &mut [u64],
+    values: &mut [f64],
+    frame: &FrameRef<'_>,
+    words: &mut [u64],
+    numbers: &mut [f64],
 ) -> Answer
-    ensures { Promised (pushed (frame_of fw.now fx.now)) s.old (Promise.window window.old values.old) words.old numbers.old
-        (pushed_as result s.new) (Promise.window window.new values.new) words.new numbers.new }
+    ensures { Promised (pushed (frame_of frame.now.words.now frame.now.numbers.now)) s.old (Promise.window window.old values.old)
+        words.old numbers.old (pushed_as result s.new) (Promise.window window.new values.new) words.new numbers.new }
 {
     check_call(*s, window, values, words.len(), numbers.len())?;
-    let Some(frame) = Frame::well_formed(s.config.max_tracks, fw, fx) else {
-        return Err(Refusal::Frame);
-    };
+    let formed = Frame::well_formed(s.config.max_tracks, frame.words, frame.numbers);
+    let frame = formed.ok_or(Refusal::Frame)?;
     s.store(window, values, &frame);
     if s.held <= s.config.lag_frames {
         return Ok(None);
     }
-    let held = HeldFrames {
-        window: Window {
-            state: *s,
-            words: window,
-            values,
-        },
-    };
-    let size = emit_oldest(&held, words, numbers);
-    s.drop_oldest();
-    Ok(Some(size))
+    Ok(Some(emit_oldest(s, window, values, words, numbers)))
+}
+
+// The next frame, over so much of the longest window; the rest of it stays.
+// As it is: a function of its own, to which a caller lends both arrays of its struct whole. It was tried to cut them where `push` is called, and the proof did
+// not close: of two fields of a struct of which parts are lent in one call, the check does not know what the call leaves there.
+pub fn push_over(
+    s: &mut FixedLagSmoother,
+    size: WindowSize,
+    window: &mut [u64; WINDOW],
+    values: &mut [f64; VALUES],
+    frame: &FrameRef<'_>,
+    words: &mut [u64],
+    numbers: &mut [f64],
+) -> Answer
+    requires { (size.words ≤ WINDOW) × (size.numbers ≤ VALUES) }
+    ensures promised { Promised (pushed (frame_of frame.now.words.now frame.now.numbers.now))
+        s.old (lent_of size (Promise.window window.old values.old)) words.old numbers.old
+        (pushed_as result s.new) (lent_of size (Promise.window window.new values.new)) words.new numbers.new }
+    ensures rest { rest_of size (Promise.window window.new values.new) ≡ rest_of size (Promise.window window.old values.old) }
+{
+    push(
+        s,
+        &mut window[..size.words],
+        &mut values[..size.numbers],
+        frame,
+        words,
+        numbers,
+    )
 }
 
 // The oldest held frame.
-pub fn take<'a, 'b, 'c>(
+pub fn take(
     s: &mut FixedLagSmoother,
-    window: &'c [u64],
-    values: &'c [f64],
-    words: &'a mut [u64],
-    numbers: &'b mut [f64],
+    window: &[u64],
+    values: &[f64],
+    words: &mut [u64],
+    numbers: &mut [f64],
 ) -> Answer
     ensures { Promised taken s.old (Promise.window window.now values.now) words.old numbers.old
         (pushed_as result s.new) (Promise.window window.now values.now) words.new numbers.new }
@@ -178,14 +209,5 @@ pub fn take<'a, 'b, 'c>(
     if s.held == 0 {
         return Err(Refusal::Empty);
     }
-    let held = HeldFrames {
-        window: Window {
-            state: *s,
-            words: window,
-            values,
-        },
-    };
-    let size = emit_oldest(&held, words, numbers);
-    s.drop_oldest();
-    Ok(Some(size))
+    Ok(Some(emit_oldest(s, window, values, words, numbers)))
 }

@@ -2,10 +2,10 @@
 ghost use Rattle.std.specs.Prelude.{◌≡◌, ◌+◌, ◌*◌, ◌≤◌};
 ghost use Rattle.bounds.specs.Bounds.{HEAD, TRACK, TRACKS, LINK, STATE, ASSOCIATIONS, SENSORS};
 
-use crate::head::{association_count, head_ok, sensor_count, track_count};
+use crate::head::{Head, head_ok};
 use bounds::{HEAD, LINK, STATE, TRACK};
 
-// How many tracks, associations and sensors a frame has: none more than there may be.
+// How many tracks, associations and sensors a frame has: of each no more than there may be.
 #[derive(Clone, Copy)]
 pub struct FrameCounts {
     pub tracks: usize,
@@ -20,28 +20,27 @@ impl FrameCounts {
     ghost use Rattle.std.specs.Prelude.{true, false, MatchOption};
     ghost use Rattle.smoother_frame.specs.Frame.{head_ok, Counts, CountsOf};
 
-    // Those of a frame's words, which are in bounds.
+    // The counts that stand in a frame's words. It asks that the words have a head, and that its counts are in bounds.
     pub fn of(words: &[u64]) -> FrameCounts
         requires { Counts words.now }
         ensures { CountsOf words.now result }
     {
+        let head = Head { words };
         FrameCounts {
-            tracks: track_count(words),
-            associations: association_count(words),
-            sensors: sensor_count(words),
+            tracks: head.tracks(),
+            associations: head.associations(),
+            sensors: head.sensors(),
         }
     }
 
-    // Those of words with a head in bounds and at most `most` tracks, no more than there may be.
+    // The counts of a frame's words, where their head is in bounds and counts at most `most` tracks.
+    // As it is: `most` ≤ TRACKS is asked here, in `Frame::well_formed` and of a window's size. A type that holds it is no plainer: any number may stand in
+    // a caller's settings, so each call would make that type anew.
     pub fn checked(words: &[u64], most: usize) -> Option<FrameCounts>
         requires { most ≤ TRACKS }
         ensures { MatchOption result (head_ok most words.now ≡ false) (λ c. (head_ok most words.now ≡ true) × CountsOf words.now c) }
     {
-        if head_ok(words, most) {
-            Some(FrameCounts::of(words))
-        } else {
-            None
-        }
+        head_ok(words, most).then(|| FrameCounts::of(words))
     }
 
     // Where the associations begin.

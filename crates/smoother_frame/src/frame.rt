@@ -8,14 +8,15 @@ ghost use Rattle.smoother_frame.specs.Frame.{frame, time, track_count, associati
 ghost use Rattle.smoother_frame.specs.Frame.{numbers_long, track_ok, association_ok, sensor_ok, rows_ok, well_formed, Counts, CountsOf};
 
 use crate::counts::FrameCounts;
-use crate::head;
+use crate::head::Head;
 use bounds::{HEAD, LINK, TRACK};
 use engine::types::RefinedId;
 use scalar::bits;
 use std::marker::Model;
 
 // A frame whose counts are in bounds, in two lists as long as they ask for. A clause sees the two lists.
-// As it is: words and numbers by their places, and no struct for a track or an association, since these lists are the public format that a caller hands over.
+// As it is: words and numbers by their places, codes and present words as numbers, and no struct for a track or an association, since these lists are
+// the public format that a caller hands over.
 #[derive(Drop)]
 pub struct Frame<'a> {
     counts: FrameCounts,
@@ -57,6 +58,7 @@ impl<'a> Frame<'a> {
     }
 
     // The frame that two lists are, if it is well formed, with at most `most` tracks, no more than there may be.
+    #[tactic(auto, unfolding(crate::specs::Frame::well_formed, crate::specs::Frame::exact))]
     pub fn well_formed(most: usize, words: &'a [u64], numbers: &'a [f64]) -> Option<Frame<'a>>
         requires { most ≤ TRACKS }
         ensures { result ≡ cond (well_formed most (frame words.now numbers.now)) (Some (frame words.now numbers.now)) None }
@@ -70,7 +72,7 @@ impl<'a> Frame<'a> {
             words,
             numbers,
         };
-        if frame.rows_ok() { Some(frame) } else { None }
+        frame.rows_ok().then_some(frame)
     }
 
     // Its words.
@@ -109,7 +111,7 @@ impl<'a> Frame<'a> {
     pub fn seconds(&self) -> f64
         ensures { result ≡ seconds_of (time self.now.words) }
     {
-        bits::seconds(head::time_of(self.words))
+        bits::seconds(Head { words: self.words }.time())
     }
 
     // The id of track i.
@@ -117,10 +119,12 @@ impl<'a> Frame<'a> {
         requires { i < track_count self.now.words }
         ensures { result.0 ≡ id_word self.now.words i }
     {
-        head::track_id(self.words, i)
+        let words = self.words;
+        RefinedId(words[HEAD + TRACK * i])
     }
 
     // Lifecycle, class and count of track i are in bounds.
+    #[tactic(auto, unfolding(crate::specs::Frame::track_ok))]
     fn track_ok(&self, i: usize) -> bool
         requires { i < track_count self.now.words }
         ensures { result ≡ track_ok self.now.words i }
@@ -133,41 +137,25 @@ impl<'a> Frame<'a> {
     fn tracks_ok(&self) -> bool
         ensures { result ≡ all (track_ok self.now.words) (track_count self.now.words) }
     {
-        for i in 0..self.counts.tracks {
-            if !self.track_ok(i) {
-                return false;
-            }
-        }
-        true
+        (0..self.counts.tracks).all(|i| self.track_ok(i))
     }
 
     // Outcome, cost present and cost of association j.
+    #[tactic(auto, unfolding(crate::specs::Frame::association_ok, engine::specs::Body::code_ok, engine::specs::Body::present_ok))]
     fn association_ok(&self, j: usize) -> bool
         requires { j < association_count self.now.words }
         ensures { result ≡ association_ok self.now.words self.now.numbers j }
     {
         let at = self.counts.associations_from() + LINK * j;
         let cost = self.numbers[self.counts.costs_from() + j];
-        if 2 < self.words[at + 2] {
-            return false;
-        }
         let present = self.words[at + 3];
-        if present == 0 {
-            bits::to_bits(cost) == 0
-        } else {
-            present == 1
-        }
+        self.words[at + 2] <= 2 && (present == 1 || present == 0 && bits::to_bits(cost) == 0)
     }
 
     fn associations_ok(&self) -> bool
         ensures { result ≡ all (association_ok self.now.words self.now.numbers) (association_count self.now.words) }
     {
-        for j in 0..self.counts.associations {
-            if !self.association_ok(j) {
-                return false;
-            }
-        }
-        true
+        (0..self.counts.associations).all(|j| self.association_ok(j))
     }
 
     // Sensors below 2^32.
@@ -178,6 +166,7 @@ impl<'a> Frame<'a> {
     }
 
     // Each track, association and sensor is in bounds.
+    #[tactic(auto, unfolding(crate::specs::Frame::rows_ok))]
     pub fn rows_ok(&self) -> bool
         ensures { result ≡ rows_ok self.now.words self.now.numbers }
     {

@@ -1,69 +1,74 @@
 // The head of a frame's words.
-ghost use Rattle.std.specs.Prelude.{◌≡◌, ◌+◌, ◌*◌, ◌≤◌, length};
-ghost use Rattle.bounds.specs.Bounds.{HEAD, TRACK};
-ghost use Rattle.smoother_frame.specs.Frame.{time, track_count, association_count, sensor_count, id_word, smoothed_as, head_ok};
+// As it is: the counts, codes and flag by their places and as numbers, since the words are the public format that a caller hands over.
+ghost use Rattle.std.specs.Prelude.{◌≡◌, ◌≤◌, cond, length};
+ghost use Rattle.bounds.specs.Bounds.{HEAD};
+ghost use Rattle.smoother_frame.specs.Frame.{time, track_count, association_count, sensor_count, smoothed_as, head_ok};
 
-use bounds::{ASSOCIATIONS, HEAD, SENSORS, TRACK};
-use engine::types::RefinedId;
+use bounds::{ASSOCIATIONS, HEAD, SENSORS};
 use scalar::bits;
 
-// The time, in nanoseconds.
-pub fn time_of(words: &[u64]) -> i64
-    requires { HEAD ≤ length words.now }
-    ensures { result ≡ time words.now }
-{
-    bits::from_word(words[0])
+// The words of a frame, which have a head.
+#[derive(Drop)]
+pub(crate) struct Head<'a> {
+    pub words: &'a [u64],
+    pub ghost long: { HEAD ≤ length words.now },
 }
 
-// How many tracks there are.
-pub fn track_count(words: &[u64]) -> usize
-    requires { HEAD ≤ length words.now }
-    ensures { result ≡ track_count words.now }
-{
-    words[2] as usize
+impl<'a> Head<'a> {
+    // The time, in nanoseconds.
+    pub fn time(&self) -> i64
+        ensures { result ≡ time self.now.words.now }
+    {
+        bits::from_word(self.words[0])
+    }
+
+    // How many tracks there are.
+    pub fn tracks(&self) -> usize
+        ensures { result ≡ track_count self.now.words.now }
+    {
+        self.words[2] as usize
+    }
+
+    // How many associations.
+    pub fn associations(&self) -> usize
+        ensures { result ≡ association_count self.now.words.now }
+    {
+        self.words[3] as usize
+    }
+
+    // How many sensors.
+    pub fn sensors(&self) -> usize
+        ensures { result ≡ sensor_count self.now.words.now }
+    {
+        self.words[4] as usize
+    }
+
+    // The counts, the codes and the time are in bounds, with at most `most` tracks.
+    #[tactic(auto, unfolding(crate::specs::Frame::head_ok, engine::specs::Body::code_ok))]
+    fn is_ok(&self, most: usize) -> bool
+        ensures { result ≡ head_ok most self.now.words.now }
+    {
+        engine_check::time_ok(self.time())
+            && self.words[1] <= 2
+            && self.tracks() <= most
+            && self.associations() <= ASSOCIATIONS
+            && self.sensors() <= SENSORS
+            && self.words[5] <= 1
+    }
 }
 
-// How many associations.
-pub fn association_count(words: &[u64]) -> usize
-    requires { HEAD ≤ length words.now }
-    ensures { result ≡ association_count words.now }
-{
-    words[3] as usize
-}
-
-// How many sensors.
-pub(crate) fn sensor_count(words: &[u64]) -> usize
-    requires { HEAD ≤ length words.now }
-    ensures { result ≡ sensor_count words.now }
-{
-    words[4] as usize
-}
-
-// The id of track i.
-pub fn track_id(words: &[u64], i: usize) -> RefinedId
-    requires { HEAD + TRACK * (i + 1) ≤ length words.now }
-    ensures { result.0 ≡ id_word words.now i }
-{
-    RefinedId(words[HEAD + TRACK * i])
-}
-
-// Whether it is smoothed is written: 0 or 1.
-pub fn put_smoothed(words: &mut [u64], flag: u64)
-    requires { HEAD ≤ length words.old }
-    ensures { words.new ≡ smoothed_as words.old flag }
-{
-    words[5] = flag;
-}
-
-// The counts, the codes and the time are in bounds, with at most `most` tracks.
-pub fn head_ok(words: &[u64], most: usize) -> bool
+// There is a head, and it is in bounds.
+#[tactic(auto, unfolding(crate::specs::Frame::head_ok))]
+pub(crate) fn head_ok(words: &[u64], most: usize) -> bool
     ensures { result ≡ head_ok most words.now }
 {
-    HEAD <= words.len()
-        && engine_check::time_ok(time_of(words))
-        && words[1] <= 2
-        && track_count(words) <= most
-        && association_count(words) <= ASSOCIATIONS
-        && sensor_count(words) <= SENSORS
-        && words[5] <= 1
+    HEAD <= words.len() && Head { words }.is_ok(most)
+}
+
+// Whether a frame is smoothed is written into its words.
+pub fn put_smoothed(words: &mut [u64], smoothed: bool)
+    requires { HEAD ≤ length words.old }
+    ensures { words.new ≡ smoothed_as words.old (cond smoothed 1 0) }
+{
+    words[5] = u64::from(smoothed);
 }

@@ -1,7 +1,6 @@
-// Refined frames in words and numbers: what their counts ask for, and when one is well formed; numbers copied out of a buffer.
+// Refined frames in words and numbers: what their counts ask for, and when one is well formed.
 #![tactic(auto)]
 
-pub mod copy;
 pub mod counts;
 pub mod frame;
 pub mod head;

@@ -2,17 +2,15 @@
 ghost use Rattle.std.specs.Prelude.{◌≡◌, ◌++◌, ◌+◌, ◌*◌, ◌<◌, ◌≤◌, length, drop};
 ghost use Rattle.bounds.specs.Bounds.{STATE, WORDS, NUMBERS};
 ghost use Rattle.buffers.specs.Buffers.{over};
-ghost use Rattle.smoother_frame.specs.Frame.{track_count, smoothed_as, costs_from};
+ghost use Rattle.smoother_frame.specs.Frame.{track_count, costs_from};
 ghost use Rattle.smoother_window.specs.Held.{state_of, frames_of, frame_of};
-ghost use Rattle.smoother_pass.specs.Pass.{flat, states_to, smoothed_flag, estimate_of};
+ghost use Rattle.smoother_pass.specs.Pass.{flat, states_to, estimate_of};
 ghost use Rattle.smoother_pass.specs.Oldest.{oldest};
 
 use crate::pass::{TrackState, smooth};
 use bounds::{STATE, VECTOR};
 use buffers::put;
-use smoother_frame::frame::Frame;
 use smoother_frame::head::put_smoothed;
-use smoother_window::SmootherConfig;
 use smoother_window::held::HeldFrames;
 
 // The numbers of a track's state, from a place on.
@@ -26,8 +24,7 @@ fn put_state(out: &mut [f64], at: usize, state: &TrackState)
 
 // The tracks of the oldest held frame, smoothed, at the front of out.
 fn put_states(out: &mut [f64], held: &HeldFrames<'_>)
-    requires some { 0 < (state_of held.now).held }
-    requires room { NUMBERS ≤ length out.old }
+    requires { NUMBERS ≤ length out.old }
     ensures written { out.new ≡ states_to (state_of held.now).config (frames_of held.now) (frame_of held.now 0) (track_count (frame_of held.now 0).words)
         ++ drop (costs_from (frame_of held.now 0).words) out.old }
     ensures whole { length (states_to (state_of held.now).config (frames_of held.now) (frame_of held.now 0) (track_count (frame_of held.now 0).words))
@@ -38,29 +35,22 @@ fn put_states(out: &mut [f64], held: &HeldFrames<'_>)
     }
 }
 
-// The smoothed word.
-fn smoothed_flag(c: SmootherConfig) -> u64
-    ensures { result ≡ smoothed_flag c }
-{
-    u64::from(0 < c.lag_frames)
-}
-
-// The words of a frame that leaves, with the flag, at the front of words; how many there are. It asks that words has room for any frame.
-pub fn emit_words(words: &mut [u64], frame: &Frame<'_>, c: SmootherConfig) -> usize
+// The words of the oldest held frame, with the flag that it is smoothed where the lag is not 0; how many there are. It asks that words has room for any frame.
+pub fn emit_words(words: &mut [u64], held: &HeldFrames<'_>) -> usize
     requires { WORDS ≤ length words.old }
-    ensures many { result ≡ length frame.now.words }
-    ensures written { words.new ≡ over 0 (smoothed_as frame.now.words (smoothed_flag c)) words.old }
+    ensures many { result ≡ length (oldest (state_of held.now) held.now.window.words.now held.now.window.values.now).words }
+    ensures written { words.new ≡ over 0 (oldest (state_of held.now) held.now.window.words.now held.now.window.values.now).words words.old }
     ensures within { result ≤ WORDS }
 {
+    let frame = held.frame(0);
     put(words, 0, frame.words());
-    put_smoothed(words, smoothed_flag(c));
+    put_smoothed(words, 0 < held.window.state.config.lag_frames);
     frame.words().len()
 }
 
 // The numbers of the oldest held frame: its tracks smoothed, then its costs as they were; how many there are. It asks that numbers has room for any frame.
 pub fn emit_numbers(numbers: &mut [f64], held: &HeldFrames<'_>) -> usize
-    requires some { 0 < (state_of held.now).held }
-    requires room { NUMBERS ≤ length numbers.old }
+    requires { NUMBERS ≤ length numbers.old }
     ensures many { result ≡ length (oldest (state_of held.now) held.now.window.words.now held.now.window.values.now).numbers }
     ensures written { numbers.new ≡ over 0 (oldest (state_of held.now) held.now.window.words.now held.now.window.values.now).numbers numbers.old }
     ensures within { result ≤ NUMBERS }

@@ -11,9 +11,9 @@ ghost use Rattle.smoother_window.specs.Held.{state_of, frames_of, frame_of};
 ghost use Rattle.smoother_pass.specs.Pass.{last_at, state_at, chain_in, run_back, smoothed_at, estimate_of, ran_back, found_at};
 
 use bounds::{COVARIANCE, STATE, VECTOR};
+use buffers::array_at;
 use engine::types::RefinedId;
 use rts::Step;
-use smoother_frame::copy::numbers_at;
 use smoother_frame::frame::Frame;
 use smoother_window::held::HeldFrames;
 
@@ -28,24 +28,20 @@ pub struct TrackState {
 fn find(frame: &Frame<'_>, id: RefinedId) -> Option<usize>
     ensures { found_at result ≡ last_at id.0 frame.now.words (track_count frame.now.words) }
 {
-    for i in (0..frame.counts().tracks).rev() {
-        if frame.track_id(i) == id {
-            return Some(i);
-        }
-    }
-    None
+    (0..frame.counts().tracks).rfind(|i| frame.track_id(*i) == id)
 }
 
 // The state of track i.
 // As it is: numbers at a stride, which are the published format of an emitted frame.
+#[tactic(auto, unfolding(crate::specs::Pass::state_at))]
 fn state_of(frame: &Frame<'_>, i: usize) -> TrackState
     requires { i < track_count frame.now.words }
     ensures { estimate_of result ≡ state_at frame.now.numbers i }
 {
     let numbers = frame.numbers();
     TrackState {
-        x: numbers_at(numbers, STATE * i),
-        p: numbers_at(numbers, STATE * i + VECTOR),
+        x: array_at(numbers, STATE * i),
+        p: array_at(numbers, STATE * i + VECTOR),
     }
 }
 
@@ -61,7 +57,8 @@ fn step_back(q: f64, dt: f64, a: &TrackState, later: Option<TrackState>) -> Opti
 }
 
 // The pass over the held frames from the k-th on, which has the id at track i; nothing where a Cholesky fails.
-// As it is: a recursion, which goes back over the chain as it returns; a loop would fill an array of states and walk it back, which is no plainer.
+// As it is: a recursion, which goes back over the chain as it returns. A fold back from the chain's last frame is no plainer: to know that frame, the id is
+// first looked for in each frame, and then once more in the fold; or an array of states is filled and walked back.
 fn pass(held: &HeldFrames<'_>, id: RefinedId, k: usize, i: usize) -> Option<TrackState>
     requires there { k < (state_of held.now).held }
     requires found { last_at id.0 (frame_of held.now k).words (track_count (frame_of held.now k).words) ≡ some i }
@@ -71,26 +68,26 @@ fn pass(held: &HeldFrames<'_>, id: RefinedId, k: usize, i: usize) -> Option<Trac
     let frame = held.frame(k);
     let a = state_of(&frame, i);
     let n = k + 1;
-    if n < held.window.state.held {
-        let next = held.frame(n);
-        if let Some(at) = find(&next, id) {
-            let dt = next.seconds() - frame.seconds();
-            let later = pass(held, id, n, at);
-            return step_back(
-                held.window.state.config.accel_spectral_density,
-                dt,
-                &a,
-                later,
-            );
-        }
+    if held.window.state.held <= n {
+        return Some(a);
     }
-    Some(a)
+    let next = held.frame(n);
+    let Some(at) = find(&next, id) else {
+        return Some(a);
+    };
+    let dt = next.seconds() - frame.seconds();
+    let later = pass(held, id, n, at);
+    step_back(
+        held.window.state.config.accel_spectral_density,
+        dt,
+        &a,
+        later,
+    )
 }
 
 // The pass over all of them, for the id that the oldest has at track i.
 fn pass_of(held: &HeldFrames<'_>, i: usize) -> Option<TrackState>
-    requires some { 0 < (state_of held.now).held }
-    requires there { i < track_count (frame_of held.now 0).words }
+    requires { i < track_count (frame_of held.now 0).words }
     ensures { ran_back result ≡ run_back (density (state_of held.now).config) (chain_in (id_word (frame_of held.now 0).words i) (frames_of held.now)) }
 {
     let frame = held.frame(0);
@@ -100,13 +97,11 @@ fn pass_of(held: &HeldFrames<'_>, i: usize) -> Option<TrackState>
 }
 
 // Track i of the oldest held frame, smoothed where no Cholesky fails.
+#[tactic(auto, unfolding(crate::specs::Pass::smoothed_at))]
 pub fn smooth(held: &HeldFrames<'_>, i: usize) -> TrackState
-    requires some { 0 < (state_of held.now).held }
-    requires there { i < track_count (frame_of held.now 0).words }
+    requires { i < track_count (frame_of held.now 0).words }
     ensures { estimate_of result ≡ smoothed_at (state_of held.now).config (frames_of held.now) (frame_of held.now 0) i }
 {
-    match pass_of(held, i) {
-        Some(state) => state,
-        None => state_of(&held.frame(0), i),
-    }
+    let own = state_of(&held.frame(0), i);
+    pass_of(held, i).unwrap_or(own)
 }

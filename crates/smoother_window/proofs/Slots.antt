@@ -1,8 +1,8 @@
 -- Slots in a window: each lies within its buffer. Assumes nothing.
-use mathlib.Core.Path.{◌≡◌}
+use mathlib.Core.Path.{◌≡◌, ◌∙◌}
 use Prim.Native.Nat.{ℕ, suc, ◌+◌, ◌*◌, ◌%◌, ◌≤◌}
 use native.Mathlib.Omega.{arith}
-use native.Mathlib.Nat.{mul-le-mul_right, suc-mul, mod-lt, mod-add-mod}
+use native.Mathlib.Nat.{mul-le-mul_right, suc-mul, mod-lt, mod-add-mod, add-mod-mod}
 use Rattle.smoother_window.specs.declared.FixedLagSmoother.{FixedLagSmoother}
 use Rattle.smoother_window.specs.Config.{lag}
 use Rattle.smoother_window.specs.Window.{slot_of}
@@ -15,6 +15,9 @@ slot_within s k = omega (arith, mod-lt (s.first + k) {m = lag s.config + 1} (ome
 pub turned : (s : FixedLagSmoother) (k : ℕ) → (s.first % (lag s.config + 1) + k) % (lag s.config + 1) ≡ slot_of s k
 unfolding slot_of
 turned s k = mod-add-mod s.first (lag s.config + 1) k
+
+pub turned_in : (s : FixedLagSmoother) (k : ℕ) → (s.first % (lag s.config + 1) + k % (lag s.config + 1)) % (lag s.config + 1) ≡ slot_of s k
+turned_in s k = add-mod-mod (s.first % (lag s.config + 1)) k (lag s.config + 1) ∙ turned s k
 
 -- of n + 1 slots of equal size, each ends within the buffer
 pub room : {at n w wide long : ℕ} → at ≤ n → w ≡ wide → long ≡ (n + 1) * wide → at * w + w ≤ long

@@ -6,10 +6,11 @@ ghost use Rattle.smoother_window.specs.Window.{held_frame, AllCounted};
 use crate::window::Window;
 use smoother_frame::frame::Frame;
 
-// The frames that a window holds, no more than it has slots for: the counts of each are in bounds.
+// The frames that a window holds, at least one and no more than it has slots for: the counts of each are in bounds.
 #[derive(Drop)]
 pub struct HeldFrames<'a> {
     pub window: Window<'a>,
+    pub ghost some: { 0 < window.state.held },
     pub ghost few: { window.state.held ≤ lag window.state.config + 1 },
     pub ghost counted: { AllCounted window.state window.words.now },
 }

@@ -12,6 +12,7 @@ pub struct WindowSize {
 }
 
 // A slot's, for C tracks at most.
+// As it is: most ≤ TRACKS, here and below: why is said at `FrameCounts::checked`.
 pub(crate) fn slot_size(most: usize) -> WindowSize
     requires { most ≤ TRACKS }
     ensures words { result.words ≡ words_for most }

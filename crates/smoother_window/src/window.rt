@@ -13,14 +13,14 @@ use smoother_frame::frame::Frame;
 
 impl FixedLagSmoother {
     // The slot of the k-th held frame.
+    #[tactic(auto, using(crate::proofs::Slots::turned_in))]
     pub(crate) fn slot(self, k: usize) -> usize
-        requires lags { lag self.config ≤ LAG }
-        requires place { k ≤ LAG }
+        requires { lag self.config ≤ LAG }
         ensures turned { result ≡ slot_of self k }
         ensures within { result ≤ lag self.config }
     {
         let slots = self.config.lag_frames + 1;
-        (self.first % slots + k) % slots
+        (self.first % slots + k % slots) % slots
     }
 
     // A frame put into the next free slot. It asks that there is one, that the window has its length, and that the frame fits a slot.
@@ -70,8 +70,8 @@ fn slot_at<T>(list: &[T], at: usize, wide: usize) -> &[T]
 
 impl<'a> Window<'a> {
     // The words and the numbers of the k-th held frame's slot.
+    #[tactic(auto, unfolding(crate::specs::Window::slot_words, crate::specs::Window::slot_numbers))]
     fn slot(&self, k: usize) -> (&'a [u64], &'a [f64])
-        requires { k ≤ LAG }
         ensures words { result.0.now ≡ slot_words self.now.state self.now.words.now k }
         ensures numbers { result.1.now ≡ slot_numbers self.now.state self.now.values.now k }
         ensures wide { length result.0.now ≡ words_for (most self.now.state.config) }
@@ -87,14 +87,12 @@ impl<'a> Window<'a> {
 
     // The k-th slot holds a well-formed frame.
     fn is_formed(&self, k: usize) -> bool
-        requires { k ≤ LAG }
         ensures { result ≡ well_formed (most self.now.state.config) (held_frame self.now.state self.now.words.now self.now.values.now k) }
     {
         let (words, values) = self.slot(k);
-        match FrameCounts::checked(words, self.state.config.max_tracks) {
-            Some(counts) => Frame::front(counts, words, values).rows_ok(),
-            None => false,
-        }
+        FrameCounts::checked(words, self.state.config.max_tracks).is_some_and(|counts| Frame::front(
+            counts, words, values,
+        ).rows_ok())
     }
 
     // Each slot in use does. It asks that there is a slot for each frame held.
@@ -102,18 +100,13 @@ impl<'a> Window<'a> {
         requires { self.now.state.held ≤ lag self.now.state.config }
         ensures { result ≡ all_formed (most self.now.state.config) (frames_in self.now.state self.now.words.now self.now.values.now) }
     {
-        for k in 0..self.state.held {
-            if !self.is_formed(k) {
-                return false;
-            }
-        }
-        true
+        (0..self.state.held).all(|k| self.is_formed(k))
     }
 
     // The k-th held frame. It asks that the counts in its slot are in bounds.
+    #[tactic(auto, unfolding(crate::specs::Window::words_in, crate::specs::Window::numbers_in))]
     pub fn frame(&self, k: usize) -> Frame<'a>
-        requires place { k ≤ LAG }
-        requires counted { SlotCounts self.now.state self.now.words.now k }
+        requires { SlotCounts self.now.state self.now.words.now k }
         ensures { result ≡ held_frame self.now.state self.now.words.now self.now.values.now k }
     {
         let (words, values) = self.slot(k);

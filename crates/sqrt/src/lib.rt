@@ -12,15 +12,16 @@ use scalar::digits::{Digits, digits_of, full_digits};
 struct WholeRoot {
     root: u64,
     rest: u64,
+    ghost floor: { rest ≤ 2 * root },
+    ghost short: { root < 2 ^ 53 },
 }
 
 // The root of m * 2^52, digit by digit.
+// As it is, m < 2^54 here and twice below: one function makes the one number, so a struct of it would be no plainer.
 #[tactic(auto, using(scalar::proofs::RootDigits::under))]
 fn root_digits(m: u64) -> WholeRoot
     requires { m < 2 ^ 54 }
-    ensures square { result.root * result.root + result.rest ≡ m * 2 ^ 52 }
-    ensures floor { result.rest ≤ 2 * result.root }
-    ensures short { result.root < 2 ^ 53 }
+    ensures { result.root * result.root + result.rest ≡ m * 2 ^ 52 }
 {
     let mut root = 0u64;
     let mut rest = 0u64;
@@ -46,6 +47,7 @@ fn newton(x: f64, y: f64) -> f64 {
 }
 
 // A guess at the root of m * 2^52, rounded down, for m from 2^52 to 2^54: that root or one less, though nothing is promised but that it is below 2^53.
+#[tactic(auto, using(scalar::proofs::RootScale::no_nan))]
 fn root_guess(m: u64) -> u64
     requires { m < 2 ^ 54 }
     ensures { result < 2 ^ 53 }
@@ -69,9 +71,7 @@ fn root_guess(m: u64) -> u64
 // The root of m * 2^52: a guess where what its square leaves shows it right, or one too small, and else digit by digit.
 fn whole_root(m: u64) -> WholeRoot
     requires { m < 2 ^ 54 }
-    ensures square { result.root * result.root + result.rest ≡ m * 2 ^ 52 }
-    ensures floor { result.rest ≤ 2 * result.root }
-    ensures short { result.root < 2 ^ 53 }
+    ensures { result.root * result.root + result.rest ≡ m * 2 ^ 52 }
 {
     let root = root_guess(m);
     let square = root as u128 * root as u128;
@@ -109,13 +109,13 @@ fn root_scaled(q: u64, y: u64) -> f64
 }
 
 // The square root: NaN for a NaN or below 0, a zero for itself, +∞ for +∞.
+#[tactic(auto, using(scalar::proofs::RootCases::top_is, scalar::proofs::RootCases::zero_is, scalar::proofs::RootCases::none_is))]
 pub fn sqrt(a: f64) -> f64
     ensures { result ≡ root_of a }
 {
     match digits_of(a) {
         Digits::Finite { q, y } => root_scaled(q, y),
-        Digits::Infinite => a,
-        Digits::Zero => a,
+        Digits::Infinite | Digits::Zero => a,
         Digits::Other => f64::NAN,
     }
 }

@@ -4,4 +4,4 @@ use Rattle.print.proofs.Showing.{shown}
 use Rattle.calls_refiner.proofs.push.Goals as goal
 
 pub tell-requires : goal.tell-requires
-tell-requires c = (shown written state_of c.push-answer.ensures.ends, c.requires)
+tell-requires c = shown written state_of c.push-answer.ensures.ends

@@ -1,3 +1,4 @@
+use native.Mathlib.Omega.{arith}
 use mathlib.Core.Path.{refl}
 use Rattle.smoother.specs.Smoother.{opens}
 use Rattle.calls_cells.proofs.Opened.{not_opened, is_opened}
@@ -7,12 +8,12 @@ pub returns-in-Err : goal.returns-in-Err
 unfolding opens
 returns-in-Err c =
     λ ws ns. rw (← c.settings_in-config.ensures, ← c.room_for-window.ensures.0, ← c.size-size.ensures)
-    (let q = not_opened c.requires.1 _ _ _ _ _ c.in-Err.ensures c.put_refused.ensures in
+    (let q = not_opened (omega arith) _ _ _ _ _ c.in-Err.ensures c.put_refused.ensures in
     record { smoother_is = q.0; room_is = refl; window_is = refl; words = refl; numbers = refl; text_is = q.1 })
 
 pub returns-in-Ok : goal.returns-in-Ok
 unfolding opens
 returns-in-Ok c =
     λ ws ns. rw (← c.settings_in-config.ensures, ← c.room_for-window.ensures.0, ← c.size-size.ensures)
-    (let q = is_opened c.requires.1 _ _ _ _ _ c.in-Ok.ensures c.put_opened.ensures in
+    (let q = is_opened (omega arith) _ _ _ _ _ c.in-Ok.ensures c.put_opened.ensures in
     record { smoother_is = q.0; room_is = refl; window_is = refl; words = refl; numbers = refl; text_is = q.1 })

@@ -1,40 +1,50 @@
-use mathlib.Core.Path.{◌≡◌, sym, ap, ◌∙◌}
-use mathlib.Core.Bool.{cond}
-use mathlib.Core.List.{List}
-use Prim.Native.Nat.{ℕ, suc, ◌+◌, ◌-◌, ◌≤◌, ◌<◌}
-use native.Mathlib.Numerals.{add-one}
+use Prim.Native.Nat.{ℕ, zero, suc, ◌+◌, ◌≤◌, ◌<◌}
+use native.Mathlib.Nat.{eq-or-lt_of_le}
 use native.Mathlib.Omega.{arith}
-use lib.Dec.{eqb}
+use mathlib.Core.Path.{◌≡◌, refl, sym, ◌∙◌}
+use mathlib.Core.Logic.{⊎_elim}
+use mathlib.Core.List.{List}
 use lib.Ieee.{Float}
+use borrow.Author.Tests.{eq-eqb, ne_eqb}
+use Rattle.std.proofs.Common.{rules, tests}
+use Rattle.std.specs.Prelude.{Option, None, Some}
+use Rattle.std.specs.Option.{MatchOption}
+use Rattle.std.proofs.lemmas.Iterator.{first_from_Range}
 use Rattle.cost.specs.declared.Fold.TheVariants.{Fresh}
 use Rattle.fgo_part.specs.Parts.{part_id}
 use Rattle.cost_row.specs.Price.{frozen_at, fold_after}
 use Rattle.cost_row.proofs.fold_from.Goals as goal
 
-part_step : (ts : List ℕ) (fs : List Float) (x n m : ℕ) → n < m → fold_after ts fs x n (m - n) ≡ cond (eqb x (part_id ts n)) (frozen_at ts fs n) (fold_after ts fs x (n + 1) (m - (n + 1)))
-unfolding fold_after
-part_step ts fs x n m h = let q : m - n ≡ suc (m - (n + 1)) = omega arith in
-    rw q (ap (λ (j : ℕ). cond (eqb x (part_id ts n)) (frozen_at ts fs n) (fold_after ts fs x j (m - (n + 1)))) (sym (add-one n)))
+module _ (ts : List ℕ) (fs : List Float) (x : ℕ) where
+  -- the first track of the id
+  found : (o m i : ℕ) → o ≤ i → i < o + m → x ≡ part_id ts i → ((k : ℕ) → o ≤ k → k < i → x ≡ part_id ts k → ⊥) → fold_after ts fs x o m ≡ frozen_at ts fs i
+  unfolding fold_after
+  found o zero i h l q none = absurd (omega arith)
+  found o (suc m) i h l q none =
+      ⊎_elim
+      (λ (d : o ≡ i). let s : x ≡ part_id ts o = rw d q in rw (eq-eqb x (part_id ts o) s, d) refl)
+      (λ (d : o < i). rw (ne_eqb x (part_id ts o) (none o (omega arith) d)) (found (suc o) m i (omega arith) (omega arith) q (λ k a b. none k (omega arith) b)))
+      (eq-or-lt_of_le h)
 
-part_end : (ts : List ℕ) (fs : List Float) (x n m : ℕ) → m ≤ n → fold_after ts fs x n (m - n) ≡ Fresh
-unfolding fold_after
-part_end ts fs x n m h = let q : m - n ≡ 0 = omega arith in rw q
+  -- no track has it
+  lacking : (o m : ℕ) → ((k : ℕ) → o ≤ k → k < o + m → x ≡ part_id ts k → ⊥) → fold_after ts fs x o m ≡ Fresh
+  unfolding fold_after
+  lacking o zero none = refl
+  lacking o (suc m) none = rw (ne_eqb x (part_id ts o) (none o (omega arith) (omega arith))) (lacking (suc o) m (λ k a b. none k (omega arith) (omega arith)))
 
-pub returns-then-eq : goal.returns-then-eq
-returns-then-eq c =
-    let s = c.args in
-    let l = c.loop-n in
-    let e = ap (eqb s.x.0) (sym c.part_id.ensures) ∙ sym c.eq.ensures ∙ c.if-eq.true in
-    c.frozen_at.ensures ∙ sym (part_step s.tracks.now s.filters.now s.x.0 l.n s.count (omega arith) ∙ rw e) ∙ l.invariant.1
-
-pub loop-n-preserved : goal.loop-n-preserved
-loop-n-preserved c =
-    let s = c.args in
-    let l = c.loop-n in
-    let e = ap (eqb s.x.0) (sym c.part_id.ensures) ∙ sym c.eq.ensures ∙ c.if-eq.false in
-    (omega arith, sym (part_step s.tracks.now s.filters.now s.x.0 l.n s.count (omega arith) ∙ rw e) ∙ l.invariant.1)
+-- two facts of one value, or of none
+either : {A N M : Type 0} {S T : ℕ → Type 0} (r : Option ℕ) → MatchOption r N S → MatchOption r M T → (N → M → A) → ((i : ℕ) → S i → T i → A) → A
+either None h k n s = n h k
+either (Some i) h k n s = s i h k
 
 pub returns : goal.returns
 returns c =
-    let s = c.args in
-    sym (part_end s.tracks.now s.filters.now s.x.0 c.loop-n.n s.count (omega arith)) ∙ c.loop-n.invariant.1
+    let f = c.args.frozen.now in
+    let ts = f.tracks.now in
+    let fs = c.args.filters.now in
+    let x = c.args.x.0 in
+    either c.find.result
+    (first_from_Range _ _ _ _ (λ k. x ≡ part_id ts k) (λ k. x ≡ part_id ts k → ⊥) c.find.ensures.ran (λ k q t. search (rules, tests)) (λ k q t. search (rules, tests)))
+    c.map_or.ensures
+    (λ none r. r ∙ sym (lacking ts fs x 0 f.count (λ k h l. none k h (omega arith))))
+    (λ i first r. let v : c.map_or.result ≡ frozen_at ts fs i = search (rules, tests) in v ∙ sym (found ts fs x 0 f.count i (omega arith) (omega arith) first.2 first.3))

@@ -1,25 +1,13 @@
-use mathlib.Core.Path.{◌≡◌, sym, ◌∙◌}
 use native.Mathlib.Omega.{arith}
-use Rattle.engine.proofs.Every.{all_none, all_more, all-less}
+use mathlib.Core.Path.{◌≡◌, refl}
+use mathlib.Core.Bool.{true, false}
+use Rattle.std.proofs.Common.{rules, ◌+◌, ◌*◌}
+use borrow.Author.Tests.{tests}
+use Rattle.std.proofs.lemmas.Iterator.{cases_from_all, YieldsList-from_range}
+use Rattle.bounds.specs.Bounds.{ASSOCIATION}
+use Rattle.engine.specs.Body.{layout_of, association_ok}
+use Rattle.engine.proofs.Every.{all_over}
 use Rattle.engine_check.proofs.associations_ok.Goals as goal
 
-pub loop-j-init : goal.loop-j-init
-loop-j-init c = all_none _
-
-pub overflow_mul-j : goal.overflow_mul-j
-overflow_mul-j c = omega arith
-
-pub overflow_add-from : goal.overflow_add-from
-overflow_add-from c = omega arith
-
-pub association_ok-requires : goal.association_ok-requires
-association_ok-requires c = omega arith
-
-pub returns-then-not-association_ok : goal.returns-then-not-association_ok
-returns-then-not-association_ok c = sym (all-less _ c.loop-j.j c.args.n (omega arith) (sym c.association_ok.ensures ∙ c.if-not-association_ok.true))
-
-pub loop-j-preserved : goal.loop-j-preserved
-loop-j-preserved c = all_more _ c.loop-j.j c.loop-j.invariant (sym c.association_ok.ensures ∙ c.if-not-association_ok.false)
-
 pub returns : goal.returns
-returns c = let e : c.loop-j.j ≡ c.args.n = omega arith in sym (rw e at c.loop-j.invariant)
+returns c = all_over (λ i. association_ok (layout_of c.args.b.now.kind).width c.args.b.now.bytes.now (c.args.from + ASSOCIATION * i)) c.args.n _ (cases_from_all _ _ _ (λ i. association_ok (layout_of c.args.b.now.kind).width c.args.b.now.bytes.now (c.args.from + ASSOCIATION * i) ≡ true) (λ i. association_ok (layout_of c.args.b.now.kind).width c.args.b.now.bytes.now (c.args.from + ASSOCIATION * i) ≡ false) c.all.ensures.ran (YieldsList-from_range 0 c.args.n c.args.n refl (omega arith)) (λ x q k. search (rules, tests)) (λ x q k. search (rules, tests)))

@@ -1,25 +1,13 @@
-use mathlib.Core.Path.{◌≡◌, sym, ◌∙◌}
 use native.Mathlib.Omega.{arith}
-use Rattle.engine.proofs.Every.{all_none, all_more, all-less}
+use mathlib.Core.Path.{◌≡◌, refl}
+use mathlib.Core.Bool.{true, false}
+use Rattle.std.proofs.Common.{rules, ◌+◌, ◌*◌}
+use borrow.Author.Tests.{tests}
+use Rattle.std.proofs.lemmas.Iterator.{cases_from_all, YieldsList-from_range}
+use Rattle.bounds.specs.Bounds.{OBSERVATION}
+use Rattle.engine.specs.Body.{observation_ok}
+use Rattle.engine.proofs.Every.{all_over}
 use Rattle.engine_check.proofs.observations_ok.Goals as goal
 
-pub loop-i-init : goal.loop-i-init
-loop-i-init c = all_none _
-
-pub overflow_mul-i : goal.overflow_mul-i
-overflow_mul-i c = omega arith
-
-pub overflow_add-from : goal.overflow_add-from
-overflow_add-from c = omega arith
-
-pub observation_ok-requires : goal.observation_ok-requires
-observation_ok-requires c = omega arith
-
-pub returns-then-not-observation_ok : goal.returns-then-not-observation_ok
-returns-then-not-observation_ok c = sym (all-less _ c.loop-i.i c.args.n (omega arith) (sym c.observation_ok.ensures ∙ c.if-not-observation_ok.true))
-
-pub loop-i-preserved : goal.loop-i-preserved
-loop-i-preserved c = all_more _ c.loop-i.i c.loop-i.invariant (sym c.observation_ok.ensures ∙ c.if-not-observation_ok.false)
-
 pub returns : goal.returns
-returns c = let e : c.loop-i.i ≡ c.args.n = omega arith in sym (rw e at c.loop-i.invariant)
+returns c = all_over (λ i. observation_ok c.args.s.now (c.args.from + OBSERVATION * i)) c.args.n _ (cases_from_all _ _ _ (λ i. observation_ok c.args.s.now (c.args.from + OBSERVATION * i) ≡ true) (λ i. observation_ok c.args.s.now (c.args.from + OBSERVATION * i) ≡ false) c.all.ensures.ran (YieldsList-from_range 0 c.args.n c.args.n refl (omega arith)) (λ x q k. search (rules, tests)) (λ x q k. search (rules, tests)))

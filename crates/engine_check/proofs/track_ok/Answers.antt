@@ -1,19 +1,12 @@
-use mathlib.Core.Path.{sym}
-use mathlib.Core.Path.{◌∙◌}
+use Rattle.std.proofs.Common.{arith}
+use Rattle.std.proofs.lemmas.Bool.Decides.{nat_tests}
 use Rattle.engine.specs.Body.{track_ok}
-use native.Mathlib.Omega.{arith}
 use Rattle.engine_check.proofs.track_ok.Goals as goal
 
-pub u32_at-requires : goal.u32_at-requires
-u32_at-requires c = omega arith
-
-pub returns-then-not-present_ok : goal.returns-then-not-present_ok
+pub returns-then-present_ok : goal.returns-then-present_ok
 unfolding track_ok
-returns-then-not-present_ok c = rw ((rw c.u32_at.ensures at (sym c.present_ok.ensures ∙ c.if-not-present_ok.true)))
+returns-then-present_ok c = grind (arith, nat_tests)
 
-pub u24_at-requires : goal.u24_at-requires
-u24_at-requires c = omega arith
-
-pub returns : goal.returns
+pub returns-else-present_ok : goal.returns-else-present_ok
 unfolding track_ok
-returns c = rw ((rw c.u32_at.ensures at (sym c.present_ok.ensures ∙ c.if-not-present_ok.false)), c.u24_at.ensures)
+returns-else-present_ok c = grind (arith, nat_tests)

@@ -1,5 +1,5 @@
 use native.Mathlib.Omega.{arith}
-use Rattle.fgo.proofs.Leaving.{freezes, puts, time-is, forgets, keeps, leaving_ends}
+use Rattle.fgo.proofs.Leaving.{freezes, puts, time-is, forgets, kept-few, leaving_ends}
 use Rattle.fgo.proofs.freeze_oldest.Goals as goal
 
 pub freeze_scan-many-requires : goal.freeze_scan-many-requires
@@ -23,12 +23,22 @@ forget-r-requires c =
     let pre = c.requires in
     forgets _ _ pre.0 pre.2 _ _ _ c.freeze_scan-many.ensures (time-is _ _ pre.0 pre.2 c.body.ensures c.time-time.ensures.1)
 
-pub keep_owners-r-requires : goal.keep_owners-r-requires
-keep_owners-r-requires c =
+pub live_in-live-requires : goal.live_in-live-requires
+live_in-live-requires c =
     let pre = c.requires in
-    keeps _ _ pre.0 pre.2 c.freeze_scan-many.new.parts.tracks c.freeze_scan-many.new.parts.filters c.freeze_scan-many.result c.freeze_scan-many.ensures c.forget-r.new.parts.tracks c.forget-r.new.parts.filters c.forget-r.result (time-is _ _ pre.0 pre.2 c.body.ensures c.time-time.ensures.1) c.forget-r.ensures
+    let h = c.held_in-held.ensures in
+    let forgot = rw (h.0, h.1, h.2) at c.forget-r.ensures in
+    (omega (arith, pre.0.early), kept-few _ _ pre.0 pre.2 c.freeze_scan-many.new.parts.tracks c.freeze_scan-many.new.parts.filters c.freeze_scan-many.result c.freeze_scan-many.ensures c.forget-r.new.parts.tracks c.forget-r.new.parts.filters c.forget-r.result (time-is _ _ pre.0 pre.2 c.body.ensures c.time-time.ensures.1) forgot)
+
+pub keep_owners-r-requires : goal.keep_owners-r-requires
+keep_owners-r-requires c = c.requires.0.owners
 
 pub returns-clause-promised : goal.returns-clause-promised
 returns-clause-promised c =
     let pre = c.requires in
-    leaving_ends _ _ pre.0 pre.2 c.freeze_scan-many.new.parts.tracks c.freeze_scan-many.new.parts.filters c.freeze_scan-many.result c.freeze_scan-many.ensures c.forget-r.new.parts.tracks c.forget-r.new.parts.filters c.forget-r.result (time-is _ _ pre.0 pre.2 c.body.ensures c.time-time.ensures.1) c.forget-r.ensures _ _ c.keep_owners-r.ensures c.put_frame-size.ensures
+    let h = c.held_in-held.ensures in
+    let l = c.live_in-live.ensures.held in
+    let f = c.live_in-live.ensures.frozen in
+    let forgot = rw (h.0, h.1, h.2) at c.forget-r.ensures in
+    let kept = rw (l.0, l.1, l.2, f.0, f.1) at c.keep_owners-r.ensures in
+    leaving_ends _ _ pre.0 pre.2 c.freeze_scan-many.new.parts.tracks c.freeze_scan-many.new.parts.filters c.freeze_scan-many.result c.freeze_scan-many.ensures c.forget-r.new.parts.tracks c.forget-r.new.parts.filters c.forget-r.result (time-is _ _ pre.0 pre.2 c.body.ensures c.time-time.ensures.1) forgot _ _ kept c.put_frame-size.ensures

@@ -16,11 +16,22 @@ search_held-t-requires c =
     let a = c.args in
     searches a.r.now a.m.now (body_of a.b.now) c.requires c.typed.ensures.bytes c.are_bytes-bytes.ensures.bytes _ _ _ _ c.hold.ensures
 
+pub invariant_of-checked : goal.invariant_of-checked
+invariant_of-checked c =
+    let a = c.args in
+    record { passes = (holds a.r.now a.m.now (body_of a.b.now) c.requires c.typed.ensures.bytes).passes }
+
+pub live_in-live-requires : goal.live_in-live-requires
+live_in-live-requires c =
+    let a = c.args in
+    let h = searches a.r.now a.m.now (body_of a.b.now) c.requires c.typed.ensures.bytes c.are_bytes-bytes.ensures.bytes _ _ _ _ c.hold.ensures in
+    (h.held.early, h.frozen)
+
 pub keep_owners-r-requires : goal.keep_owners-r-requires
 keep_owners-r-requires c =
     let a = c.args in
     let h = searches a.r.now a.m.now (body_of a.b.now) c.requires c.typed.ensures.bytes c.are_bytes-bytes.ensures.bytes _ _ _ _ c.hold.ensures in
-    (h.held.early, h.frozen, h.owners)
+    h.owners
 
 pub returns-clause-arrived : goal.returns-clause-arrived
 returns-clause-arrived c =
@@ -29,7 +40,9 @@ returns-clause-arrived c =
     let n = c.search_held-t.new.m in
     let e = c.search_held-t.ensures.bodies in
     let p = c.search_held-t.ensures.parts in
-    let keeps = rw (e, p) at c.keep_owners-r.ensures in
+    let h = c.live_in-live.ensures.held in
+    let f = c.live_in-live.ensures.frozen in
+    let keeps = rw (h.0, h.1, h.2, f.0, f.1, e, p) at c.keep_owners-r.ensures in
     subst (Arrived a.r.now a.m.now (body_of a.b.now) (after u c.keep_owners-r.result c.search_held-t.result))
     (λ i. record { scans = record { bodies = sym e i; columns = n.scans.columns }; owners = c.keep_owners-r.new.owners; parts = sym p i })
     (arrives a.r.now a.m.now (body_of a.b.now) c.requires c.typed.ensures.bytes c.are_bytes-bytes.ensures.bytes _ _ _ _ c.hold.ensures _ _ _ _ _ c.search_held-t.ensures.found keeps)

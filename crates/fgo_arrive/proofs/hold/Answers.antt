@@ -6,7 +6,7 @@ use mathlib.Core.List.{List}
 use lib.ListN.{length, take}
 use Rattle.bounds.specs.Bounds.{ASSOCIATIONS, BODY, BODIES, COLUMN, COLUMNS}
 use Rattle.engine.specs.Body.{Body, associations_in, body_of}
-use Rattle.fgo_place.specs.declared.place.Placing.{Placing}
+use Rattle.fgo_place.specs.declared.placing.Placing.{Placing}
 use Rattle.fgo_state.specs.declared.state.FixedLagRefiner.{FixedLagRefiner}
 use Rattle.buffers.specs.Buffers.{over}
 use Rattle.fgo_state.specs.Memory.{slot_at, column_words}
@@ -57,21 +57,21 @@ held_by r s bodies columns owners h bodies_long columns_long p owners' ids w ec 
     enough = omega (arith, few, w.ids_long)
 
 pub slice_bounds-ids-end : goal.slice_bounds-ids-end
-slice_bounds-ids-end c = let f = c.args in omega (arith, c.association_count.ensures, associations_few (body_of f.b.now) c.requires.passes, c.place_all-p.ensures.ids_long)
+slice_bounds-ids-end c = let f = c.args in omega (arith, c.association_count.ensures, associations_few (body_of f.b.now.body) c.args.b.now.passes, c.place_all-p.ensures.ids_long)
 
 pub slice_bounds-put-end : goal.slice_bounds-put-end
 slice_bounds-put-end c =
     let f = c.args in
-    sym (length-take-le c.association_count.result c.place_all-p.new.ids (omega (arith, c.association_count.ensures, associations_few (body_of f.b.now) c.requires.passes, c.place_all-p.ensures.ids_long)))
+    sym (length-take-le c.association_count.result c.place_all-p.new.ids (omega (arith, c.association_count.ensures, associations_few (body_of f.b.now.body) c.args.b.now.passes, c.place_all-p.ensures.ids_long)))
 
 pub put-requires : goal.put-requires
 put-requires c =
     let f = c.args in
-    let few = associations_few (body_of f.b.now) c.requires.passes in
+    let few = associations_few (body_of f.b.now.body) c.args.b.now.passes in
     let long = length-take-le c.association_count.result c.place_all-p.new.ids (omega (arith, c.association_count.ensures, few, c.place_all-p.ensures.ids_long)) in
-    (body_fits (body_of f.b.now) c.requires.passes, omega (arith, long, c.association_count.ensures, few))
+    (body_fits (body_of f.b.now.body) c.args.b.now.passes, omega (arith, long, c.association_count.ensures, few))
 
 pub returns : goal.returns
 returns c = let f = c.args in
-    held_by f.r.now (body_of f.b.now) f.scans.now.bodies f.scans.now.columns f.owners.now c.requires c.typed.ensures.bodies_long c.typed.ensures.columns_long c.place_all-p.result c.place_all-p.new.owners
+    held_by f.r.now (body_of f.b.now.body) f.scans.now.bodies f.scans.now.columns f.owners.now c.requires c.typed.ensures.bodies_long c.typed.ensures.columns_long c.place_all-p.result c.place_all-p.new.owners
     c.place_all-p.new.ids c.place_all-p.ensures c.association_count.ensures.count c.put.ensures.bodies c.put.ensures.columns

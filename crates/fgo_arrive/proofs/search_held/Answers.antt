@@ -2,8 +2,9 @@ use Prim.Native.Nat.{ℕ, ◌+◌, ◌<◌}
 use mathlib.Core.Path.{◌≡◌, sym, ap, ◌∙◌}
 use mathlib.Core.List.{List, map}
 use lib.ListN.{length, replicate, length-replicate}
-use lib.Ieee.{Float, binary64, of_bits}
-use Rattle.bounds.specs.Bounds.{DETECTIONS, DOTS}
+use lib.Ieee.{binary64, of_bits}
+use Rattle.bounds.specs.Bounds.{DETECTIONS}
+use Rattle.cost.specs.declared.Dot.{Dot}
 use Rattle.engine.specs.Body.{body_refusal}
 use Rattle.fgo_spec.specs.Windows.{Scan}
 use Rattle.fgo_spec.specs.Owning.{or_else, latest}
@@ -19,7 +20,7 @@ use Rattle.fgo_state.specs.Memory.{scan_in, scans_in, owners_in}
 use Rattle.fgo_state.specs.Gathering.{latest_of, GatheredAll, Scattered, held_latest}
 use Rattle.fgo_arrive.specs.Arriving.{SearchesHeld, SearchedHeld, improved_in}
 use Rattle.fgo_spec.proofs.Rows.{row_of}
-use Rattle.fgo_state.proofs.HeldGathered.{starts_within, latest-held}
+use Rattle.fgo_state.proofs.HeldGathered.{latest-held}
 use Rattle.fgo_arrive.proofs.SearchGathered.{able, search_gathered, scans_put_back}
 use Rattle.fgo_arrive.proofs.search_held.Goals as goal
 
@@ -27,12 +28,15 @@ use Rattle.fgo_arrive.proofs.search_held.Goals as goal
 zeros_long : length {A = ℕ} (replicate DETECTIONS 0) ≡ DETECTIONS
 zeros_long = length-replicate {A = ℕ} DETECTIONS 0
 
-none_long : length {A = Float} (replicate DOTS (of_bits binary64 0)) ≡ DOTS
-none_long = length-replicate DOTS (of_bits binary64 0)
+none_yet : Dot
+none_yet = record { x = of_bits binary64 0; y = of_bits binary64 0; r = of_bits binary64 0; t = of_bits binary64 0 }
+
+none_long : length (replicate DETECTIONS none_yet) ≡ DETECTIONS
+none_long = length-replicate DETECTIONS none_yet
 
 -- what the search found, put back, and the owners told anew
 searched_by :
-    (r : FixedLagRefiner) (m : Memory) → SearchesHeld r m → (n : ℕ) (is es is' es' ts : List ℕ) (dots : List Float) →
+    (r : FixedLagRefiner) (m : Memory) → SearchesHeld r m → (n : ℕ) (is es is' es' ts : List ℕ) (dots : List Dot) →
     GatheredAll m.scans.bodies m.scans.columns r.first.0 r.held n is es is' es' ts → length es ≡ DETECTIONS →
     (ids columns' owners' : List ℕ) (t : Tally) → length ids ≡ DETECTIONS →
     Finds (scene_of (record { config = r.config; first = r.first; detections = n; frozen = r.frozen }) ts dots m.parts.tracks m.parts.filters) r.next_id.0 r.counters
@@ -57,25 +61,35 @@ searched_by r m w n is es is' es' ts dots g es-long ids columns' owners' t long 
     same : (e y : ℕ) → or_else (latest_of e ids es' ts r.held) y ≡ latest e y (improved_in r m).search.scans
     same e y = sym (ap (latest e y) f.scans ∙ latest-held m.scans.bodies m.scans.columns r.first.0 r.held n is es is' es' ts w.held g tied es-long e y ids long)
 
-pub improve-t-requires : goal.improve-t-requires
-improve-t-requires c = let f = c.args in
+pub gather-gathered-requires : goal.gather-gathered-requires
+gather-gathered-requires c = let h = c.held_in-held.ensures in
+    rw (h.0, h.1, h.2) c.requires.held
+
+pub gather_dots-requires : goal.gather_dots-requires
+gather_dots-requires c = let h = c.held_in-held.ensures in
+    rw (h.0, h.1, h.2) c.requires.held
+
+pub invariant_of-scene : goal.invariant_of-scene
+invariant_of-scene c = let f = c.args in
     let w = c.requires in
-    let g = c.gather-detections.ensures in
-    able _ _ _ _ _ _ _ _ _ _ w.held g f.r.now.config f.r.now.frozen w.frozen _ _ _
+    let h = c.held_in-held.ensures in
+    let g = rw (h.0, h.1, h.2) at c.gather-gathered.ensures.all in
+    record { able = able _ _ _ _ _ _ _ _ _ _ w.held g f.r.now.config f.r.now.frozen w.frozen _ _ _ }
 
 pub hold_latest-requires : goal.hold_latest-requires
 hold_latest-requires c = let w = c.requires in
-    let g = c.gather-detections.ensures in
-    (w.owners, starts_within _ _ _ _ _ _ _ _ _ _ w.held g)
+    w.owners
 
 pub returns-clause-found : goal.returns-clause-found
 returns-clause-found c = let f = c.args in
     let w = c.requires in
-    let g = c.gather-detections.ensures in
-    let d = c.gather_dots.ensures in
+    let h = c.held_in-held.ensures in
+    let g = rw (h.0, h.1, h.2) at c.gather-gathered.ensures.all in
+    let d = rw (h.0, h.1, h.2) at c.gather_dots.ensures in
+    let k = c.gather-gathered.ensures.held ∙ h.2 in
     let v = c.improve-t.ensures in
-    searched_by f.r.now f.m.now w _ _ _ _ _ _ _ g zeros_long _ _ _ _ v.long
-    (v.finds _ _
+    searched_by f.r.now f.m.now w _ _ _ _ _ _ _ g zeros_long _ _ _ _ c.improve-t.array_long
+    (v _ _
     (search_gathered _ _ _ _ _ _ _ _ _ _ w.held g f.r.now.config _ _ none_long d f.r.now.next_id.0 f.r.now.counters f.m.now.parts.tracks f.m.now.parts.filters f.r.now.frozen w.settings
     zeros_long w.begun w.columns w.spare))
-    c.scatter.ensures.ids c.hold_latest.ensures
+    (rw k at c.scatter.ensures.ids) (rw k at c.hold_latest.ensures)

@@ -20,31 +20,31 @@ module _ {s b : Body} (read : s ≡ b) (ok : body_refusal b ≡ 0) where
 
 pub put_tracks-t-requires : goal.put_tracks-t-requires
 put_tracks-t-requires c =
-    let e = c.body-b.ensures in
-    let time = passed_on c.time.result c.time.type_inv ∙ c.time.ensures.1 (passes e c.requires.passes) in
+    let e = c.body.ensures in
+    let time = passed_on c.time.result c.time.type_inv ∙ c.time.ensures in
     (rw (time, ← scan_frame c.args.scans.now.bodies c.args.scans.now.columns c.args.n.0 e) c.requires.parts, c.requires.room)
 
 pub put_associations-requires : goal.put_associations-requires
 put_associations-requires c =
-    let e = c.body-b.ensures in
-    (passes e c.requires.passes, omega (arith, c.put_tracks-t.ensures.few, few_associations e c.requires.passes, c.put_tracks-t.auto, c.put_head.auto, c.requires.room.words))
+    let e = c.body.ensures in
+    omega (arith, c.put_tracks-t.ensures.few, few_associations e c.requires.passes, c.put_tracks-t.auto, c.put_head.auto, c.requires.room.words)
 
 pub put_sensors-requires : goal.put_sensors-requires
 put_sensors-requires c =
-    let e = c.body-b.ensures in
-    (passes e c.requires.passes, omega (arith, c.put_tracks-t.ensures.few, few_associations e c.requires.passes, few_sensors e c.requires.passes, c.association_count-count.ensures, c.put_tracks-t.auto, c.put_head.auto, c.put_associations.auto, c.requires.room.words))
+    let e = c.body.ensures in
+    omega (arith, c.put_tracks-t.ensures.few, few_associations e c.requires.passes, few_sensors e c.requires.passes, c.association_count-count.ensures, c.put_tracks-t.auto, c.put_head.auto, c.put_associations.auto, c.requires.room.words)
 
 pub put_costs-requires : goal.put_costs-requires
 put_costs-requires c =
-    let e = c.body-b.ensures in
-    (passes e c.requires.passes, omega (arith, c.put_tracks-t.ensures.few, few_associations e c.requires.passes, c.put_tracks-t.auto, c.requires.room.numbers))
+    let e = c.body.ensures in
+    omega (arith, c.put_tracks-t.ensures.few, few_associations e c.requires.passes, c.put_tracks-t.auto, c.requires.room.numbers)
 
 pub returns : goal.returns
 returns c =
-    let e = c.body-b.ensures in
-    let time = passed_on c.time.result c.time.type_inv ∙ c.time.ensures.1 (passes e c.requires.passes) in
+    let e = c.body.ensures in
+    let time = passed_on c.time.result c.time.type_inv ∙ c.time.ensures in
     let a = c.args in
-    framed_all a.c a.scans.now.bodies a.scans.now.columns a.n.0 a.parts.now.tracks a.parts.now.filters a.frozen (body_of c.body-b.result) (to_z w64 (of_z w64 c.time.result)) c.put_tracks-t.result c.association_count-count.result c.sensor_count.result a.words.now a.numbers.now
+    framed_all a.c a.scans.now.bodies a.scans.now.columns a.n.0 a.parts.now.tracks a.parts.now.filters a.frozen (body_of c.body.result) (to_z w64 (of_z w64 c.time.result)) c.put_tracks-t.result c.association_count-count.result c.sensor_count.result a.words.now a.numbers.now
     e
     time
     c.association_count-count.ensures.count

@@ -1,14 +1,13 @@
-use Rattle.std.proofs.Common.{arith}
-use Rattle.engine.specs.Body.{body_of}
-use Rattle.buffers.proofs.Writes.{writes_none, writes_more, writes_all}
+use Rattle.std.proofs.Common.{arith, ◌≡◌, ◌+◌, ◌-◌}
+use Rattle.engine.specs.Body.{body_of, frame_in}
 use Rattle.fgo_state.proofs.Counts.{sensors_long}
+use Rattle.fgo_emit.proofs.Filling.{filled}
 use Rattle.fgo_emit.proofs.put_sensors.Goals as goal
 
-pub loop-i-init : goal.loop-i-init
-loop-i-init c = writes_none _ _ _ (rw (sensors_long (body_of c.args.b.now)) c.requires.1)
-
-pub loop-i-preserved : goal.loop-i-preserved
-loop-i-preserved c = writes_more _ _ _ 0 _ c.loop-i.invariant (omega (arith, sensors_long (body_of c.args.b.now), c.sensor_count-i-end.ensures)) (c.sensor.ensures.1 c.requires.0)
-
 pub returns : goal.returns
-returns c = writes_all _ _ _ c.loop-i.invariant (omega (arith, sensors_long (body_of c.args.b.now), c.sensor_count-i-end.ensures))
+returns c =
+    let s = body_of c.args.b.now.body in
+    let o = c.args.o in
+    let n = c.sensor_count.result in
+    let k : o + n - o ≡ n = omega arith in
+    filled o (o + n - o) c.args.words.now c.loop-i.w-items (frame_in s).sensors 0 (omega (arith, c.loop-i.auto.w-items)) (omega (arith, sensors_long s, c.sensor_count.ensures.count)) (λ j h. c.loop-i.invariant j (omega (arith, c.loop-i-test.false)))

@@ -1,43 +1,23 @@
-use Prim.Native.Nat.{◌<◌, ◌-◌, suc}
-use mathlib.Core.Path.{◌≡◌, sym, ap, ◌∙◌}
-use native.Mathlib.Omega.{arith}
-use lib.ListN.{length, take}
-use lib.Seq.{take_all}
-use Rattle.engine.proofs.Ids.{same_id, other_id}
+use Rattle.std.proofs.Common.{None, sym, ap, ◌∙◌, arith, rules, tests, take_all}
+use Rattle.std.proofs.lemmas.Iterator.{YieldsList-from_map}
+use Rattle.std.proofs.lemmas.Iterator.Adapters.{option_map_id}
+use Rattle.std.proofs.lemmas.Iterator.Search.{find_from_yields_List}
+use Rattle.std.specs.Option.{option_and_then}
 use Rattle.engine.specs.Body.{body_of, frame_in}
 use Rattle.fgo_spec.specs.Windows.{class_among}
 use Rattle.fgo_state.proofs.Counts.{tracks_long}
-use Rattle.fgo_freeze.proofs.Classes.{class_here, class_past}
+use Rattle.fgo_state.proofs.Down.{YieldsList-from_rev_range}
+use Rattle.fgo_freeze.proofs.Classes.{and_then_is, at, named, class_found}
 use Rattle.fgo_freeze.proofs.class_among.Goals as goal
-use Rattle.std.specs.Prelude.{None}
-
-pub loop-i-init : goal.loop-i-init
-loop-i-init c =
-    let a = c.args in
-    let l = (frame_in (body_of a.b.now)).tracks in
-    (omega (arith, c.track_count-i.ensures), λ h. ap (class_among a.e.0 None) (take_all c.track_count-i.result l (omega (arith, c.track_count-i.ensures, tracks_long (body_of a.b.now)))))
-
-pub returns-then-eq : goal.returns-then-eq
-returns-then-eq c = λ h.
-    let a = c.args in
-    let i = c.loop-i.i - 1 in
-    let l = (frame_in (body_of a.b.now)).tracks in
-    let n : i < length l = omega (arith, tracks_long (body_of a.b.now), c.loop-i.invariant.0) in
-    let z : suc i ≡ c.loop-i.i = omega arith in
-    sym (class_here a.e.0 None l i n (c.track-t.ensures.1 h) (same_id c.eq.ensures c.if-eq.true)) ∙ ap (λ n. class_among a.e.0 None (take n l)) z ∙ c.loop-i.invariant.1 h
-
-pub loop-i-preserved : goal.loop-i-preserved
-loop-i-preserved c =
-    let a = c.args in
-    let i = c.loop-i.i - 1 in
-    let l = (frame_in (body_of a.b.now)).tracks in
-    let n : i < length l = omega (arith, tracks_long (body_of a.b.now), c.loop-i.invariant.0) in
-    let z : suc i ≡ c.loop-i.i = omega arith in
-    (omega (arith, c.loop-i.invariant.0), λ h. sym (class_past a.e.0 None l i n (c.track-t.ensures.1 h) (other_id c.eq.ensures c.if-eq.false)) ∙ ap (λ n. class_among a.e.0 None (take n l)) z ∙ c.loop-i.invariant.1 h)
 
 pub returns : goal.returns
-unfolding class_among
-returns c = λ h.
-    let a = c.args in
-    let z : c.loop-i.i ≡ 0 = omega arith in
-    rw z at (c.loop-i.invariant.1 h)
+returns c =
+    let e = c.args.e.0 in
+    let b = body_of c.args.b.now.body in
+    let l = (frame_in b).tracks in
+    let n = c.track_count.result in
+    let found = sym (option_map_id c.find.result) ∙ find_from_yields_List (named e) _ _ c.find.result c.find.ensures.ran (YieldsList-from_map _ (at l) (YieldsList-from_rev_range n (ap (λ s. s.iter) c.map.ensures.source ∙ c.rev.ensures.source)) c.map.ensures.closure (λ i t q k. search (rules, tests))) (λ t r q k. search (rules, tests)) in
+    and_then_is c.find.result c.and_then.result (λ t. t.class) c.and_then.ensures (λ t k. search rules)
+    ∙ ap (option_and_then (λ t. t.class)) found
+    ∙ class_found e l n (omega (arith, c.track_count.ensures, tracks_long b))
+    ∙ ap (class_among e None) (take_all n l (omega (arith, c.track_count.ensures, tracks_long b)))

@@ -12,25 +12,25 @@ use Rattle.fgo_freeze.proofs.forget.Goals as goal
 use Rattle.fgo_freeze.proofs.forget.Goals.{then-is_kept, else-is_kept}
 
 pub loop-k-init : goal.loop-k-init
-loop-k-init c = let a = c.args in (omega arith, keeping_none a.c (to_z w64 (of_z w64 a.time)) (scans_in a.scans.now.bodies a.scans.now.columns a.first.0 a.held) a.parts.now.tracks a.parts.now.filters)
+loop-k-init c = let a = c.args in (omega arith, keeping_none a.c (to_z w64 (of_z w64 a.time)) (scans_in a.held.now.scans.now.bodies a.held.now.scans.now.columns a.held.now.first.0 a.held.now.count) a.parts.now.tracks a.parts.now.filters)
 
 pub is_kept-requires : goal.is_kept-requires
 unfolding prefix_in
 is_kept-requires c =
     let a = c.args in
     let v = c.loop-k in
-    let p = c.requires.1 in
+    let p = c.requires in
     let h : v.k < a.frozen = c.loop-k-test.true in
     let e : part_last_ns v.parts.tracks v.k ≡ part_last_ns a.parts.now.tracks v.k = ap (λ u. u.1.last_ns) (v.invariant.1.high v.k (omega arith)) in
-    (omega (arith, p.few), c.requires.0, rw (to_z-of_z c.ranges.time) p.timed, rw e (p.parts v.k h).timed)
+    (omega (arith, p.few), rw (to_z-of_z c.ranges.time) p.timed, rw e (p.parts v.k h).timed)
 
 pub loop-k-preserved : goal.loop-k-preserved
 loop-k-preserved c =
     let a = c.args in
     let v = c.loop-k in
-    let p = c.requires.1 in
+    let p = c.requires in
     let h : v.k < a.frozen = c.loop-k-test.true in
-    let ss = scans_in a.scans.now.bodies a.scans.now.columns a.first.0 a.held in
+    let ss = scans_in a.held.now.scans.now.bodies a.held.now.scans.now.columns a.held.now.first.0 a.held.now.count in
     let e : entry_in v.parts.tracks v.parts.filters v.k ≡ entry_in a.parts.now.tracks a.parts.now.filters v.k = v.invariant.1.high v.k (omega arith) in
     let n : 0 < part_id v.parts.tracks v.k = rw (← ap (λ u. u.0) e) at (p.parts v.k h).named in
     let b : c.is_kept.result ≡ kept a.c (to_z w64 (of_z w64 a.time)) ss (entry_in a.parts.now.tracks a.parts.now.filters v.k) = c.is_kept.ensures ∙ kept_is a.c (to_z w64 (of_z w64 a.time)) ss v.parts.tracks v.parts.filters v.k n ∙ ap (kept a.c (to_z w64 (of_z w64 a.time)) ss) e in (

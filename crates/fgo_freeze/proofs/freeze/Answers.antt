@@ -13,4 +13,4 @@ pub returns : goal.returns
 unfolding spec.freeze
 returns c =
     let e : to_z w64 (of_z w64 c.args.d.time) ≡ c.args.d.time = to_z-of_z {w = w64} (record { sfits = search rules }) in
-    rw (e, c.moved_on.ensures, c.height_count.ensures, count-within, le-leb _ _ c.requires.heights, c.with_height.ensures, c.newer.ensures, add-one)
+    rw (e, c.moved_on.ensures, c.height_count.ensures, count-within, le-leb _ _ c.requires.heights, c.with_height.ensures, c.or.ensures, add-one)

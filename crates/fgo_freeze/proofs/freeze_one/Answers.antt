@@ -6,7 +6,7 @@ use Rattle.fgo_part.specs.Parts.{part_id}
 use Rattle.fgo_freeze.specs.Frozen.{detection_by}
 use Rattle.fgo_freeze.proofs.FrozenOne.{can_move, one_moved, one-begun}
 use Rattle.fgo_freeze.proofs.freeze_one.Goals as goal
-use Rattle.fgo_freeze.proofs.freeze_one.Goals.{then-k-frozen+else-eq, else-k-frozen}
+use Rattle.fgo_freeze.proofs.freeze_one.Goals.{else-k-frozen-via-then-k-frozen+else-eq, else-k-frozen-via-else-k-frozen}
 
 pub freeze-requires : goal.freeze-requires
 freeze-requires c =
@@ -23,8 +23,8 @@ pub returns : goal.returns
 returns c =
     let a = c.args in
     let ne : c.place_of-k.result < a.frozen → part_id a.parts.now.tracks c.place_of-k.result ≡ a.id.0 → ⊥ =
-    elim c.if-k-frozen.branch [
-      | then-k-frozen+else-eq w ↦ λ h e. (other_id w.eq.ensures w.if-eq.false) (w.part_id.ensures ∙ e)
-      | else-k-frozen w ↦ λ h. absurd (omega (arith, w.if-k-frozen.false))
+    elim c.else-k-frozen.branch [
+      | else-k-frozen-via-then-k-frozen+else-eq w ↦ λ h e. (other_id w.eq.ensures w.if-eq.false) (w.part_id.ensures ∙ e)
+      | else-k-frozen-via-else-k-frozen w ↦ λ h. absurd (omega (arith, w.if-k-frozen.false))
     ] in
     one-begun a.c a.parts.now.tracks a.parts.now.filters a.frozen a.id.0 c.place_of-k.result (detection_by a.d) c.place_of-k.ensures.0 c.requires.most c.requires.ordered ne c.fresh.result c.fresh.ensures c.make_room.ensures c.put-2.ensures

@@ -4,7 +4,7 @@ use native.Mathlib.Omega.{arith}
 use lib.ListN.{length, get_or}
 use Rattle.bounds.specs.Bounds.{ACCEPTED}
 use Rattle.engine.specs.Frame.{no_association}
-use Rattle.engine.specs.Body.{associations_in, body_refusal}
+use Rattle.engine.specs.Body.{associations_in}
 use Rattle.engine.proofs.Passing.{length-rows}
 use Rattle.fgo_spec.specs.Windows.{detection_of}
 use Rattle.fgo_part.specs.Parts.{table_in}
@@ -27,7 +27,7 @@ freeze_one-f-requires c =
     let a = c.args in
     let v = c.loop-j in
     let s = scan_in a.scans.now.bodies a.scans.now.columns a.n.0 in
-    let eb = c.body-b.ensures in
+    let eb = c.body.ensures in
     let ec = c.association_count-j-end.ensures in
     let h : v.j < c.association_count-j-end.result = c.loop-j-test.true in
     let q : get_or s.ids v.j 0 ≡ id_at a.scans.now.columns a.n.0 v.j = id_here a.scans.now.bodies a.scans.now.columns a.n.0 eb v.j (omega arith) in
@@ -48,7 +48,7 @@ loop-j-preserved c =
     let v = c.loop-j in
     let s = scan_in a.scans.now.bodies a.scans.now.columns a.n.0 in
     let t = table_in a.parts.now.tracks a.parts.now.filters a.frozen in
-    let eb = c.body-b.ensures in
+    let eb = c.body.ensures in
     let ec = c.association_count-j-end.ensures in
     let h : v.j < c.association_count-j-end.result = c.loop-j-test.true in
     let q : c.id_at-id.result.0 ≡ get_or s.ids v.j 0 = c.id_at-id.ensures ∙ sym (id_here a.scans.now.bodies a.scans.now.columns a.n.0 eb v.j (omega arith)) in
@@ -57,7 +57,7 @@ loop-j-preserved c =
       omega arith,
       elim c.if-id-gt0.branch [
         | then-id-gt0 w ↦
-            let d : detection_by w.seen_at.result ≡ detection_of a.n.0 s.frame (get_or s.frame.associations v.j no_association) = w.seen_at.ensures (ap (λ b. body_refusal b) eb ∙ c.requires.passes) ∙ ap (λ f. detection_of a.n.0 f (get_or f.associations v.j no_association)) (sym (scan_frame a.scans.now.bodies a.scans.now.columns a.n.0 eb)) in
+            let d : detection_by w.seen_at.result ≡ detection_of a.n.0 s.frame (get_or s.frame.associations v.j no_association) = w.seen_at.ensures ∙ ap (λ f. detection_of a.n.0 f (get_or f.associations v.j no_association)) (sym (scan_frame a.scans.now.bodies a.scans.now.columns a.n.0 eb)) in
             let g = going_one a.c a.n.0 s t v.invariant.1 la li (omega (arith, w.if-id-gt0.true)) in
             rw (w.parts-is, w.f-is, w.freeze_one-f.ensures, d, q) g
         | else-id-gt0 w ↦ rw (w.parts-is, w.f-is) (going_skip a.c a.n.0 s t v.invariant.1 la li (omega (arith, w.if-id-gt0.false)))
@@ -68,5 +68,5 @@ pub returns : goal.returns
 returns c =
     let a = c.args in
     let v = c.loop-j in
-    let eb = c.body-b.ensures in
+    let eb = c.body.ensures in
     going_done a.c a.n.0 (scan_in a.scans.now.bodies a.scans.now.columns a.n.0) (table_in a.parts.now.tracks a.parts.now.filters a.frozen) v.invariant.1 (omega (arith, associations_long a.scans.now.bodies a.scans.now.columns a.n.0 eb, c.association_count-j-end.ensures))

@@ -8,6 +8,6 @@ use Rattle.fgo_freeze.proofs.seen_at.Goals as goal
 
 pub returns : goal.returns
 unfolding detection_of
-returns c = λ h.
-    let e : to_z w64 (of_z w64 c.time.result) ≡ (frame_in (body_of c.args.b.now)).time = to_z-of_z {w = w64} (record { sfits = c.time.type_inv }) ∙ c.time.ensures.1 h in
-    rw (e, c.class_for.ensures h, c.observation-p.ensures.1 h, c.association-a.ensures.1 h)
+returns c =
+    let e : to_z w64 (of_z w64 c.time.result) ≡ (frame_in (body_of c.args.b.now.body)).time = to_z-of_z {w = w64} (record { sfits = c.time.type_inv }) ∙ c.time.ensures in
+    rw (e, c.class_for.ensures, c.observation-p.ensures, c.association-a.ensures)

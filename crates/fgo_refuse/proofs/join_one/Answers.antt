@@ -13,8 +13,8 @@ returns-then-contains c =
     let there : has e (cells 0 a.all.now 0 a.n) ≡ c.contains.result = ap (has e) (cells-take 0 a.all.now a.n (omega (arith, c.requires))) ∙ sym (contains-has _ _) ∙ sym c.contains.ensures.value in
     (rw (c.in-Some.is, there ∙ c.if-contains.true), omega arith)
 
-pub returns-else-contains : goal.returns-else-contains
-returns-else-contains c =
+pub returns : goal.returns
+returns c =
     let a = c.args in
     let e = c.in-Some.e.0 in
     let there : has e (cells 0 a.all.now 0 a.n) ≡ c.contains.result = ap (has e) (cells-take 0 a.all.now a.n (omega (arith, c.requires))) ∙ sym (contains-has _ _) ∙ sym c.contains.ensures.value in

@@ -1,20 +1,20 @@
-use native.Mathlib.Nat.{zero-add}
-use native.Mathlib.Omega.{arith}
-use mathlib.Core.Path.{sym, ◌∙◌}
+use Rattle.std.proofs.Common.{◌≡◌, ℕ, ◌++◌, length, sym, ap, ◌∙◌, arith}
+use Rattle.std.proofs.lemmas.List.{same_lists, get_or_default, drop-drop}
+use Rattle.buffers.specs.Buffers.{over}
 use Rattle.engine.proofs.Passing.{row_at, length-rows}
 use Rattle.fgo_state.specs.Memory.{engine_at}
-use Rattle.buffers.proofs.Writes.{writes_none, writes_more, writes_all}
+use Rattle.fgo_refuse.specs.Refusing.{engines_in}
 use Rattle.fgo_refuse.proofs.owner_keys.Goals as goal
 
-pub loop-k-init : goal.loop-k-init
-loop-k-init c = writes_none _ _ _ (omega (arith, length-rows (engine_at c.args.owners.now) 0 c.args.owned))
-
-pub loop-k-preserved : goal.loop-k-preserved
-loop-k-preserved c =
-    let a = c.args in
-    let k = c.loop-k.k in
-    let p = writes_more _ _ _ 0 _ c.loop-k.invariant (rw (length-rows (engine_at a.owners.now) 0 a.owned) c.loop-k-test.true) (c.engine_at.ensures ∙ sym (row_at (engine_at a.owners.now) a.owned k 0 c.loop-k-test.true)) in
-    rw zero-add at p
-
 pub returns : goal.returns
-returns c = writes_all _ _ _ c.loop-k.invariant (rw (length-rows (engine_at c.args.owners.now) 0 c.args.owned) c.loop-k-test.false)
+unfolding over
+returns c =
+    let o = c.args.o.now in
+    let n = o.owned in
+    let g : ℕ → ℕ = engine_at o.entries.now in
+    let l = c.args.all.now in
+    let ks = c.loop-k.id-items in
+    let long : length (engines_in o.entries.now n) ≡ n = length-rows g 0 n in
+    let many : length ks ≡ n = omega (arith, c.loop-k.auto.id-items) in
+    let same : ks ≡ engines_in o.entries.now n = same_lists ks (engines_in o.entries.now n) (many ∙ sym long) (λ j e h. get_or_default ks j e 0 h ∙ c.loop-k.invariant j (omega (arith, c.loop-k-test.false)) ∙ sym (row_at g n j 0 (omega arith)) ∙ get_or_default (engines_in o.entries.now n) j 0 e (omega arith)) in
+    rw (same, long) (ap (λ x. engines_in o.entries.now n ++ x) (drop-drop n 0 l))

@@ -1,6 +1,6 @@
-use Rattle.fgo_refuse.specs.Refusing.{engines_in}
-use Rattle.buffers.proofs.Writes.{Writes}
+use Rattle.std.proofs.Common.{◌≡◌, ℕ, ◌<◌, get_or}
+use Rattle.fgo_state.specs.Memory.{engine_at}
 use Rattle.fgo_refuse.proofs.owner_keys.Given as goal
 
 abbrev pub invariant-loop-k : goal.invariant-loop-k
-invariant-loop-k l = Writes 0 (engines_in l.owners l.owned) l.initial.all l.k l.all
+invariant-loop-k l = (j : ℕ) → j < l.k → get_or l.id-items j 0 ≡ engine_at l.o.entries.now j

@@ -1,18 +1,20 @@
-use native.Mathlib.Omega.{arith}
-use mathlib.Core.Path.{sym, ◌∙◌}
-use borrow.Author.Tests.{not-true, not-false}
-use Rattle.engine.proofs.Every.{all_none, all_more, all-less}
+use Prim.Native.Nat.{ℕ}
+use mathlib.Core.Bool.{Bool}
+use lib.Dec.{eqb}
+use lib.ListN.{take}
+use Rattle.std.proofs.Common.{◌∙◌, rules, tests}
+use Rattle.std.proofs.lemmas.Iterator.{YieldsList-from_slice}
+use Rattle.std.proofs.lemmas.Iterator.Search.{all_from_yields_List}
+use Rattle.fgo_state.specs.Memory.{owner_of}
+use Rattle.fgo_state.specs.Gathering.{latest_of}
 use Rattle.fgo_rule.specs.Tests.{owned_at, owned_all}
+use Rattle.fgo_rule.proofs.AllOf.{all_taken}
 use Rattle.fgo_rule.proofs.owned_all.Goals as goal
 
-pub loop-i-init : goal.loop-i-init
-unfolding owned_all
-loop-i-init c = (omega arith, all_none _)
-
-pub returns-then-ne : goal.returns-then-ne
+pub returns : goal.returns
 unfolding owned_all owned_at
-returns-then-ne c = sym (all-less _ c.loop-i.i c.args.n (omega arith) (not-true _ (sym (rw (c.owner_of.ensures, c.latest_in.ensures) at c.ne.ensures) ∙ c.if-ne.true)))
-
-pub loop-i-preserved : goal.loop-i-preserved
-unfolding owned_all owned_at
-loop-i-preserved c = (omega arith, all_more _ c.loop-i.i c.loop-i.invariant.1 (not-false _ (sym (rw (c.owner_of.ensures, c.latest_in.ensures) at c.ne.ensures) ∙ c.if-ne.false)))
+returns c =
+    let g = c.args.g.now in
+    let o = c.args.o.now in
+    let test : ℕ → Bool = λ e. eqb (owner_of o.entries.now o.owned e) (latest_of e g.ids g.engines g.starts g.held) in
+    all_from_yields_List test _ _ _ c.all.ensures.ran (YieldsList-from_slice (take g.count g.engines) (search rules)) (λ i b q t. search (rules, tests)) ∙ all_taken test g.engines g.count 0 (search rules)

@@ -1,18 +1,14 @@
-use native.Mathlib.Numerals.{add-one}
-use native.Mathlib.Omega.{arith}
-use mathlib.Core.Path.{refl, sym, ap, ◌∙◌}
-use Rattle.engine.proofs.Every.{all_none, all_more, all-less}
-use Rattle.fgo_rule.specs.Tests.{id_before, parts_ok}
+use Rattle.std.proofs.Common.{refl, ◌∙◌, arith, rules, tests}
+use Rattle.std.proofs.lemmas.Iterator.{YieldsList-from_range}
+use Rattle.std.proofs.lemmas.Iterator.Search.{all_from_yields_List}
+use Rattle.fgo_rule.specs.Tests.{part_ok, parts_ok}
+use Rattle.fgo_rule.proofs.AllOf.{all_range}
 use Rattle.fgo_rule.proofs.parts_ok.Goals as goal
 
-pub loop-k-init : goal.loop-k-init
+pub returns : goal.returns
 unfolding parts_ok
-loop-k-init c = (omega arith, refl, all_none _)
-
-pub returns-then-not-part_ok : goal.returns-then-not-part_ok
-unfolding parts_ok
-returns-then-not-part_ok c = sym (all-less _ c.loop-k.k c.args.frozen (omega arith) (sym c.part_ok.ensures ∙ c.if-not-part_ok.true))
-
-pub loop-k-preserved : goal.loop-k-preserved
-unfolding parts_ok
-loop-k-preserved c = (omega arith, c.part_id-before.ensures ∙ sym (ap (id_before c.args.tracks.now) (add-one c.loop-k.k)), all_more _ c.loop-k.k c.loop-k.invariant.2 (sym c.part_ok.ensures ∙ c.if-not-part_ok.false))
+returns c =
+    let a = c.args in
+    let n = a.frozen.now.count in
+    let test = part_ok a.first.0 a.next.0 a.frozen.now.tracks.now in
+    all_from_yields_List test _ _ _ c.all.ensures.ran (YieldsList-from_range 0 n n refl (omega arith)) (λ i b q t. search (rules, tests)) ∙ all_range test n

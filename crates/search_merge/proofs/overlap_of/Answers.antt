@@ -2,36 +2,6 @@ use Rattle.std.proofs.Common.{get_or, arith}
 use Rattle.search_merge.proofs.Merged.{both_le, only_le, counts, counted}
 use Rattle.search_merge.proofs.overlap_of.Goals as goal
 
-pub loop-k-init : goal.loop-k-init
-loop-k-init c =
-    record {
-      within = omega arith;
-      both = record { few = omega arith; rest = omega arith };
-      first = record { few = omega arith; rest = omega arith };
-      second = record { few = omega arith; rest = omega arith };
-    }
-
-pub overflow_add-shared : goal.overflow_add-shared
-overflow_add-shared c =
-    let s = c.args in
-    let o = c.loop-k in
-    let e = c.both_have-shared.ensures in
-    omega (arith, both_le (get_or s.a.now o.k 0) (get_or s.b.now o.k 0), o.invariant.both.few)
-
-pub overflow_add-mine : goal.overflow_add-mine
-overflow_add-mine c =
-    let s = c.args in
-    let o = c.loop-k in
-    let e = c.only_has-mine.ensures in
-    omega (arith, only_le (get_or s.a.now o.k 0) (get_or s.b.now o.k 0), o.invariant.first.few)
-
-pub overflow_add-theirs : goal.overflow_add-theirs
-overflow_add-theirs c =
-    let s = c.args in
-    let o = c.loop-k in
-    let e = c.only_has-theirs.ensures in
-    omega (arith, only_le (get_or s.b.now o.k 0) (get_or s.a.now o.k 0), o.invariant.second.few)
-
 pub loop-k-preserved : goal.loop-k-preserved
 loop-k-preserved c =
     let s = c.args in

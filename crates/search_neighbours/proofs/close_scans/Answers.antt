@@ -14,6 +14,7 @@ use Rattle.bounds.specs.Bounds.{SCANS}
 use Rattle.cost.specs.Cost.{dot_at}
 use Rattle.fgo_spec.specs.Lists.{any}
 use Rattle.fgo_spec.specs.Searching.{square}
+use Rattle.cost.specs.declared.Dot.{Dot}
 use Rattle.search_neighbours.specs.declared.Point.{Point}
 use Rattle.search_neighbours.specs.Near.{near_slots, close_slots, close_at, close_scans, any_close, point_at, near_points, close_points, CloseWithin}
 use Rattle.search_rows.proofs.Filled.{map_up_length, map_up_at}
@@ -29,13 +30,13 @@ none_near q (inf s) w = refl
 none_near q (fin s m e) w = refl
 
 -- two points are near where their entries are
-near_same : (q : Float) (dots : List Float) (i j : ℕ) → near_points q (point_at dots i) (point_at dots j) ≡ near_slots q dots i j
+near_same : (q : Float) (dots : List Dot) (i j : ℕ) → near_points q (point_at dots i) (point_at dots j) ≡ near_slots q dots i j
 unfolding near_points near_slots point_at sub mul add lt
 near_same q dots zero j = refl
 near_same q dots (suc i) zero = rw (eqb-suc-zero i) (none_near q (dot_at dots (suc i - 1)).x _)
 near_same q dots (suc i) (suc j) = rw (eqb-suc-zero i, eqb-suc-zero j)
 
-close_same : (q : Float) (dots : List Float) (x y nx ny : ℕ) → close_points q (point_at dots x) (point_at dots y) (point_at dots nx) (point_at dots ny) ≡ close_slots q dots x y nx ny
+close_same : (q : Float) (dots : List Dot) (x y nx ny : ℕ) → close_points q (point_at dots x) (point_at dots y) (point_at dots nx) (point_at dots ny) ≡ close_slots q dots x y nx ny
 close_same q dots x y nx ny = λ i. cond (near_same q dots x y i) true (cond (near_same q dots x ny i) true (near_same q dots nx y i))
 
 none_noted : (n m : ℕ) → get_or (replicate n false) m false ≡ false
@@ -49,7 +50,7 @@ any-set [] k h = absurd (omega arith)
 any-set (b ∷ l) zero h = refl
 any-set (b ∷ l) (suc k) h = ap (λ (d : Bool). b || d) (any-set l k (omega arith)) ∙ or-true b
 
-module _ {q : Float} {dots : List Float} {a b : List ℕ} {from to : ℕ} (w : CloseWithin q dots a b from to) where
+module _ {q : Float} {dots : List Dot} {a b : List ℕ} {from to : ℕ} (w : CloseWithin q dots a b from to) where
   noting-start : {close : List Bool} {x y : Point} → close ≡ replicate SCANS false → x ≡ point_at dots (get_or a from 0) → y ≡ point_at dots (get_or b from 0) → Noting q dots a b close false from x y
   unfolding any
   noting-start {close} e x y =
@@ -102,9 +103,6 @@ loop-k-init c =
     let p = c.requires in
     noting-start p.0 p.1 (c.point_at-x.ensures ∙ ap (point_at _) c.slot.ensures) (c.point_at-y.ensures ∙ ap (point_at _) c.slot-2.ensures)
 
-pub bounds-close-k : goal.bounds-close-k
-bounds-close-k c = omega (arith, c.requires.0.few)
-
 pub loop-k-preserved : goal.loop-k-preserved
 loop-k-preserved c =
     let p = c.requires in
@@ -118,7 +116,5 @@ loop-k-preserved c =
       | else-close_points w ↦ rw (w.close-is, w.found-is) (noting-apart p.0 o.invariant t n m r w.if-close_points.false)
     ]
 
-pub returns : goal.returns
-returns c =
-    let o = c.loop-k.invariant in
-    record { scans = noting-done c.requires.0 o c.loop-k-test.false; any = o.any }
+pub returns-clause-scans : goal.returns-clause-scans
+returns-clause-scans c = noting-done c.requires.0 c.loop-k.invariant c.loop-k-test.false

@@ -5,12 +5,13 @@ use Prim.Native.Nat.{ℕ, ◌≤◌, ◌<◌}
 use lib.ListN.{length, get_or}
 use lib.Ieee.{Float}
 use Rattle.bounds.specs.Bounds.{SCANS}
+use Rattle.cost.specs.declared.Dot.{Dot}
 use Rattle.search_neighbours.specs.declared.Point.{Point}
 use Rattle.search_neighbours.specs.Near.{close_at, any_close, point_at}
 use Rattle.search_neighbours.proofs.close_scans.Given as goal
 
 -- up to scan k the scans are noted, from there on none; x and y are where the detections of the rows in scan k lie
-pub record Noting (q : Float) (dots : List Float) (a b : List ℕ) (close : List Bool) (found : Bool) (k : ℕ) (x y : Point) : Type 0 where
+pub record Noting (q : Float) (dots : List Dot) (a b : List ℕ) (close : List Bool) (found : Bool) (k : ℕ) (x y : Point) : Type 0 where
   pub long : length close ≡ SCANS
   pub noted : (m : ℕ) → m < k → get_or close m false ≡ close_at q dots a b m
   pub left : (m : ℕ) → k ≤ m → get_or close m false ≡ false

@@ -6,27 +6,11 @@ use Rattle.fgo_spec.specs.Searching.{◌⊕◌}
 use Rattle.search_merge.proofs.Merged.{shared-turned}
 use Rattle.search_pair.proofs.best_of_pair.Goals as goal
 
-pub best_swap-swap-requires : goal.best_swap-swap-requires
-best_swap-swap-requires c =
-    let cut = c.is_cut-cut.ensures in
-    record {
-      paid_a = c.requires.0;
-      paid_b = c.requires.1;
-      exchanged_a = λ t. c.exchanged_cost-xa.ensures.by_cut (cut ∙ t);
-      exchanged_b = λ t. c.exchanged_cost-xb.ensures.by_cut (cut ∙ t);
-    }
-
-pub better_merge-best-requires : goal.better_merge-best-requires
-better_merge-best-requires c = (c.overlap_of-o.ensures, c.requires.0, c.exchanged_cost-xa.ensures.by_merge)
-
-pub better_merge-requires : goal.better_merge-requires
-better_merge-requires c =
+pub invariant_of-into_b-clause-lie : goal.invariant_of-into_b-clause-lie
+invariant_of-into_b-clause-lie c =
     let a = c.args.a.now.row.now in
-    let b = c.args.b.now.row.now in (
-      rw (c.turned-back.ensures, c.overlap_of-o.ensures) (λ i. record { shared = shared-turned a b i; mine = alone_rows b a; theirs = alone_rows a b }),
-      c.requires.1,
-      c.exchanged_cost-xb.ensures.by_merge,
-    )
+    let b = c.args.b.now.row.now in
+    rw (c.turned.ensures, c.overlap_of-overlap.ensures) (λ i. record { shared = shared-turned a b i; mine = alone_rows b a; theirs = alone_rows a b })
 
 pub returns : goal.returns
 unfolding best_pair_row

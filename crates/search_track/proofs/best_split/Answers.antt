@@ -3,7 +3,7 @@ use Rattle.std.specs.Prelude.{Option}
 use Rattle.cost.specs.Cost.{view_in}
 use borrow.Author.Count.{below_more}
 use mathlib.Core.Path.{◌≡◌, refl, sym, ap, ◌∙◌}
-use mathlib.Core.Bool.{Bool, true, false}
+use mathlib.Core.Bool.{Bool, true, false, cond}
 use mathlib.Core.List.{List, [], ◌∷◌, map, foldl}
 use Prim.Native.Nat.{ℕ, ◌+◌, ◌≤◌, ◌<◌}
 use native.Mathlib.Omega.{arith}
@@ -25,7 +25,7 @@ use Rattle.cost_row.proofs.Left.{left, left_yes, left_no, left_over}
 use Rattle.cost_row.proofs.Heads.{begins, passes, on_to_lem, taken_on, until, few_on}
 use Rattle.search_track.proofs.best_split.Invariants.{Splits, after, best_after}
 use Rattle.search_track.proofs.best_split.Goals as goal
-use Rattle.search_track.proofs.best_split.Goals.{else-w-k-gt0, then-w-k-gt0}
+use Rattle.search_track.proofs.best_split.Goals.{else-w-k-gt0, then-w-k-gt0, else-seen, then-seen}
 
 -- the drop of the detection in scan k is noted
 module _ {c : FgoConfig} {v : View} {p : Fold} {r : List ℕ} {base : Float} {k : ℕ} {gains : List Float} (d : DropGains c v p r base k gains) where
@@ -52,7 +52,7 @@ module _ {c : FgoConfig} {v : View} {p : Fold} {r : List ℕ} {base : Float} {en
   at l q = ap (λ (m : List ℕ). foldl better_track best (map (try_split_row c v p r base) (after seen m))) (sym q)
 
   -- a detection; there is no split before the first
-  tries : k < end → has_slot r k ≡ true → {f : Fold} {b : Option TrackMove} {g : Float} → f ≡ on_to c v done k r fold → b ≡ better_split c v best seen f r k base → g ≡ drop_gain c v f r k base →
+  tries : k < end → has_slot r k ≡ true → {f : Fold} {b : Option TrackMove} {g : Float} → f ≡ on_to c v done k r fold → b ≡ cond seen (better_split c v best f r k base) best → g ≡ drop_gain c v f r k base →
       Splits c v p r base end (set gains k g) b f k true (k + 1)
   tries g t {f} ef eb eg =
       let h : k < SCANS = omega (arith, e.within) in
@@ -65,7 +65,7 @@ module _ {c : FgoConfig} {v : View} {p : Fold} {r : List ℕ} {base : Float} {en
       }
     where
       split : (b : Bool) → f ≡ head_of c v p r k →
-          best_after c v p r base true (k + 1) (better_split c v best b f r k base) ≡ foldl better_track best (map (try_split_row c v p r base) (after b (k ∷ left (has_slot r) SCANS (k + 1))))
+          best_after c v p r base true (k + 1) (cond b (better_split c v best f r k base) best) ≡ foldl better_track best (map (try_split_row c v p r base) (after b (k ∷ left (has_slot r) SCANS (k + 1))))
       split true q =
           unfold try_split_row in
           ap (λ (x : Fold). best_after c v p r base true (k + 1) (better_track best (Split (scan_at v k) (sub binary64 (add binary64 (closed c x) (cost c Fresh (measurements v k (drop k r)))) base)))) q
@@ -86,9 +86,6 @@ module _ {c : FgoConfig} {v : View} {p : Fold} {r : List ℕ} {base : Float} {en
       none : (b : Bool) → best ≡ foldl better_track best (map (try_split_row c v p r base) (after b []))
       none true = refl
       none false = refl
-
-  noted : end ≤ k → DropGains c v p r base end gains
-  noted g = record { long = s.drops.long; each = λ j l. s.drops.each j (omega arith) }
 
 pub loop-k-init : goal.loop-k-init
 unfolding best_split_row marks
@@ -118,12 +115,9 @@ loop-k-preserved c =
     let e = c.args.w.now.ends in
     let g = c.loop-k-test.true in
     elim c.if-w-k-gt0.branch [
-      | then-w-k-gt0 w ↦ rw (w.gains-is, w.best-is, w.fold-is, w.done-is, w.seen-is) (tries e i g (lt-ltb _ _ w.if-w-k-gt0.true) w.fold_to-fold.ensures w.better_split-best.ensures w.drop_gain.ensures)
+      | then-w-k-gt0 w ↦ rw (w.gains-is, w.best-is, w.fold-is, w.done-is, w.seen-is) (tries e i g (lt-ltb _ _ w.if-w-k-gt0.true) w.fold_to-fold.ensures (elim w.if-seen.branch [ then-seen v ↦ rw v.if-seen.true (v.best-is ∙ v.better_split-best.ensures) | else-seen v ↦ rw (v.if-seen.false, v.best-is) refl ]) w.drop_gain.ensures)
       | else-w-k-gt0 w ↦ rw (w.gains-is, w.best-is, w.fold-is, w.done-is, w.seen-is) (skips e i g (le-ltb _ _ w.if-w-k-gt0.false))
     ]
 
-pub returns : goal.returns
-returns c =
-    let i = c.loop-k.invariant in
-    let e = c.args.w.now.ends in
-    record { best = ends e i c.loop-k-test.false; drop_gains = noted e i c.loop-k-test.false }
+pub returns-clause-best : goal.returns-clause-best
+returns-clause-best c = ends c.args.w.now.ends c.loop-k.invariant c.loop-k-test.false

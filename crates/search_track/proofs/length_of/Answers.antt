@@ -1,24 +1,26 @@
-use borrow.Author.Tests.{lt-ltb, le-ltb}
-use mathlib.Core.Path.{ap}
-use native.Mathlib.Nat.{zero-add}
-use native.Mathlib.Omega.{arith}
-use lib.ListN.{length}
+use Rattle.std.proofs.Common.{◌≡◌, ℕ, suc, ◌+◌, Bool, true, false, List, [], ◌∷◌, length, get_or, ltb, refl, sym, ap, ◌∙◌, zero-add, rules, arith}
+use Rattle.std.proofs.lemmas.List.Sums.{length-filter}
+use Rattle.std.specs.List.{count_by, filter}
 use Rattle.bounds.specs.Bounds.{SCANS}
+use Rattle.fgo_spec.specs.Lists.{cons_if, keep, up_from}
 use Rattle.search_rows.specs.Moves.{has_slot}
 use Rattle.search_track.specs.Track.{marks}
-use Rattle.cost_row.proofs.Left.{left_yes, left_no, left_none}
 use Rattle.search_track.proofs.length_of.Goals as goal
-use Rattle.search_track.proofs.length_of.Goals.{else-x-gt0, then-x-gt0}
 
-pub loop-x-init : goal.loop-x-init
+-- of the scans from k on, those in which the rest of a row has a detection
+marks_from : (t : ℕ → Bool) (k : ℕ) (r : List ℕ) → ((j : ℕ) → t (k + j) ≡ ltb 0 (get_or r j 0)) → length (keep t (up_from k (length r))) ≡ length (filter (λ x. ltb 0 x) r)
+unfolding keep up_from
+marks_from t k [] h = refl
+marks_from t k (x ∷ r) h = go (t k) (ap t (omega arith) ∙ h 0) (marks_from t (suc k) r (λ j. ap t (omega arith) ∙ h (suc j)))
+  where
+    go : (b : Bool) → b ≡ ltb 0 x → length (keep t (up_from (suc k) (length r))) ≡ length (filter (λ x. ltb 0 x) r) →
+        length (cons_if b k (keep t (up_from (suc k) (length r)))) ≡ length (filter (λ x. ltb 0 x) (x ∷ r))
+    go true q rest = rw (← q) (ap suc rest)
+    go false q rest = rw (← q) rest
+
+marks_counted : (r : List ℕ) → length r ≡ SCANS → length (marks r) ≡ count_by (λ x. ltb 0 x) r
 unfolding marks
-loop-x-init c = (omega arith, zero-add (length (marks c.args.row.now)))
-
-pub loop-x-preserved : goal.loop-x-preserved
-loop-x-preserved c = elim c.if-x-gt0.branch [
-  | then-x-gt0 w ↦ let e = ap length (left_yes (has_slot c.args.row.now) SCANS c.loop-x.x-index (omega arith) (lt-ltb _ _ w.if-x-gt0.true)) in let q = w.n-is in (omega arith, omega arith)
-  | else-x-gt0 w ↦ let e = ap length (left_no (has_slot c.args.row.now) SCANS c.loop-x.x-index (omega arith) (le-ltb _ _ w.if-x-gt0.false)) in let q = w.n-is in (omega arith, omega arith)
-]
+marks_counted r l = ap (λ n. length (keep (has_slot r) (up_from 0 n))) (sym l) ∙ marks_from (has_slot r) 0 r (λ j. ap (has_slot r) (zero-add j)) ∙ length-filter (λ x. ltb 0 x) r
 
 pub returns : goal.returns
-returns c = let e = ap length (left_none (has_slot c.args.row.now) SCANS c.loop-x.x-index (omega arith)) in omega arith
+returns c = search (rules, marks_counted c.args.row.now c.told-row)

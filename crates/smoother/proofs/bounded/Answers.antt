@@ -3,10 +3,10 @@ use Rattle.std.proofs.lemmas.Bool.Decides.{nat_tests}
 use Rattle.smoother_window.specs.Config as Config
 use Rattle.smoother.proofs.bounded.Goals as goal
 
-pub returns-then-c-ge1 : goal.returns-then-c-ge1
+pub returns-then-c-le-LAG : goal.returns-then-c-le-LAG
 unfolding Config.bounded
-returns-then-c-ge1 c = grind (arith, nat_tests)
+returns-then-c-le-LAG c = let v = c.contains.ensures.value in rw v (grind (arith, nat_tests))
 
-pub returns-else-c-ge1 : goal.returns-else-c-ge1
+pub returns-else-c-le-LAG : goal.returns-else-c-le-LAG
 unfolding Config.bounded
-returns-else-c-ge1 c = grind (arith, nat_tests)
+returns-else-c-le-LAG c = grind (arith, nat_tests)

@@ -2,17 +2,18 @@ use mathlib.Core.Path.{sym, ◌∙◌}
 use Rattle.smoother.specs.Promise.{later_refusal}
 use Rattle.smoother.proofs.Refusals.{bounds, fitting}
 use Rattle.smoother.proofs.check_call.Goals as goal
+use Rattle.smoother.proofs.check_call.Goals.{then-not-bounded-via-then-not-bounded, then-not-bounded-via-else-not-bounded+then-not-window_fits}
 
 pub returns-then-not-bounded : goal.returns-then-not-bounded
 unfolding later_refusal
-returns-then-not-bounded c = rw (sym c.bounded.ensures ∙ c.if-not-bounded.true)
+returns-then-not-bounded c =
+    elim c.then-not-bounded.branch [
+      | then-not-bounded-via-then-not-bounded w ↦ rw (sym c.bounded.ensures ∙ w.if-not-bounded.true)
+      | then-not-bounded-via-else-not-bounded+then-not-window_fits w ↦ rw (sym c.bounded.ensures ∙ w.if-not-bounded.false, sym w.window_fits.ensures ∙ w.if-not-window_fits.true)
+    ]
 
 pub window_fits-requires : goal.window_fits-requires
 window_fits-requires c = bounds c.args.s.config (sym c.bounded.ensures ∙ c.if-not-bounded.false)
-
-pub returns-then-not-window_fits : goal.returns-then-not-window_fits
-unfolding later_refusal
-returns-then-not-window_fits c = rw (sym c.bounded.ensures ∙ c.if-not-bounded.false, sym c.window_fits.ensures ∙ c.if-not-window_fits.true)
 
 pub invariant_of-window : goal.invariant_of-window
 invariant_of-window c =

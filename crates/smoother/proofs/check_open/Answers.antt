@@ -3,14 +3,15 @@ use Rattle.smoother_window.specs.Config.{legal}
 use Rattle.smoother.specs.Smoother.{open_refusal}
 use Rattle.smoother.proofs.Refusals.{bounds}
 use Rattle.smoother.proofs.check_open.Goals as goal
+use Rattle.smoother.proofs.check_open.Goals.{then-not-bounded-via-then-not-bounded, then-not-bounded-via-else-not-bounded+then-not-is_finite}
 
 pub returns-then-not-bounded : goal.returns-then-not-bounded
 unfolding open_refusal legal
-returns-then-not-bounded c = rw (sym c.bounded.ensures ∙ c.if-not-bounded.true)
-
-pub returns-then-not-is_finite : goal.returns-then-not-is_finite
-unfolding open_refusal legal
-returns-then-not-is_finite c = rw (sym c.bounded.ensures ∙ c.if-not-bounded.false, sym c.is_finite.ensures ∙ c.if-not-is_finite.true)
+returns-then-not-bounded c =
+    elim c.then-not-bounded.branch [
+      | then-not-bounded-via-then-not-bounded w ↦ rw (sym c.bounded.ensures ∙ w.if-not-bounded.true)
+      | then-not-bounded-via-else-not-bounded+then-not-is_finite w ↦ rw (sym c.bounded.ensures ∙ w.if-not-bounded.false, sym w.is_finite.ensures ∙ w.if-not-is_finite.true)
+    ]
 
 pub window_fits-requires : goal.window_fits-requires
 window_fits-requires c = bounds c.args.c (sym c.bounded.ensures ∙ c.if-not-bounded.false)

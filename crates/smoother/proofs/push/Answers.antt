@@ -5,11 +5,10 @@ use Rattle.refusals.proofs.Refused.{numbered}
 use mathlib.Core.Path.{refl, sym, ◌∙◌}
 use lib.ListN.{length}
 use Rattle.buffers.specs.Answer.{pushed}
-use native.Mathlib.Omega.{arith}
 use Rattle.smoother_frame.specs.Frame.{frame}
 use Rattle.smoother_window.proofs.Forms.{fits}
 use Rattle.smoother.specs.Promise.{window, state_in}
-use Rattle.smoother.proofs.Refusals.{passing, some_when, none_when}
+use Rattle.smoother.proofs.Refusals.{passing, had_when, lacking_when}
 use Rattle.smoother.proofs.Calls.{due_refused, due_passed, push_malformed, refuses, push_ready, push-holds, push_gives}
 use Rattle.smoother.proofs.push.Goals as goal
 
@@ -19,28 +18,16 @@ returns-in_err-check_call c =
     let w = window g.window.now g.values.now in
     let ws = g.words.now in
     let ns = g.numbers.now in
-    let f = frame g.fw.now g.fx.now in
+    let f = frame g.frame.now.words.now g.frame.now.numbers.now in
     let r = c.in_err-check_call.field-0.0 in
     let p = err_from_is_err_and c.from_residual.result c.from_residual.ensures.1 in
     let d = due_refused (pushed f) g.s.now w ws ns c.in_err-check_call.ensures (eqb-false _ 0 (numbered r)) in
     rw (p.1, p.2) (refuses (pushed f) g.s.now w ws ns (number_of r) d refl)
 
-pub well_formed-requires : goal.well_formed-requires
-well_formed-requires c =
+pub well_formed-formed-requires : goal.well_formed-formed-requires
+well_formed-formed-requires c =
     let g = c.args in
     (passing g.s.now (window g.window.now g.values.now) (length g.words.now) (length g.numbers.now) (sym c.in_ok-check_call.ensures)).fits.tracks
-
-pub returns-in_default : goal.returns-in_default
-unfolding state_in
-returns-in_default c =
-    let g = c.args in
-    let w = window g.window.now g.values.now in
-    let ws = g.words.now in
-    let ns = g.numbers.now in
-    let f = frame g.fw.now g.fx.now in
-    let z = sym c.in_ok-check_call.ensures in
-    let h = none_when _ _ c.well_formed-2.ensures c.in_default.is in
-    refuses (pushed f) g.s.now w ws ns 5 (due_passed (pushed f) g.s.now w ws ns z ∙ push_malformed (state_in g.s.now w) f h) refl
 
 pub store-requires : goal.store-requires
 store-requires c =
@@ -48,9 +35,9 @@ store-requires c =
     let w = window g.window.now g.values.now in
     let ws = g.words.now in
     let ns = g.numbers.now in
-    let f = frame g.fw.now g.fx.now in
+    let f = frame g.frame.now.words.now g.frame.now.numbers.now in
     let z = sym c.in_ok-check_call.ensures in
-    let h = some_when _ c.well_formed-2.ensures c.in-Some.is in
+    let h = had_when _ _ c.well_formed-formed.ensures c.in_ok-frame.ensures.value in
     let p = passing g.s.now w (length ws) (length ns) z in
     record { fitting = p.fits; free = p.few; few = rw h.1 (fits g.s.now.config f h.0).tracks }
 
@@ -60,45 +47,39 @@ returns-then-s c =
     let w = window g.window.now g.values.now in
     let ws = g.words.now in
     let ns = g.numbers.now in
-    let f = frame g.fw.now g.fx.now in
+    let f = frame g.frame.now.words.now g.frame.now.numbers.now in
     let z = sym c.in_ok-check_call.ensures in
-    let h = some_when _ c.well_formed-2.ensures c.in-Some.is in
+    let h = had_when _ _ c.well_formed-formed.ensures c.in_ok-frame.ensures.value in
     let v = window c.store.new.words c.store.new.values in
     let d = rw h.1 at c.store.ensures in
     push-holds g.s.now w ws ns f z h.0 c.store.new.self v d c.if-s.true
 
-pub invariant_of-held : goal.invariant_of-held
-invariant_of-held c =
+pub returns-in_err-frame : goal.returns-in_err-frame
+unfolding state_in
+returns-in_err-frame c =
     let g = c.args in
     let w = window g.window.now g.values.now in
     let ws = g.words.now in
     let ns = g.numbers.now in
-    let f = frame g.fw.now g.fx.now in
+    let f = frame g.frame.now.words.now g.frame.now.numbers.now in
     let z = sym c.in_ok-check_call.ensures in
-    let h = some_when _ c.well_formed-2.ensures c.in-Some.is in
-    let v = window c.store.new.words c.store.new.values in
-    let d = rw h.1 at c.store.ensures in
-    record { fitting = (push_ready g.s.now w ws ns f z h.0 c.store.new.self v d).fits }
+    let h = lacking_when _ _ c.well_formed-formed.ensures c.in_err-frame.ensures.value in
+    let p = err_from_is_err_and c.from_residual-in_err-frame.result c.from_residual-in_err-frame.ensures.1 in
+    rw (p.1, p.2, h.1) (refuses (pushed f) g.s.now w ws ns 5 (due_passed (pushed f) g.s.now w ws ns z ∙ push_malformed (state_in g.s.now w) f h.0) refl)
 
-pub invariant_of-held-2 : goal.invariant_of-held-2
-invariant_of-held-2 c =
+pub emit_oldest-requires : goal.emit_oldest-requires
+emit_oldest-requires c =
     let g = c.args in
     let w = window g.window.now g.values.now in
     let ws = g.words.now in
     let ns = g.numbers.now in
-    let f = frame g.fw.now g.fx.now in
+    let f = frame g.frame.now.words.now g.frame.now.numbers.now in
     let z = sym c.in_ok-check_call.ensures in
-    let h = some_when _ c.well_formed-2.ensures c.in-Some.is in
+    let h = had_when _ _ c.well_formed-formed.ensures c.in_ok-frame.ensures.value in
     let v = window c.store.new.words c.store.new.values in
     let d = rw h.1 at c.store.ensures in
-    let q = push_ready g.s.now w ws ns f z h.0 c.store.new.self v d in
-    record { few = q.few; counted = q.counts }
-
-pub emit_oldest-size-requires : goal.emit_oldest-size-requires
-emit_oldest-size-requires c =
-    let g = c.args in
-    let p = passing g.s.now (window g.window.now g.values.now) (length g.words.now) (length g.numbers.now) (sym c.in_ok-check_call.ensures) in
-    record { some = omega (arith, c.if-s.false); words = p.words; numbers = p.numbers }
+    let p = passing g.s.now w (length ws) (length ns) z in
+    record { ready = push_ready g.s.now w ws ns f z h.0 c.store.new.self v d; words = p.words; numbers = p.numbers }
 
 pub returns : goal.returns
 returns c =
@@ -106,9 +87,9 @@ returns c =
     let w = window g.window.now g.values.now in
     let ws = g.words.now in
     let ns = g.numbers.now in
-    let f = frame g.fw.now g.fx.now in
+    let f = frame g.frame.now.words.now g.frame.now.numbers.now in
     let z = sym c.in_ok-check_call.ensures in
-    let h = some_when _ c.well_formed-2.ensures c.in-Some.is in
+    let h = had_when _ _ c.well_formed-formed.ensures c.in_ok-frame.ensures.value in
     let v = window c.store.new.words c.store.new.values in
     let d = rw h.1 at c.store.ensures in
-    rw c.drop_oldest.ensures (push_gives g.s.now w ws ns f z h.0 c.store.new.self v d c.if-s.false c.emit_oldest-size.ensures c.emit_oldest-size.auto.words c.emit_oldest-size.auto.numbers)
+    push_gives g.s.now w ws ns f z h.0 c.store.new.self v d c.if-s.false c.emit_oldest.ensures c.emit_oldest.auto.words c.emit_oldest.auto.numbers

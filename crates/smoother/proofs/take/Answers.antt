@@ -31,23 +31,15 @@ returns-then-s-eq0 c =
     let ns = g.numbers.now in
     refuses taken g.s.now w ws ns 13 (due_passed taken g.s.now w ws ns (sym c.in_ok-check_call.ensures) ∙ none_held g.s.now w c.if-s-eq0.true) refl
 
-pub invariant_of-held : goal.invariant_of-held
-invariant_of-held c =
+pub emit_oldest-requires : goal.emit_oldest-requires
+emit_oldest-requires c =
     let g = c.args in
     let p = passing g.s.now (window g.window.now g.values.now) (length g.words.now) (length g.numbers.now) (sym c.in_ok-check_call.ensures) in
-    record { fitting = p.fits }
-
-pub invariant_of-held-2 : goal.invariant_of-held-2
-invariant_of-held-2 c =
-    let g = c.args in
-    let p = passing g.s.now (window g.window.now g.values.now) (length g.words.now) (length g.numbers.now) (sym c.in_ok-check_call.ensures) in
-    record { few = omega (arith, p.few); counted = p.counted }
-
-pub emit_oldest-size-requires : goal.emit_oldest-size-requires
-emit_oldest-size-requires c =
-    let g = c.args in
-    let p = passing g.s.now (window g.window.now g.values.now) (length g.words.now) (length g.numbers.now) (sym c.in_ok-check_call.ensures) in
-    record { some = omega (arith, c.if-s-eq0.false); words = p.words; numbers = p.numbers }
+    record {
+      ready = record { fits = p.fits; few = omega (arith, p.few); some = omega (arith, c.if-s-eq0.false); counted = p.counted };
+      words = p.words;
+      numbers = p.numbers;
+    }
 
 pub returns : goal.returns
 unfolding takes
@@ -56,4 +48,4 @@ returns c =
     let w = window g.window.now g.values.now in
     let ws = g.words.now in
     let ns = g.numbers.now in
-    rw c.drop_oldest.ensures (gives_oldest taken g.s.now w ws ns g.s.now w refl refl (due_passed taken g.s.now w ws ns (sym c.in_ok-check_call.ensures)) (omega (arith, c.if-s-eq0.false)) c.emit_oldest-size.ensures c.emit_oldest-size.auto.words c.emit_oldest-size.auto.numbers)
+    gives_oldest taken g.s.now w ws ns g.s.now w refl refl (due_passed taken g.s.now w ws ns (sym c.in_ok-check_call.ensures)) (omega (arith, c.if-s-eq0.false)) c.emit_oldest.ensures c.emit_oldest.auto.words c.emit_oldest.auto.numbers

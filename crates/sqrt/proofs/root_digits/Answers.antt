@@ -1,4 +1,4 @@
-use Rattle.std.proofs.Common.{lt_of_lt_of_le, arith, pow_mono}
+use Rattle.std.proofs.Common.{arith}
 use Rattle.scalar.proofs.RootDigits.{under, next_one, next_zero, done}
 use Rattle.sqrt.proofs.root_digits.Goals as goal
 use Rattle.sqrt.proofs.root_digits.Goals.{then-d-t, else-d-t}
@@ -25,6 +25,4 @@ loop-preserved c =
     ]
 
 pub returns : goal.returns
-returns c =
-    let v = c.loop.invariant in
-    record { square = done v (omega (arith, v.within)); floor = v.small; short = lt_of_lt_of_le v.short (pow_mono {j = 53} v.within) }
+returns c = let v = c.loop.invariant in done v (omega (arith, v.within))

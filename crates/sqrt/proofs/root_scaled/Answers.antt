@@ -10,13 +10,13 @@ found :
 found h f square floor short = record { plus = h.0; few = h.1; low = h.2; full = f; whole = square; rest = floor; under = short }
 
 pub float_from_bits-result : goal.float_from_bits-result
-float_from_bits-result c = no_nan _ (omega (arith, exponent-lt c.full_digits-full.ensures c.requires.2, c.whole_root-root.ensures.short))
+float_from_bits-result c = no_nan _ (omega (arith, exponent-lt c.full_digits-full.ensures c.requires.2, c.whole_root-root.result.short))
 
 pub returns-then-rest-root : goal.returns-then-rest-root
-returns-then-rest-root c = let w = c.whole_root-root.ensures in down_is (found c.requires c.full_digits-full.ensures w.square w.floor w.short) c.if-rest-root.true
+returns-then-rest-root c = let w = c.whole_root-root.result in down_is (found c.requires c.full_digits-full.ensures c.whole_root-root.ensures w.floor w.short) c.if-rest-root.true
 
 pub float_from_bits-result-2 : goal.float_from_bits-result-2
-float_from_bits-result-2 c = no_nan _ (omega (arith, exponent-lt c.full_digits-full.ensures c.requires.2, c.whole_root-root.ensures.short))
+float_from_bits-result-2 c = no_nan _ (omega (arith, exponent-lt c.full_digits-full.ensures c.requires.2, c.whole_root-root.result.short))
 
 pub returns : goal.returns
-returns c = let w = c.whole_root-root.ensures in up_is (found c.requires c.full_digits-full.ensures w.square w.floor w.short) c.if-rest-root.false
+returns c = let w = c.whole_root-root.result in up_is (found c.requires c.full_digits-full.ensures c.whole_root-root.ensures w.floor w.short) c.if-rest-root.false

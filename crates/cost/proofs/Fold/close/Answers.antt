@@ -1,13 +1,10 @@
+use mathlib.Core.Logic.{⊎_elim}
 use Rattle.cost.specs.Cost.{closed}
 use Rattle.cost.proofs.Fold.close.Goals as goal
 
 pub returns-in-Fresh : goal.returns-in-Fresh
 unfolding closed
-returns-in-Fresh c = rw c.in-Fresh.is
-
-pub returns-in-Frozen : goal.returns-in-Frozen
-unfolding closed
-returns-in-Frozen c = rw c.in-Frozen.is
+returns-in-Fresh c = ⊎_elim (λ e. rw e) (λ k. rw k.2) c.in-Fresh.is
 
 pub returns-in-Going : goal.returns-in-Going
 unfolding closed

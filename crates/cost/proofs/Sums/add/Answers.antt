@@ -3,4 +3,4 @@ use Rattle.cost.proofs.Sums.add.Goals as goal
 
 pub returns : goal.returns
 unfolding added
-returns c = rw (c.update_by-u.ensures, c.predict-p.ensures, c.requires.1)
+returns c = rw (c.update_by-nll.ensures, c.predict-p.ensures, c.skipped.ensures)

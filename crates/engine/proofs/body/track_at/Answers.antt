@@ -15,4 +15,4 @@ overflow_cast-u32_at c = record { fits = omega (arith, c.u32_at.ensures, little_
 
 pub returns : goal.returns
 unfolding track_at
-returns c = rw (c.u64_at.ensures, c.class_of-class.ensures, c.u32_at.ensures)
+returns c = rw (c.u64_at.ensures, c.present-class.ensures, c.u32_at.ensures)

@@ -14,8 +14,8 @@ loop-k-preserved c = let f = c.args in
       omega arith,
       v.1,
       elim c.if-x-gt0.branch [
-        | then-x-gt0 w ↦ changed f.ids.now f.engines.now f.starts.now f.held f.owners.now l.k l.owners v.2 c.engine_at-e.ensures c.latest_in-x.ensures few w.if-x-gt0.true (w.owners-is ∙ w.put_owner.ensures)
-        | else-x-gt0 w ↦ rw w.owners-is (kept f.ids.now f.engines.now f.starts.now f.held f.owners.now l.k l.owners v.2 c.engine_at-e.ensures c.latest_in-x.ensures w.if-x-gt0.false)
+        | then-x-gt0 w ↦ changed f.gathered.now.ids f.gathered.now.engines f.gathered.now.starts f.gathered.now.held f.owners.now l.k l.owners v.2 c.engine_at-e.ensures c.latest-x.ensures few w.if-x-gt0.true (w.owners-is ∙ w.put_owner.ensures)
+        | else-x-gt0 w ↦ rw w.owners-is (kept f.gathered.now.ids f.gathered.now.engines f.gathered.now.starts f.gathered.now.held f.owners.now l.k l.owners v.2 c.engine_at-e.ensures c.latest-x.ensures w.if-x-gt0.false)
       ],
     )
 
@@ -23,4 +23,4 @@ pub returns : goal.returns
 returns c = let f = c.args in
     let l = c.loop-k in
     let v = c.loop-k.invariant in
-    all_told f.ids.now f.engines.now f.starts.now f.held f.owners.now f.owned l.k l.owners c.loop-k-test.false v.2
+    all_told f.gathered.now.ids f.gathered.now.engines f.gathered.now.starts f.gathered.now.held f.owners.now f.owned l.k l.owners c.loop-k-test.false v.2

@@ -10,7 +10,7 @@ use Rattle.fgo_place.proofs.Owners.{owning}
 use Rattle.fgo_place.proofs.Compacting.{compacts_none, compacts_more, compacts_same, compacts_all}
 use Rattle.fgo_place.proofs.own.keep_owners.Invariants.{lives}
 use Rattle.fgo_place.proofs.own.keep_owners.Goals as goal
-use Rattle.fgo_place.proofs.own.keep_owners.Goals.{then-is_live, else-is_live}
+use Rattle.fgo_place.proofs.own.keep_owners.Goals.{then-has, else-has}
 
 pub loop-k-init : goal.loop-k-init
 loop-k-init c = compacts_none _ _ _
@@ -18,12 +18,12 @@ loop-k-init c = compacts_none _ _ _
 pub loop-k-preserved : goal.loop-k-preserved
 loop-k-preserved c = let a = c.args in
     let l = c.loop-k in
-    let few : OWNER * a.r.now.owned ≤ length a.owners.now = omega (arith, c.requires) in
-    let lives-here : ℕ → Bool = λ x. lives a.scans.now.bodies a.scans.now.columns a.r.now.first.0 a.r.now.held a.parts.now.tracks a.r.now.frozen (engine_at l.owners l.k, x) in
-    let tested = sym (c.is_live.ensures ∙ ap lives-here c.owner_at-x.ensures) in
-    elim c.if-is_live.branch [
-      | then-is_live w ↦ compacts_more _ _ _ l.invariant c.loop-k-test.true few (tested ∙ w.if-is_live.true) (w.owners-is ∙ w.put_owner.ensures ∙ (λ i. owning l.owners l.w (w.engine_at.ensures i) (c.owner_at-x.ensures i))) w.w-is
-      | else-is_live w ↦ compacts_same _ _ _ l.invariant c.loop-k-test.true (tested ∙ w.if-is_live.false) w.owners-is w.w-is
+    let few : OWNER * a.owned ≤ length a.owners.now = omega (arith, c.requires) in
+    let lives-here : ℕ → Bool = λ x. lives a.live.now (engine_at l.owners l.k, x) in
+    let tested = sym (c.has.ensures ∙ ap lives-here c.owner_at-x.ensures) in
+    elim c.if-has.branch [
+      | then-has w ↦ compacts_more _ _ _ l.invariant c.loop-k-test.true few (tested ∙ w.if-has.true) (w.owners-is ∙ w.put_owner.ensures ∙ (λ i. owning l.owners l.w (w.engine_at.ensures i) (c.owner_at-x.ensures i))) w.w-is
+      | else-has w ↦ compacts_same _ _ _ l.invariant c.loop-k-test.true (tested ∙ w.if-has.false) w.owners-is w.w-is
     ]
 
 pub returns : goal.returns

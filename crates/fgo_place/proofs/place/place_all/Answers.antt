@@ -14,34 +14,34 @@ use Rattle.fgo_place.proofs.place.place_all.Goals as goal
 pub loop-j-init : goal.loop-j-init
 loop-j-init c = let f = c.args in
     let h = c.requires in
-    let low : f.next.0 ≤ f.next.0 + 0 = omega arith in (
+    let low : f.begun.next_id.0 ≤ f.begun.next_id.0 + 0 = omega arith in (
       omega arith,
       low,
-      (unfold placed_all in record { few = h.1; owners_long = search rules; ids_long = search rules; ids_are = refl; owners_are = refl; next_is = refl }),
+      (unfold placed_all in record { few = f.begun.few; owners_long = search rules; ids_long = search rules; ids_are = refl; owners_are = refl; next_is = refl }),
     )
 
 pub place_one-p-requires : goal.place_one-p-requires
 place_one-p-requires c = let v = c.loop-j.invariant in
     let h = c.requires in
-    let few = associations_few (body_of c.args.b.now) h.0 in
+    let few = associations_few (body_of c.args.b.now.body) c.args.b.now.passes in
     let taken = c.loop-j-test.true in
     let count = c.association_count-j-end.ensures in
-    (omega arith, v.2.few, omega arith)
+    (omega arith, omega arith)
 
 pub loop-j-preserved : goal.loop-j-preserved
 loop-j-preserved c = let f = c.args in
     let l = c.loop-j in
     let v = c.loop-j.invariant in
-    let few = associations_few (body_of c.args.b.now) c.requires.0 in
+    let few = associations_few (body_of c.args.b.now.body) c.args.b.now.passes in
     let taken = c.loop-j-test.true in
     let count = c.association_count-j-end.ensures in
     let more = c.place_one-p.ensures.next in
     let step =
-    ap (λ (k : ℕ). placed_all f.next.0 (take k (frame_in (body_of f.b.now)).associations) (begins f.owners.now f.owned f.next.0)) (add-one l.j)
-    ∙ placed-more f.next.0 (frame_in (body_of f.b.now)).associations l.j (begins f.owners.now f.owned f.next.0) (rw (associations_long (body_of f.b.now)) (omega arith)) in (
+    ap (λ (k : ℕ). placed_all f.begun.next_id.0 (take k (frame_in (body_of f.b.now.body)).associations) (begins f.owners.now f.begun.owned f.begun.next_id.0)) (add-one l.j)
+    ∙ placed-more f.begun.next_id.0 (frame_in (body_of f.b.now.body)).associations l.j (begins f.owners.now f.begun.owned f.begun.next_id.0) (rw (associations_long (body_of f.b.now.body)) (omega arith)) in (
       omega arith,
       omega arith,
-      rw (step, ← c.association.ensures.1 c.requires.0) (c.place_one-p.ensures.placed _ v.2),
+      rw (step, ← c.association.ensures) (c.place_one-p.ensures.placed _ v.2),
     )
 
 pub returns : goal.returns
@@ -50,10 +50,10 @@ returns c = let f = c.args in
     let v = c.loop-j.invariant in
     let left = c.loop-j-test.false in
     let count = c.association_count-j-end.ensures in
-    let same : c.loop-j.j ≡ associations_in (body_of f.b.now) = omega arith in
-    let all : take (associations_in (body_of f.b.now)) (frame_in (body_of f.b.now)).associations ≡ (frame_in (body_of f.b.now)).associations =
-    take_all (associations_in (body_of f.b.now)) (frame_in (body_of f.b.now)).associations (rw (associations_long (body_of f.b.now)) (omega arith)) in
+    let same : c.loop-j.j ≡ associations_in (body_of f.b.now.body) = omega arith in
+    let all : take (associations_in (body_of f.b.now.body)) (frame_in (body_of f.b.now.body)).associations ≡ (frame_in (body_of f.b.now.body)).associations =
+    take_all (associations_in (body_of f.b.now.body)) (frame_in (body_of f.b.now.body)).associations (rw (associations_long (body_of f.b.now.body)) (omega arith)) in
     rw all at
     (subst
-    (λ (k : ℕ). Placed k (placed_all f.next.0 (take k (frame_in (body_of f.b.now)).associations) (begins f.owners.now f.owned f.next.0)) l.p l.owners l.ids)
+    (λ (k : ℕ). Placed k (placed_all f.begun.next_id.0 (take k (frame_in (body_of f.b.now.body)).associations) (begins f.owners.now f.begun.owned f.begun.next_id.0)) l.p l.owners l.ids)
     same v.2)

@@ -6,4 +6,4 @@ use Rattle.fgo_place.proofs.place.place_all.Given as goal
 
 abbrev pub invariant-loop-j : goal.invariant-loop-j
 invariant-loop-j l =
-    (l.j ≤ associations_in (body_of l.b)) × (l.p.next_id.0 ≤ l.next.0 + l.j) × Placed l.j (placed_all l.next.0 (take l.j (frame_in (body_of l.b)).associations) (begins l.initial.owners l.owned l.next.0)) l.p l.owners l.ids
+    (l.j ≤ associations_in (body_of l.b.body)) × (l.p.next_id.0 ≤ l.begun.next_id.0 + l.j) × Placed l.j (placed_all l.begun.next_id.0 (take l.j (frame_in (body_of l.b.body)).associations) (begins l.initial.owners l.begun.owned l.begun.next_id.0)) l.p l.owners l.ids

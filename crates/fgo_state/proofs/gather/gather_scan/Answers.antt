@@ -64,10 +64,10 @@ loop-j-preserved c =
     let v = c.loop-j in
     let e = c.association_count-j-end.ensures in
     let l = c.loop-j-test.true in
-    let few : v.j < associations_in (body_of a.b.now) = omega arith in
+    let few : v.j < associations_in (body_of a.b.now.body) = omega arith in
     let i = c.id_at-id.ensures in
     elim c.if-id-gt0.branch [
-      | then-id-gt0 w ↦ gathers_held _ _ _ _ _ _ c.requires v.invariant few i w.if-id-gt0.true (w.engine_of.ensures c.requires.passes) w.ids-is w.engines-is w.p-is
+      | then-id-gt0 w ↦ gathers_held _ _ _ _ _ _ c.requires v.invariant few i w.if-id-gt0.true w.engine_of.ensures w.ids-is w.engines-is w.p-is
       | else-id-gt0 w ↦ gathers_clutter _ _ _ _ _ _ c.requires v.invariant few i (omega (arith, w.if-id-gt0.false)) w.ids-is w.engines-is w.p-is
     ]
 

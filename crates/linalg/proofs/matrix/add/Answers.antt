@@ -1,15 +1,9 @@
-use Rattle.std.proofs.Common.{refl}
-use Rattle.std.proofs.lemmas.List.{length-replicate}
+use Rattle.std.proofs.Common.{rules}
+use Rattle.scalar.specs.F64.{f64}
 use Rattle.linalg.specs.Matrix as Matrix
-use Rattle.linalg.proofs.Fill.{begun, next, done}
+use Rattle.linalg.proofs.Made.{made_of}
 use Rattle.linalg.proofs.matrix.add.Goals as goal
-
-pub loop-k-init : goal.loop-k-init
-loop-k-init g c = begun (length-replicate _ _)
-
-pub loop-k-preserved : goal.loop-k-preserved
-loop-k-preserved g c = next c.loop-k.invariant c.loop-k-test.true refl
 
 pub returns : goal.returns
 unfolding Matrix.add
-returns g c = done c.loop-k.invariant c.loop-k-test.false
+returns g c = made_of _ (λ k. f64.add (Matrix.at f64 c.args.a.now k) (Matrix.at f64 c.args.b.now k)) _ _ (λ k x t l e. search rules) _ c.from_fn.ensures.items

@@ -1,7 +1,7 @@
 use Rattle.print.proofs.Putting.{puts_more, puts_same}
 use Rattle.print.specs.Text.{track_line, assoc_line, texts, short_form}
 use Rattle.bounds.specs.Bounds.{HEAD, TRACK, LINK}
-use mathlib.Core.Path.{ap}
+use mathlib.Core.Path.{ap, ◌∙◌}
 use mathlib.Core.List.{List}
 use Prim.Native.Nat.{ℕ, ◌+◌, ◌*◌}
 use Rattle.print.proofs.short.put_frame.Goals as goal
@@ -15,4 +15,4 @@ returns c =
     let lines : ℕ → ℕ → List ℕ = λ k m. texts (λ j. assoc_line w (HEAD + TRACK * k + LINK * j)) m in
     puts_more c.put_head-a.ensures
     (puts_more (puts_same (ap (texts (track_line w c.args.x.now)) t) c.put_tracks-b.ensures)
-    (puts_same (λ i. lines (t i) (a i)) c.put_associations.ensures))
+    (puts_same (ap (λ o. texts (λ j. assoc_line w (o + LINK * j)) c.of-counts.result.associations) c.associations_from.ensures ∙ (λ i. lines (t i) (a i))) c.put_associations.ensures))

@@ -1,4 +1,4 @@
-use Rattle.search.specs.Pass.{scene_of}
+use Rattle.search.specs.Lent.{scene_in}
 use Rattle.search.proofs.GatheredStanding.{gathered_now, gathered-standing}
 use Rattle.search.proofs.PassLawsHold.{laws_hold}
 use Rattle.search.proofs.PassFinds.{finds}
@@ -7,7 +7,7 @@ use Rattle.search.proofs.pass.improve.Goals as goal
 pub returns : goal.returns
 returns c =
     let s = c.args in
-    let e = scene_of s.hall s.starts.now s.dots.now s.parts.now.tracks s.parts.now.filters in
-    let able = c.requires in
+    let e = scene_in s.scene.now in
+    let able = s.scene.now.able in
     let r = c.run_passes.ensures in
-    record { long = r.long; finds = λ ps ss g. finds e s.next.0 s.counters s.ids.now ps ss (laws_hold e ps ss g.parts) (gathered-standing g able.starts) (gathered_now g) g able _ r.passed }
+    λ ps ss g. finds e s.next.0 s.counters s.ids.now ps ss (laws_hold e ps ss g.parts) (gathered-standing g able.starts) (gathered_now g) g able _ r

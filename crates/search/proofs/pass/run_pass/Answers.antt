@@ -1,31 +1,31 @@
-use Rattle.search.specs.Lent.{scene_in}
 use mathlib.Core.Path.{ap, ◌∙◌}
 use lib.ListN.{take}
 use Rattle.search_rows.specs.Moves.{begun}
-use Rattle.search.specs.Pass.{visit}
+use Rattle.search.specs.Lent.{scene_in}
+use Rattle.search.specs.Pass.{Progress, progress_of, sweep, visit}
 use Rattle.search.proofs.IdsAscend.{present_listed}
 use Rattle.search.proofs.Passes.{pass_is, pass_leaves}
 use Rattle.search.proofs.pass.run_pass.Goals as goal
 
-pub sweep_pairs-requires : goal.sweep_pairs-requires
-sweep_pairs-requires c =
+pub invariant_of-pass : goal.invariant_of-pass
+invariant_of-pass c =
     let b = c.begin_pass.ensures in
-    (present_listed c.args.scene.now.detections c.args.ids.now _ _ b.listed, b.due, b.swept)
+    record { ids = present_listed c.args.scene.now.detections c.args.course.now.ids _ _ b.listed; due = b.due }
 
-pub visit_tracks-requires : goal.visit_tracks-requires
-visit_tracks-requires c =
-    let b = c.begin_pass.ensures in
-    (present_listed c.args.scene.now.detections c.args.ids.now _ _ b.listed, b.due, c.sweep_pairs.ensures.swept)
-
-pub returns : goal.returns
-returns c =
+pub returns-clause-passed : goal.returns-clause-passed
+returns-clause-passed c =
     let s = c.args in
     let e = scene_in s.scene.now in
     let b = c.begin_pass.ensures in
     let l = c.begin_pass.new.list in
-    let w = c.sweep_pairs.ensures.swept_all s.ids.now b.rows in
+    let w = c.sweep_pairs.ensures.swept_all s.course.now.ids b.rows in
+    let start = ap (λ (p : Progress). sweep e s.course.now.ids (take l.count l.table) (progress_of p.ids c.begin-course.result)) b.stays in
+    pass_is e s.course.now.ids s.course.now.tally l.count _ b.listed.is (c.begin-course.ensures ∙ ap (λ (p : Progress). begun p.tally) b.stays)
+    (c.visit_tracks.ensures.visited ∙ ap (visit e (take l.count l.table)) (w.0 ∙ start))
+
+pub returns-clause-left : goal.returns-clause-left
+returns-clause-left c =
+    let s = c.args in
+    let b = c.begin_pass.ensures in
     let v = c.visit_tracks.ensures in
-    record {
-      passed = pass_is e s.ids.now s.course.now.tally l.count _ b.listed.is (c.begin-course.ensures ∙ ap begun b.tally) (v.visited ∙ ap (visit e (take l.count l.table)) w.0);
-      left = pass_leaves (present_listed s.scene.now.detections s.ids.now _ _ b.listed) w.1 v.visits v.grows;
-    }
+    pass_leaves (present_listed s.scene.now.detections s.course.now.ids _ _ b.listed) (c.sweep_pairs.ensures.swept_all s.course.now.ids b.rows).1 v.visits v.grows

@@ -22,4 +22,4 @@ pub returns : goal.returns
 returns c =
     let r = c.args.row.now in
     let first = IsFirst-from_position _ _ _ (λ x. 0 < x) (λ x. x ≤ 0) c.position.ensures.ran (YieldsList-from_slice r cc) (λ x q k. search (rules, tests)) (λ x q k. search (rules, tests)) in
-    c.unwrap_or.ensures ∙ ap (unwrap_or c.position.result) (sym c.requires) ∙ sym (index_from_first first_in (λ x. 0 < x) (λ x. x ≤ 0) nothing here past r c.position.result first)
+    c.unwrap_or.ensures ∙ ap (unwrap_or c.position.result) (sym c.told-row) ∙ sym (index_from_first first_in (λ x. 0 < x) (λ x. x ≤ 0) nothing here past r c.position.result first)

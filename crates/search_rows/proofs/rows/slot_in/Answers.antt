@@ -1,7 +1,7 @@
-use Rattle.std.proofs.Common.{◌≡◌, ℕ, zero, suc, ◌+◌, ◌<◌, ◌≤◌, List, [], ◌∷◌, length, get_or, refl, ◌∙◌, arith, rules, tests}
+use Rattle.std.proofs.Common.{◌≡◌, ℕ, zero, suc, ◌+◌, ◌<◌, List, [], ◌∷◌, length, get_or, refl, ◌∙◌, arith, rules, tests}
 use Rattle.std.proofs.lemmas.Iterator.{YieldsList-from_slice, IsFirst-from_position}
-use Rattle.std.proofs.lemmas.Option.{MatchOption-at_none}
-use Rattle.std.proofs.option.Match.{if_some}
+use Rattle.std.specs.Prelude.{Option, Some, None, MatchOption}
+use Rattle.std.specs.List.{AllWithin, HoldsAt}
 use borrow.Author.Tests.{eq-eqb, ne_eqb}
 use Rattle.fgo_spec.specs.Lists.{segment}
 use Rattle.search_rows.specs.Rows.{slot_in}
@@ -20,17 +20,15 @@ unfolding slot_in
 lacks x a [] n = refl
 lacks x a (y ∷ l) n = rw (ne_eqb x y (n 0 (omega arith))) (lacks x (suc a) l (λ k g. n (suc k) (omega arith)))
 
-pub returns-in-Some : goal.returns-in-Some
-returns-in-Some c =
-    let s = c.args in
-    let x = s.x.0 in
-    let first = if_some _ _ _ c.in-Some.is (IsFirst-from_position _ _ _ (λ y. x ≡ y) (λ y. x ≡ y → ⊥) c.position.ensures.ran (YieldsList-from_slice _ c.iter.ensures.rest) (λ y q k. search (rules, tests)) (λ y q k. search (rules, tests))) in
-    stands x s.a c.in-Some.i (segment s.a s.b s.ids.now) first.0 (first.1 0) (λ k h. first.2 k 0 (omega arith) h)
+slot_is : (x a : ℕ) (l : List ℕ) (o : Option ℕ) (r : ℕ) → (o ≡ None → r ≡ 0) → ((i : ℕ) → o ≡ Some i → r ≡ a + i + 1) →
+    MatchOption o (AllWithin (λ y. x ≡ y → ⊥) l 0 (length l)) (λ i. (i < length l) × HoldsAt (λ y. x ≡ y) l i × AllWithin (λ y. x ≡ y → ⊥) l 0 i) → r ≡ slot_in x a l
+slot_is x a l None r n s h = n refl ∙ lacks x a l (λ k g. h k 0 (omega arith) g)
+slot_is x a l (Some i) r n s h = s i refl ∙ stands x a i l h.0 (h.1 0) (λ k g. h.2 k 0 (omega arith) g)
 
-pub returns-in-None : goal.returns-in-None
-returns-in-None c =
+pub returns : goal.returns
+returns c =
     let s = c.args in
     let x = s.x.0 in
-    let none : (k d : ℕ) → 0 ≤ k → k < length (segment s.a s.b s.ids.now) → x ≡ get_or (segment s.a s.b s.ids.now) k d → ⊥ =
-    MatchOption-at_none _ _ c.in-None.is (IsFirst-from_position _ _ _ (λ y. x ≡ y) (λ y. x ≡ y → ⊥) c.position.ensures.ran (YieldsList-from_slice _ c.iter.ensures.rest) (λ y q k. search (rules, tests)) (λ y q k. search (rules, tests))) in
-    lacks x s.a (segment s.a s.b s.ids.now) (λ k h. none k 0 (omega arith) h)
+    let l = segment s.a s.b s.ids.now in
+    slot_is x s.a l c.position.result c.map_or.result (λ e. search (rules, e)) (λ i e. search (rules, e))
+    (IsFirst-from_position _ _ _ (λ y. x ≡ y) (λ y. x ≡ y → ⊥) c.position.ensures.ran (YieldsList-from_slice l c.iter.ensures.rest) (λ y q k. search (rules, tests)) (λ y q k. search (rules, tests)))

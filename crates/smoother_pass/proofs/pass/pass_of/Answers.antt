@@ -17,7 +17,7 @@ returns-in_err-at c =
     let m = ap (λ f. last_at id f.words (track_count f.words)) (sym c.frame-frame.ensures) ∙ sym z in
     let e = c.track_id-id.ensures ∙ ap (λ f. id_word f.words g.i) c.frame-frame.ensures in
     ap ran_back c.from_residual.ensures
-    ∙ ap (run_back (density h.state.config)) (sym (lacks h.state h.words.now h.values.now id 0 c.requires.some m) ∙ from_oldest h.state h.words.now h.values.now id ∙ ap (λ id. chain_in id (frames_of g.held.now)) e)
+    ∙ ap (run_back (density h.state.config)) (sym (lacks h.state h.words.now h.values.now id 0 g.held.now.some m) ∙ from_oldest h.state h.words.now h.values.now id ∙ ap (λ id. chain_in id (frames_of g.held.now)) e)
 
 pub returns : goal.returns
 returns c =

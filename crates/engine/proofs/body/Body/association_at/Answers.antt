@@ -12,4 +12,4 @@ f64_at-requires c = omega arith
 
 pub returns : goal.returns
 unfolding association_at
-returns c = association_read_lem c.args.self.now.kind c.args.self.now.bytes.now c.args.o (rw (little-one c.args.self.now.bytes.now c.args.o, c.associated_of-track.ensures, c.u64_at.ensures, c.from-outcome.ensures, c.cost_of-cost.ensures, c.f64_at.ensures))
+returns c = association_read_lem c.args.self.now.kind c.args.self.now.bytes.now c.args.o (rw (little-one c.args.self.now.bytes.now c.args.o, c.present-track.ensures, c.u64_at.ensures, c.from-outcome.ensures, c.present-cost.ensures, c.f64_at.ensures))

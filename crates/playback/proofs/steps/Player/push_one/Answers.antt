@@ -6,8 +6,8 @@ use Rattle.playback.proofs.steps.Player.push_one.Goals as goal
 pub print_step-requires-clause-in_bounds : goal.print_step-requires-clause-in_bounds
 print_step-requires-clause-in_bounds g c = let s = c.args.self.now in given_counted _ s.refiner s.memory c.push-answer.ensures
 
-pub returns-clause-leads : goal.returns-clause-leads
-returns-clause-leads g c =
+pub returns : goal.returns
+returns g c =
     let a = c.args in
     let s = a.self.now in
     let bytes = bytes_of a.s.now (λ i. c.type_inv.s i) in

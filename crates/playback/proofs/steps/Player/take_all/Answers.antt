@@ -7,4 +7,4 @@ pub loop-self-preserved : goal.loop-self-preserved
 loop-self-preserved g c =
     let some : 0 < c.loop-self.self.refiner.held = omega (arith, c.loop-self-test.true) in
     let t = c.take_one.ensures in
-    record { serves = t.serves; taking = take_more _ _ c.requires.led c.loop-self.invariant.taking some t.fewer t.leads }
+    take_more _ _ c.requires c.loop-self.invariant some t.fewer t.leads

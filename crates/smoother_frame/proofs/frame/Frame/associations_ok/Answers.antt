@@ -1,17 +1,12 @@
-use mathlib.Core.Path.{◌≡◌, sym, ap, ◌∙◌}
-use native.Mathlib.Omega.{arith}
-use Rattle.engine.proofs.Every.{all_none, all_more, all-less}
-use Rattle.smoother_frame.specs.Frame.{association_count}
+use mathlib.Core.Path.{◌≡◌, refl, ap, ◌∙◌}
+use Rattle.std.proofs.Common.{rules, tests}
+use Rattle.engine.specs.Body.{all}
+use Rattle.smoother_frame.specs.Frame.{association_count, association_ok}
+use Rattle.smoother_frame.proofs.Ranges.{all_of_range}
 use Rattle.smoother_frame.proofs.frame.Frame.associations_ok.Goals as goal
 
-pub loop-j-init : goal.loop-j-init
-loop-j-init c = all_none _
-
-pub returns-then-not-association_ok : goal.returns-then-not-association_ok
-returns-then-not-association_ok c =
+pub returns : goal.returns
+returns c =
     let v = c.args.self.now in
     let n : c.self.inside.counts.associations ≡ association_count v.words = c.self.invariant.counts.associations ∙ ap (λ v. association_count v.words) c.self.view_is in
-    sym (all-less _ c.loop-j.j (association_count v.words) (omega arith) (sym c.association_ok.ensures ∙ c.if-not-association_ok.true))
-
-pub loop-j-preserved : goal.loop-j-preserved
-loop-j-preserved c = all_more _ c.loop-j.j c.loop-j.invariant (sym c.association_ok.ensures ∙ c.if-not-association_ok.false)
+    all_of_range (association_ok v.words v.numbers) c.self.inside.counts.associations refl c.all.ensures.ran (λ x b q k. search (rules, tests)) ∙ ap (all (association_ok v.words v.numbers)) n

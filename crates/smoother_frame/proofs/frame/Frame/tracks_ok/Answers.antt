@@ -1,17 +1,12 @@
-use mathlib.Core.Path.{◌≡◌, sym, ap, ◌∙◌}
-use native.Mathlib.Omega.{arith}
-use Rattle.engine.proofs.Every.{all_none, all_more, all-less}
-use Rattle.smoother_frame.specs.Frame.{track_count}
+use mathlib.Core.Path.{◌≡◌, refl, ap, ◌∙◌}
+use Rattle.std.proofs.Common.{rules, tests}
+use Rattle.engine.specs.Body.{all}
+use Rattle.smoother_frame.specs.Frame.{track_count, track_ok}
+use Rattle.smoother_frame.proofs.Ranges.{all_of_range}
 use Rattle.smoother_frame.proofs.frame.Frame.tracks_ok.Goals as goal
 
-pub loop-i-init : goal.loop-i-init
-loop-i-init c = all_none _
-
-pub returns-then-not-track_ok : goal.returns-then-not-track_ok
-returns-then-not-track_ok c =
+pub returns : goal.returns
+returns c =
     let v = c.args.self.now in
     let n : c.self.inside.counts.tracks ≡ track_count v.words = c.self.invariant.counts.tracks ∙ ap (λ v. track_count v.words) c.self.view_is in
-    sym (all-less _ c.loop-i.i (track_count v.words) (omega arith) (sym c.track_ok.ensures ∙ c.if-not-track_ok.true))
-
-pub loop-i-preserved : goal.loop-i-preserved
-loop-i-preserved c = all_more _ c.loop-i.i c.loop-i.invariant (sym c.track_ok.ensures ∙ c.if-not-track_ok.false)
+    all_of_range (track_ok v.words) c.self.inside.counts.tracks refl c.all.ensures.ran (λ x b q k. search (rules, tests)) ∙ ap (all (track_ok v.words)) n

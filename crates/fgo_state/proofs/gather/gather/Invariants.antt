@@ -1,6 +1,0 @@
-use Prim.Native.Nat.{◌≤◌}
-use Rattle.fgo_state.proofs.GatheringHeld.{GathersHeld}
-use Rattle.fgo_state.proofs.gather.gather.Given as goal
-
-abbrev pub invariant-loop-k : goal.invariant-loop-k
-invariant-loop-k l = (l.k ≤ l.held) × GathersHeld l.scans.bodies l.scans.columns l.first.0 l.k l.p l.initial.ids l.initial.engines l.ids l.engines l.starts

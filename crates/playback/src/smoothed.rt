@@ -1,0 +1,158 @@
+// A smoother behind the refiner, with its window. The text of an answer is put together at the start of text, and a function gives back the place where it
+// ends.
+ghost use Rattle.std.specs.Prelude.{◌≤◌};
+ghost use Rattle.bounds.specs.Bounds.{WINDOW, VALUES};
+ghost use Rattle.buffers.specs.Answer.{pushed, taken};
+ghost use Rattle.smoother.specs.Promise.{window as window_of, lent_of, pushed_as, Promised};
+ghost use Rattle.playback.specs.Smoothed.{Smoothed};
+
+use crate::output::FrameBuffers;
+use crate::sink::Sink;
+use bounds::{TEXT, TRACKS, VALUES, WINDOW};
+use buffers::Answer;
+use console::Console;
+use engine::config::FgoConfig;
+use print::{answers, lines};
+use refusals::Refusal;
+use smoother::FrameRef;
+use smoother_window::size::{WindowSize, window_size};
+use smoother_window::{FixedLagSmoother, SmootherConfig};
+
+// A smoother, and the longest window, of which as much is lent to it as its lag asks for. Pushes and takes have led to them.
+#[derive(Drop)]
+pub struct Smoother {
+    pub state: FixedLagSmoother,
+    pub size: WindowSize,
+    pub words: [u64; WINDOW],
+    pub values: [f64; VALUES],
+    pub ghost fits: { (size.words ≤ WINDOW) × (size.numbers ≤ VALUES) },
+    pub ghost led: { ∥ Smoothed state (lent_of size (window_of words values)) ∥₁ },
+}
+
+// The settings of a smoother of the refiner's lag and density, for frames of as many tracks as it may emit.
+fn smoothing(c: FgoConfig) -> SmootherConfig {
+    SmootherConfig {
+        lag_frames: c.lag_frames,
+        accel_spectral_density: c.accel_spectral_density,
+        max_tracks: TRACKS,
+    }
+}
+
+// The oldest frame that is held, taken, over so much of the longest window; as smoother::push_over.
+// As it is: the window is lent as `&mut`, though nothing is written there. In a struct with a ghost field the borrow checker does not cover a field that is
+// lent as `&` beside another that is lent as `&mut`.
+fn take_over(
+    s: &mut FixedLagSmoother,
+    size: WindowSize,
+    window: &mut [u64; WINDOW],
+    values: &mut [f64; VALUES],
+    words: &mut [u64],
+    numbers: &mut [f64],
+) -> Answer
+    requires { (size.words ≤ WINDOW) × (size.numbers ≤ VALUES) }
+    ensures { Promised taken s.old (lent_of size (window_of window.old values.old)) words.old numbers.old
+        (pushed_as result s.new) (lent_of size (window_of window.new values.new)) words.new numbers.new }
+{
+    smoother::take(
+        s,
+        &window[..size.words],
+        &values[..size.numbers],
+        words,
+        numbers,
+    )
+}
+
+impl Smoother {
+    ghost use Rattle.smoother_frame.specs.Frame.{frame as frame_of};
+    ghost use Rattle.playback.specs.Told.{Tells};
+
+    // A frame, pushed, and the answer.
+    fn push(&mut self, frame: &FrameRef<'_>, text: &mut [u8; TEXT]) -> usize
+        ensures { Tells self.old self.new text.new result (pushed (frame_of frame.now.words.now frame.now.numbers.now)) }
+    {
+        let mut smoothed = FrameBuffers::new();
+        let answer = smoother::push_over(
+            &mut self.state,
+            self.size,
+            &mut self.words,
+            &mut self.values,
+            frame,
+            &mut smoothed.words,
+            &mut smoothed.numbers,
+        );
+        answers::put_full(text, answer, &smoothed.words, &smoothed.numbers)
+    }
+
+    // The oldest frame that is held, taken.
+    fn take(&mut self, text: &mut [u8; TEXT]) -> usize
+        ensures { Tells self.old self.new text.new result taken }
+    {
+        let mut smoothed = FrameBuffers::new();
+        let answer = take_over(
+            &mut self.state,
+            self.size,
+            &mut self.words,
+            &mut self.values,
+            &mut smoothed.words,
+            &mut smoothed.numbers,
+        );
+        answers::put_full(text, answer, &smoothed.words, &smoothed.numbers)
+    }
+}
+
+impl Sink for Smoother {
+    ghost use Rattle.playback.specs.Told.{Smooths};
+    ghost use Rattle.playback.specs.Played.{Emptied};
+
+    ghost emptied_of = { Emptied };
+
+    ghost prints_of = { Smooths };
+
+    // A smoother of the refiner's lag and density.
+    fn open(c: FgoConfig) -> Result<Smoother, Refusal> {
+        let size = window_size(c.lag_frames, TRACKS);
+        let words = [0u64; WINDOW];
+        let values = [0.0; VALUES];
+        let state = smoother::open(smoothing(c), &words[..size.words], &values[..size.numbers])?;
+        Ok(Smoother {
+            state,
+            size,
+            words,
+            values,
+        })
+    }
+
+    // A refusal is told, and a frame is pushed.
+    #[tactic(auto, using(print::proofs::Fitting::ready, print::proofs::Fitting::refused_few))]
+    fn put_answer(
+        &mut self,
+        answer: Answer,
+        output: &FrameBuffers,
+        text: &mut [u8; TEXT],
+    ) -> usize {
+        match answer {
+            Err(refusal) => lines::put_refused(text, 0, refusal),
+            Ok(None) => 0,
+            Ok(Some(f)) => {
+                let frame = FrameRef {
+                    words: &output.words[..f.words],
+                    numbers: &output.numbers[..f.numbers],
+                };
+                self.push(&frame, text)
+            }
+        }
+    }
+
+    fn take_rest(
+        &mut self,
+        rt: &(impl Print + Eprint),
+        text: &mut [u8; TEXT],
+        console: &mut Console,
+    ) {
+        // As it is: a loop until none is held, which no range says.
+        while 0 < self.state.held {
+            let end = self.take(text);
+            console.write(rt, &text[..end]);
+        }
+    }
+}
