@@ -2,29 +2,12 @@
 use Prim.Native.Nat.{ℕ, ◌+◌, ◌-◌, ◌≤◌, ◌<◌}
 use mathlib.Core.Path.{◌≡◌, sym, ap, ◌∙◌}
 use mathlib.Core.List.{List, ◌++◌, append_assoc}
-use native.Mathlib.Numerals.{add-one}
 use native.Mathlib.Omega.{arith}
-use lib.ListN.{length, take, drop, set, get_or, length-append, length-drop, get_or-append}
-use lib.Seq.{paste, paste-suc, length-paste, length-take-le, take-length, take_at, drop_at, drop-drop, get_or-append-add, get_or-take, get_or-drop}
+use lib.ListN.{length, take, drop, get_or, length-append, length-drop, get_or-append}
+use lib.Seq.{length-take-le, take_at, drop_at, drop-drop, get_or-append-add, get_or-take, get_or-drop}
 use Rattle.buffers.specs.Buffers.{over}
 
 module _ {A : Type 0} where
-  -- ---- a loop that writes s from place o on has written n of it
-
-  pub paste_more : (d : List A) (o : ℕ) (s : List A) (i : ℕ) (z : A) {x : List A} {v : A} → o + length s ≤ length d → i < length s → x ≡ paste d o s i → v ≡ get_or s i z → set x (o + i) v ≡ paste d o s (i + 1)
-  paste_more d o s i z h l e g = rw (e, g, add-one) (paste-suc d o s i z (omega arith) l)
-
-  pub paste_long : (d : List A) (o : ℕ) (s : List A) (i : ℕ) {x : List A} → o + length s ≤ length d → i ≤ length s → x ≡ paste d o s i → length x ≡ length d
-  paste_long d o s i h l e = rw e (length-paste d o s i (omega arith) l)
-
-  pub paste_over : (d : List A) (o : ℕ) (s : List A) (i : ℕ) {x : List A} → i ≤ length s → length s ≤ i → x ≡ paste d o s i → x ≡ over o s d
-  unfolding over
-  paste_over d o s i l h e =
-      let z : i ≡ length s = omega arith in
-      rw (e, z, take-length s) (append_assoc (take o d) s (drop (o + length s) d))
-
-  -- ---- what stands where
-
   module _ (o : ℕ) (g l : List A) (h : o + length g ≤ length l) where
     pub length_over : length (over o g l) ≡ length l
     unfolding over

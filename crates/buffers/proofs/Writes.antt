@@ -1,32 +1,13 @@
--- A list written over another one, from a place on: one by one, or part by part. Assumes nothing.
-use Prim.Native.Nat.{ℕ, ◌+◌, ◌<◌, ◌≤◌}
+-- A list written over another one, part by part. Assumes nothing.
+use Prim.Native.Nat.{ℕ, ◌+◌, ◌≤◌}
 use native.Mathlib.Nat.{add-zero, zero-add}
 use native.Mathlib.Omega.{arith}
 use mathlib.Core.Path.{◌≡◌, refl, sym, ap, ◌∙◌}
 use mathlib.Core.List.{List, [], ◌++◌, append_assoc}
-use lib.ListN.{length, take, drop, get_or, set, length-append, take-append-drop}
-use lib.Seq.{paste, paste-zero, length-take-le, drop_at}
+use lib.ListN.{length, take, drop, length-append, take-append-drop}
+use lib.Seq.{length-take-le, drop_at}
 use Rattle.buffers.specs.Buffers.{over}
-use Rattle.buffers.proofs.Over.{length_over, over-more, paste_more, paste_long, paste_over}
-
--- where i of the list g were written over l, from place o on, one by one
-pub record Writes {A : Type 0} (o : ℕ) (g l : List A) (i : ℕ) (l' : List A) : Type 0 where
-  pub some : i ≤ length g
-  pub room : o + length g ≤ length l
-  pub long : length l' ≡ length l
-  pub written : l' ≡ paste l o g i
-
-module _ {A : Type 0} (o : ℕ) (g l : List A) where
-  pub writes_none : o + length g ≤ length l → Writes o g l 0 l
-  writes_none h = record { some = omega arith; room = h; long = refl; written = paste-zero l o g }
-
-  pub writes_more : {l' : List A} {i : ℕ} (d a : A) → Writes o g l i l' → i < length g → a ≡ get_or g i d → Writes o g l (i + 1) (set l' (o + i) a)
-  writes_more {l'} {i} d a w h e =
-      let p = paste_more l o g i d w.room h w.written e in
-      record { some = omega arith; room = w.room; long = paste_long l o g (i + 1) w.room (omega arith) p; written = p }
-
-  pub writes_all : {l' : List A} {i : ℕ} → Writes o g l i l' → length g ≤ i → l' ≡ over o g l
-  writes_all {l'} {i} w h = paste_over l o g i w.some h w.written
+use Rattle.buffers.proofs.Over.{length_over, over-more}
 
 -- what stands before it may be written later
 pub over_first : {A : Type 0} (h g l : List A) → length h ≤ length l → over 0 h (over (length h) g l) ≡ over 0 (h ++ g) l

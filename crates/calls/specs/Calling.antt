@@ -1,5 +1,5 @@
 -- What each call does to all that a caller keeps, and what it prints. Definitions only.
-use Rattle.std.specs.Prelude.{ℕ, ◌≡◌, List, [], replicate, from_bits}
+use Rattle.std.specs.Prelude.{ℕ, ◌≡◌, List, [], replicate, from_bits, Option, Some, None}
 use Rattle.std.specs.Float.{binary64}
 use Rattle.bounds.specs.Bounds.{WORDS, NUMBERS, WINDOW, VALUES, LENT_WORDS, LENT_NUMBERS, REFINER, SMOOTHER}
 use Rattle.buffers.specs.declared.FrameSize.{FrameSize}
@@ -10,7 +10,7 @@ use Rattle.print.specs.Text.{Ready, digest_line, bad_line}
 use Rattle.calls_input.specs.declared.RefinerCall.{RefinerCall}
 use Rattle.calls_input.specs.declared.SmootherCall.{SmootherCall}
 use Rattle.calls_input.specs.declared.Call.{Call}
-use Rattle.calls_input.specs.declared.Call.TheVariants.{Refiner, Smoother, Lend, LendWindow, Digest, Bad}
+use Rattle.calls_input.specs.declared.Call.TheVariants.{Refiner, Smoother, Lend, LendWindow, Digest}
 use Rattle.calls_cells.specs.Cells.{refiner_of, smoother_of}
 use Rattle.calls_cells.specs.Hashing.{refiner_hash, smoother_hash, buffers_hash}
 use Rattle.calls_cells.specs.Lent.{words_lent, numbers_lent, last_frame, RestStays}
@@ -78,11 +78,11 @@ module _ (a b : Desk) (end : ℕ) (out : List ℕ) where
     pub output : b.output ≡ a.output
     pub told : Ready [] out end
 
-  -- a call, and what follows it
-  abbrev pub Does : Call → List ℕ → Type 0
-  Does (Refiner c) f = CallsRefiner c f
-  Does (Smoother c) f = CallsSmoother c f
-  Does (Lend size) f = LendsOutput size
-  Does (LendWindow size) f = LendsWindow size
-  Does Digest f = Says (digest_text a)
-  Does Bad f = Says bad_line
+  -- a call, none for a bad one, and what follows it
+  abbrev pub Does : Option Call → List ℕ → Type 0
+  Does (Some (Refiner c)) f = CallsRefiner c f
+  Does (Some (Smoother c)) f = CallsSmoother c f
+  Does (Some (Lend size)) f = LendsOutput size
+  Does (Some (LendWindow size)) f = LendsWindow size
+  Does (Some Digest) f = Says (digest_text a)
+  Does None f = Says bad_line

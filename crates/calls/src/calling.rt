@@ -2,7 +2,7 @@
 //
 // As it is: words, numbers and out go to each function side by side. Of a struct of `&mut` slices it is not known what is written through them, so with one
 // the proofs do not close; fgo_emit's `put_frame` says the same.
-ghost use Rattle.std.specs.Prelude.{◌≡◌, ◌≤◌, length};
+ghost use Rattle.std.specs.Prelude.{◌≡◌, ◌≤◌, length, IfSome};
 ghost use Rattle.bounds.specs.Bounds.{TEXT};
 ghost use Rattle.print.specs.Text.{Ready};
 ghost use Rattle.calls_input.specs.declared.Call.TheVariants as calls;
@@ -138,15 +138,16 @@ fn tell_digest(d: &Desk, out: &mut [u8; TEXT]) -> usize
     lines::put_digest(out, a, b, c)
 }
 
-// A call, with what follows it: what it prints is put at the start of out, and it gives where that ends.
-pub fn call(d: &mut Desk, call: Call, s: &[u8], out: &mut [u8]) -> usize
-    requires { Sane call s.now × (TEXT ≤ length out.old) }
+// A call, none for a bad one, with what follows it: what it prints is put at the start of out, and it gives where that ends.
+// As it is: that `out` has at least TEXT bytes is a clause. A caller may lend a longer buffer; a type of exactly TEXT bytes would ask more of it.
+pub fn call(d: &mut Desk, call: Option<Call>, s: &[u8], out: &mut [u8]) -> usize
+    requires { IfSome call (λ c. Sane c s.now) × (TEXT ≤ length out.old) }
     ensures { Does d.old d.new result out.new call s.now }
 {
     let text = out.first_chunk_mut().unwrap();
     let lent = d.output.size;
     match call {
-        Call::Refiner(c) => call_refiner(
+        Some(Call::Refiner(c)) => call_refiner(
             &mut d.stages.refiner,
             c,
             s,
@@ -155,7 +156,7 @@ pub fn call(d: &mut Desk, call: Call, s: &[u8], out: &mut [u8]) -> usize
             &mut d.output.numbers,
             text,
         ),
-        Call::Smoother(c) => call_smoother(
+        Some(Call::Smoother(c)) => call_smoother(
             &mut d.stages,
             c,
             s,
@@ -164,15 +165,15 @@ pub fn call(d: &mut Desk, call: Call, s: &[u8], out: &mut [u8]) -> usize
             &mut d.output.numbers,
             text,
         ),
-        Call::Lend(size) => {
+        Some(Call::Lend(size)) => {
             d.output.lend(size);
             0
         }
-        Call::LendWindow(size) => {
+        Some(Call::LendWindow(size)) => {
             d.stages.smoother.window.lend(size);
             0
         }
-        Call::Digest => tell_digest(d, text),
-        Call::Bad => lines::put_bad(text),
+        Some(Call::Digest) => tell_digest(d, text),
+        None => lines::put_bad(text),
     }
 }

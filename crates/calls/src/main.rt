@@ -5,7 +5,6 @@ mod calling;
 
 use bounds::{CALLS, TEXT};
 use calling::Desk;
-use calls_input::Call;
 use console::Console;
 use print::lines;
 
@@ -26,7 +25,7 @@ fn play(rt: &(impl Print + Eprint), s: &[u8]) {
         let n = calls_input::next_at(s, at);
         let end = calling::call(&mut desk, n.call, &s[n.from..n.end], &mut out);
         console.write(rt, &out[..end]);
-        if let Call::Bad = n.call {
+        if n.call.is_none() {
             return;
         }
         at = n.end;

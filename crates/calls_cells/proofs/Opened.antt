@@ -20,7 +20,7 @@ ready_in {text} {front} {e} rest r =
     }
 
 module _ {out out' : List ℕ} {e : ℕ} (room : TEXT ≤ length out) where
-  pub refused_ready : (n code : ℕ) → code ≡ n → Puts (refused_line code) 0 out out' e → Ready (refused_line n) out' e
+  refused_ready : (n code : ℕ) → code ≡ n → Puts (refused_line code) 0 out out' e → Ready (refused_line n) out' e
   refused_ready n code h p = rw (← h) (ready p (refused_few code) (omega arith))
 
   module _ {S A : Type 0} (state : S) (new old : A) where

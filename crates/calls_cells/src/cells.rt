@@ -25,7 +25,7 @@ pub trait Fields<const N: usize>: Copy {
     fn of(f: &[u64; N]) -> Self
         ensures { result ≡ of_words f.now };
 
-    // One of them, written.
+    // One of them, written; there are no more than a refiner has.
     fn write_field(&mut self, index: usize, value: u64)
         requires { (index < N) × (N ≤ REFINER) }
         ensures { self.new ≡ of_words (set (words self.old) index value) }
@@ -37,6 +37,7 @@ pub trait Fields<const N: usize>: Copy {
 }
 
 // The settings of such fields.
+// As it is: a list of all eleven, as recording's `settings_of` has it of bytes: why is said there.
 #[tactic(auto, unfolding(crate::specs::Cells::config_of))]
 fn config_of(f: &[u64; REFINER]) -> FgoConfig
     ensures { result ≡ config_of f.now }

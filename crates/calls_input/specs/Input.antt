@@ -2,7 +2,7 @@
 use Rattle.std.specs.Prelude.{ℕ, ◌+◌, ◌*◌, ◌≤◌, ◌≡◌, Bool, true, cond, ◌&&◌, List, length, take, drop, leb, ltb, eqb}
 use Rattle.std.specs.Prelude.{Result, Ok, Err, Option, Some, None}
 use Rattle.std.specs.Bool.{then_some}
-use Rattle.std.specs.Option.{unwrap_or, option_map, option_and_then}
+use Rattle.std.specs.Option.{option_map, option_and_then}
 use Rattle.bounds.specs.Bounds.{SETTING, SETTINGS, BODIES, COLUMNS, OWNERS, PARTS, FILTERS, WINDOW, VALUES}
 use Rattle.bounds.specs.Bounds.{CALL, LENT_WORDS, LENT_NUMBERS, REFINER, SMOOTHER}
 use Rattle.buffers.specs.declared.FrameSize.{FrameSize}
@@ -17,7 +17,7 @@ use Rattle.calls_input.specs.declared.cells.SmootherPlace.TheVariants as windows
 use Rattle.calls_input.specs.declared.RefinerCall.TheVariants as refiner
 use Rattle.calls_input.specs.declared.SmootherCall.TheVariants as smoother
 use Rattle.calls_input.specs.declared.Call.{Call}
-use Rattle.calls_input.specs.declared.Call.TheVariants.{Refiner, Smoother, Lend, LendWindow, Digest, Bad}
+use Rattle.calls_input.specs.declared.Call.TheVariants.{Refiner, Smoother, Lend, LendWindow, Digest}
 use Rattle.calls_input.specs.declared.Next.{Next}
 
 -- ---- cells
@@ -116,7 +116,7 @@ module _ (f : List ℕ) where
   unfoldable pub pushing : Option Call
   pushing = option_and_then (λ size. sized (SETTING * (2 + size.words + size.numbers)) (Smoother (smoother.Push size))) frame_size
 
--- the call of a code, and what follows it, where it is one of README's table
+-- the call of a code, and what follows it, where it is one of README's table; else it is a bad one
 unfoldable pub call_in : ℕ → List ℕ → Option Call
 call_in code f =
     cond (eqb code 1) (sized f SETTINGS (Refiner refiner.Open))
@@ -133,22 +133,18 @@ call_in code f =
     (cond (eqb code 16) (lending f LendWindow (window_size f))
     (cond (eqb code 17) (option_map (λ c. Smoother (smoother.Write c)) (cell f smoother_place smoother_has)) None))))))))))))
 
--- that call, or else a bad one
-abbrev pub call_by : ℕ → List ℕ → Call
-call_by code f = unwrap_or (call_in code f) Bad
-
 -- ---- the list
 
 -- a bad call in the list s: nothing follows it
 abbrev pub bad_at : List ℕ → Next
-bad_at s = record { call = Bad; from = length s; end = length s }
+bad_at s = record { call = None; from = length s; end = length s }
 
 -- "u32 code, u32 length of what follows, then that many bytes": the call at a place, and where what follows it begins and ends
 unfoldable pub next_at : List ℕ → ℕ → Next
 next_at s at =
     let size = little 4 s (at + 4) in
     cond (leb (at + CALL) (length s) && leb (at + CALL + size) (length s))
-    (record { call = call_by (little 4 s at) (take size (drop (at + CALL) s)); from = at + CALL; end = at + CALL + size })
+    (record { call = call_in (little 4 s at) (take size (drop (at + CALL) s)); from = at + CALL; end = at + CALL + size })
     (bad_at s)
 
 -- ---- what is known of a call
@@ -169,4 +165,3 @@ Sane (Smoother (smoother.Write c)) f = smoother_has c ≡ true
 Sane (Lend size) f = (size.words ≤ LENT_WORDS) × (size.numbers ≤ LENT_NUMBERS)
 Sane (LendWindow size) f = (size.words ≤ WINDOW) × (size.numbers ≤ VALUES)
 Sane Digest f = Unit {0}
-Sane Bad f = Unit {0}

@@ -42,13 +42,14 @@ pub enum Call {
     Lend(FrameSize),
     LendWindow(WindowSize),
     Digest,
-    Bad,
 }
 
-// A call, and where what follows it begins and ends.
+// A call, none where it is a bad one, and where what follows it begins and ends.
+// As it is: a call that may be none, with its places, and no Option of all three: by its definition, `next_at`, a bad call ends the list and nothing follows
+// it, so it too has an end, which is the list's.
 #[derive(Clone, Copy)]
 pub struct Next {
-    pub call: Call,
+    pub call: Option<Call>,
     pub from: usize,
     pub end: usize,
 }
@@ -125,7 +126,7 @@ fn push_frame(s: &[u8]) -> Option<Call>
     sized_call(s, SETTING * (2 + size.words + size.numbers), call)
 }
 
-// The call of a code.
+// The call of a code: none where it is a bad one.
 // As it is: numbers, which are the codes of README's list.
 #[tactic(auto, unfolding(crate::specs::Input::call_in))]
 fn called(code: u64, s: &[u8]) -> Option<Call>
@@ -155,7 +156,7 @@ fn bad_at(s: &[u8]) -> Next
 {
     let end = s.len();
     Next {
-        call: Call::Bad,
+        call: None,
         from: end,
         end,
     }
@@ -176,6 +177,6 @@ pub fn next_at(s: &[u8], at: usize) -> Next
         return bad_at(s);
     }
     let end = from + size;
-    let call = called(code, &s[from..end]).unwrap_or(Call::Bad);
+    let call = called(code, &s[from..end]);
     Next { call, from, end }
 }

@@ -1,19 +1,18 @@
 -- What a call of the refiner prints, and the frame that it keeps. Assumes nothing.
 use Prim.Native.Nat.{ℕ, zero, suc, ◌≤◌}
-use native.Mathlib.Omega.{arith}
-use mathlib.Core.Path.{◌≡◌, sym, ◌∙◌}
+use mathlib.Core.Path.{◌≡◌, sym, ap, ◌∙◌}
 use mathlib.Core.List.{List, ◌++◌}
 use lib.ListN.{length, take}
 use lib.Seq.{length-take-le}
-use Rattle.bounds.specs.Bounds.{TEXT}
+use Rattle.refusals.specs.declared.Refusal.{Refusal}
+use Rattle.refusals.specs.Refusals.{number_of}
 use Rattle.buffers.specs.Buffers.{over}
 use Rattle.fgo_spec.specs.declared.moves.FgoCounters.{FgoCounters}
-use Rattle.fgo.specs.Promise.{counted_by, NotCounted, Moves}
-use Rattle.print.specs.Text.{Puts, Ready, refused_line, counters_line}
-use Rattle.print.proofs.Fitting.{counters_few, ready}
+use Rattle.fgo.specs.Promise.{counted_in, counted_by}
+use Rattle.print.specs.Text.{refused_line, counters_line, counted_line}
 use Rattle.print.proofs.Showing.{front}
-use Rattle.calls_cells.proofs.Opened.{refused_ready, ready_in}
-use Rattle.std.specs.Prelude.{Float}
+use Rattle.calls_cells.proofs.Opened.{ready_in}
+use Rattle.std.specs.Prelude.{Float, Result, Ok, Err}
 use Rattle.buffers.specs.Answer.{Op}
 use Rattle.engine.specs.Body.{Body}
 use Rattle.fgo_state.specs.declared.state.FixedLagRefiner.{FixedLagRefiner}
@@ -23,17 +22,13 @@ use Rattle.calls_input.specs.declared.RefinerCall.TheVariants.{Open, Push, Take,
 use Rattle.calls_refiner.specs.declared.LentRefiner.{LentRefiner}
 use Rattle.calls_refiner.specs.Refining.{counting_text, Tells, Answers, Refines}
 
--- ---- the moves made so far, or a refusal
-
-module _ {out out' : List ℕ} {e : ℕ} (room : TEXT ≤ length out) where
-  pub not_counted :
-      (k : FgoCounters) (n code : ℕ) → NotCounted code ≡ counted_by n k → Puts (refused_line code) 0 out out' e → Ready (counting_text n k) out' e
-  not_counted k zero code h p = cc
-  not_counted k (suc n) code h p = refused_ready room (suc n) code (cc) p
-
-  pub is_counted : (k q : FgoCounters) (n : ℕ) → Moves q ≡ counted_by n k → Puts (counters_line q) 0 out out' e → Ready (counting_text n k) out' e
-  is_counted k q zero h p = let e : q ≡ k = cc in rw (← e) (ready p (counters_few q) (omega arith))
-  is_counted k q (suc n) h p = cc
+-- the line of the moves made so far, or of a refusal
+pub counting : (a : Result FgoCounters Refusal) (n : ℕ) (k : FgoCounters) → counted_in a ≡ counted_by n k → counted_line a ≡ counting_text n k
+unfolding counted_line
+counting (Ok q) zero k h = let e : q ≡ k = cc in ap counters_line e
+counting (Ok q) (suc n) k h = cc
+counting (Err r) zero k h = cc
+counting (Err r) (suc n) k h = let e : number_of r ≡ suc n = cc in ap refused_line e
 
 -- ---- the frame that is kept
 

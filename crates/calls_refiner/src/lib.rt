@@ -11,7 +11,6 @@ ghost use Rattle.engine.specs.declared.types.BodyKind.TheVariants.{Narrow};
 ghost use Rattle.engine.specs.Body.{body as body_in};
 ghost use Rattle.recording.specs.Recording.{settings};
 ghost use Rattle.fgo.specs.Promise.{new_by, open_refusal, count_refusal};
-ghost use Rattle.print.specs.Printed.{Shown};
 ghost use Rattle.print.specs.Text.{Ready, call_answer};
 ghost use Rattle.calls_input.specs.declared.Call.TheVariants as calls;
 ghost use Rattle.calls_input.specs.Input.{refiner_has, Sane};
@@ -20,7 +19,7 @@ ghost use Rattle.calls_cells.specs.Opening.{opening, opening_text};
 ghost use Rattle.calls_refiner.specs.Refining.{kept_after, counting_text, refiner_with, memory_with, Answers, Refines};
 
 use bounds::TEXT;
-use buffers::{Answer, put};
+use buffers::put;
 use calls_cells::cells::Fields;
 use calls_cells::lent::LastFrame;
 use calls_input::RefinerCall;
@@ -28,6 +27,7 @@ use calls_input::cells::{Cell, RefinerPlace};
 use engine::body::Body;
 use engine::types::BodyKind;
 use fgo_state::state::{FixedLagRefiner, Memory};
+use print::answer_ref::AnswerRef;
 use print::{answers, lines};
 use scalar::bits;
 
@@ -59,32 +59,24 @@ fn open(r: &mut FixedLagRefiner, s: &[u8], out: &mut [u8; TEXT]) -> usize
 // ---- push and take
 
 // A frame that is given is kept.
-fn keep_frame(last: &mut LastFrame, answer: Answer, words: &[u64], numbers: &[f64])
-    requires { Shown (answer_in answer) words.now numbers.now }
-    ensures { last_frame last.new ≡ kept_after (answer_in answer) words.now numbers.now (last_frame last.old) }
+fn keep_frame(last: &mut LastFrame, shown: &AnswerRef<'_>)
+    ensures { last_frame last.new ≡ kept_after (answer_in shown.now.answer) shown.now.words.now shown.now.numbers.now (last_frame last.old) }
 {
-    if let Ok(Some(frame)) = answer {
-        put(&mut last.words, 0, &words[..frame.words]);
-        put(&mut last.numbers, 0, &numbers[..frame.numbers]);
+    if let Ok(Some(frame)) = shown.answer {
+        put(&mut last.words, 0, &shown.words[..frame.words]);
+        put(&mut last.numbers, 0, &shown.numbers[..frame.numbers]);
         last.size = frame;
     }
 }
 
 // After a push or a take: its frame is kept, and its answer printed.
 #[tactic(auto, using(print::proofs::Fitting::ready, print::proofs::Fitting::call_answer_few))]
-fn tell(
-    answer: Answer,
-    last: &mut LastFrame,
-    words: &[u64],
-    numbers: &[f64],
-    out: &mut [u8; TEXT],
-) -> usize
-    requires { Shown (answer_in answer) words.now numbers.now }
-    ensures frame { last_frame last.new ≡ kept_after (answer_in answer) words.now numbers.now (last_frame last.old) }
-    ensures text { Ready (call_answer (answer_in answer) words.now numbers.now) out.new result }
+fn tell(shown: &AnswerRef<'_>, last: &mut LastFrame, out: &mut [u8; TEXT]) -> usize
+    ensures frame { last_frame last.new ≡ kept_after (answer_in shown.now.answer) shown.now.words.now shown.now.numbers.now (last_frame last.old) }
+    ensures text { Ready (call_answer (answer_in shown.now.answer) shown.now.words.now shown.now.numbers.now) out.new result }
 {
-    keep_frame(last, answer, words, numbers);
-    answers::put_call(out, answer, words, numbers)
+    keep_frame(last, shown);
+    answers::put_call(out, shown)
 }
 
 // A body is pushed.
@@ -108,7 +100,12 @@ fn push(
         words,
         numbers,
     );
-    tell(answer, &mut refiner.last, words, numbers, out)
+    let shown = AnswerRef {
+        answer,
+        words,
+        numbers,
+    };
+    tell(&shown, &mut refiner.last, out)
 }
 
 // The oldest frame is taken.
@@ -121,7 +118,12 @@ fn take(
     ensures { Answers refiner.old words.old numbers.old refiner.new words.new numbers.new result out.new taken }
 {
     let answer = fgo::take(&mut refiner.state, &mut refiner.memory, words, numbers);
-    tell(answer, &mut refiner.last, words, numbers, out)
+    let shown = AnswerRef {
+        answer,
+        words,
+        numbers,
+    };
+    tell(&shown, &mut refiner.last, out)
 }
 
 // ---- the other calls
@@ -130,10 +132,8 @@ fn take(
 fn count(r: &FixedLagRefiner, memory: &Memory, out: &mut [u8; TEXT]) -> usize
     ensures { Ready (counting_text (count_refusal r.now memory.now) r.now.counters) out.new result }
 {
-    match fgo::counters(r, memory) {
-        Err(refusal) => lines::put_refused(out, 0, refusal),
-        Ok(moves) => lines::put_counters(out, 0, moves),
-    }
+    let k = fgo::counters(r, &memory.scans, &memory.owners, &memory.parts.tracks);
+    lines::put_counted(out, 0, k)
 }
 
 // A cell, written.
@@ -155,6 +155,7 @@ fn write(r: &mut FixedLagRefiner, cell: Cell<RefinerPlace>, memory: &mut Memory)
 }
 
 // A call, with what follows it.
+// As it is: that `out` has at least TEXT bytes is a clause. A caller may lend a longer buffer; a type of exactly TEXT bytes would ask more of it.
 pub fn call(
     refiner: &mut LentRefiner,
     call: RefinerCall,

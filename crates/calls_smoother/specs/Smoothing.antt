@@ -12,7 +12,7 @@ use Rattle.smoother_window.specs.declared.SmootherConfig.{SmootherConfig}
 use Rattle.smoother_window.specs.declared.size.WindowSize.{WindowSize}
 use Rattle.smoother_window.specs.Config.{lag, most, bounded}
 use Rattle.smoother.specs.Smoother.{open_refusal}
-use Rattle.smoother.specs.Promise.{Window, window, lent_of, rest_of, Promised, Pushed}
+use Rattle.smoother.specs.Promise.{Window, window, new_by, lent_of, rest_of, Promised, Pushed}
 use Rattle.print.specs.Text.{Ready}
 use Rattle.calls_input.specs.declared.cells.Cell.{Cell}
 use Rattle.calls_input.specs.declared.cells.SmootherPlace.{SmootherPlace}
@@ -117,7 +117,7 @@ module _ (s : LentSmoother) (ws : List ℕ) (ns : List Float) (s' : LentSmoother
       let room = room_for s.window.room c in
       let lent = lent_of (size_of room) (window_in s.window) in
       let n = open_refusal c (length lent.words) (length lent.numbers) in
-      Tells (opening n (record { config = c; first = 0; held = 0 }) s.state) room (window_in s.window) (opening_text n)
+      Tells (opening n (new_by c) s.state) room (window_in s.window) (opening_text n)
 
   -- a call, what follows it, and the frame that the refiner gave last
   abbrev pub Smooths : SmootherCall → List ℕ → Written → Type 0

@@ -18,7 +18,6 @@ ghost use Rattle.engine.specs.Body.{rows};
 ghost use Rattle.engine.specs.Little.{little};
 ghost use Rattle.smoother_frame.specs.Frame.{frame as frame_of};
 ghost use Rattle.print.specs.Text.{Ready, call_answer};
-ghost use Rattle.print.specs.Printed.{Shown};
 ghost use Rattle.calls_input.specs.declared.Call.TheVariants as calls;
 ghost use Rattle.calls_input.specs.Input.{smoother_has, Sane};
 ghost use Rattle.calls_cells.specs.Lent.{last_frame};
@@ -27,18 +26,19 @@ ghost use Rattle.calls_smoother.specs.Room.{Fits};
 ghost use Rattle.calls_smoother.specs.Smoothing.{settings_in, asked_by, room_for, frame_in, smoother_with, window_in, window_with};
 ghost use Rattle.calls_smoother.specs.Smoothing.{Answers, Opens, Smooths};
 
-use bounds::{LAG, LENT_NUMBERS, LENT_WORDS, SETTING, TEXT, TRACKS};
-use buffers::{Answer, FrameSize};
+use bounds::{LENT_NUMBERS, LENT_WORDS, SETTING, TEXT};
+use buffers::FrameSize;
 use calls_cells::cells::Fields;
 use calls_cells::lent::LastFrame;
 use calls_input::SmootherCall;
 use calls_input::cells::{Cell, SmootherPlace};
 use engine::little;
+use print::answer_ref::AnswerRef;
 use print::{answers, lines};
 use scalar::bits;
 use smoother::FrameRef;
+use smoother_window::SmootherConfig;
 use smoother_window::size::{WindowSize, window_size};
-use smoother_window::{FixedLagSmoother, SmootherConfig};
 use window::{LentSmoother, Room};
 
 // ---- opening
@@ -65,7 +65,7 @@ fn settings_in(s: &[u8]) -> SmootherConfig
 fn asked_size(c: SmootherConfig) -> WindowSize
     ensures { (result ≡ asked_by c) × Fits (Asked result) }
 {
-    if LAG < c.lag_frames || c.max_tracks < 1 || TRACKS < c.max_tracks {
+    if !smoother::bounded(c) {
         return WindowSize {
             words: 0,
             numbers: 0,
@@ -87,8 +87,6 @@ fn room_for(room: Room, c: SmootherConfig) -> Room
 }
 
 // A smoother is opened; a refusal leaves the one there was.
-// As it is: what smoother::open gives is put together here once more. Its contract does not say that `first` is 0, so with what it gives the proof does not
-// close.
 fn open(smoother: &mut LentSmoother, s: &[u8], out: &mut [u8; TEXT]) -> usize
     requires { length s.now ≡ SETTING * 3 }
     ensures { (ws : List ℕ) (ns : List Float) → Opens smoother.old ws ns smoother.new ws ns result out.new (settings_in s.now) }
@@ -103,12 +101,8 @@ fn open(smoother: &mut LentSmoother, s: &[u8], out: &mut [u8; TEXT]) -> usize
         &window.values[..size.numbers],
     ) {
         Err(refusal) => lines::put_refused(out, 0, refusal),
-        Ok(_) => {
-            smoother.state = FixedLagSmoother {
-                config,
-                first: 0,
-                held: 0,
-            };
+        Ok(state) => {
+            smoother.state = state;
             lines::put_opened(out)
         }
     }
@@ -118,11 +112,10 @@ fn open(smoother: &mut LentSmoother, s: &[u8], out: &mut [u8; TEXT]) -> usize
 
 // After a push or a take its answer is printed.
 #[tactic(auto, using(print::proofs::Fitting::ready, print::proofs::Fitting::call_answer_few))]
-fn tell(answer: Answer, words: &[u64], numbers: &[f64], out: &mut [u8; TEXT]) -> usize
-    requires { Shown (answer_in answer) words.now numbers.now }
-    ensures { Ready (call_answer (answer_in answer) words.now numbers.now) out.new result }
+fn tell(shown: &AnswerRef<'_>, out: &mut [u8; TEXT]) -> usize
+    ensures { Ready (call_answer (answer_in shown.now.answer) shown.now.words.now shown.now.numbers.now) out.new result }
 {
-    answers::put_call(out, answer, words, numbers)
+    answers::put_call(out, shown)
 }
 
 // A frame is pushed.
@@ -146,7 +139,12 @@ fn push(
         words,
         numbers,
     );
-    tell(answer, words, numbers, out)
+    let shown = AnswerRef {
+        answer,
+        words,
+        numbers,
+    };
+    tell(&shown, out)
 }
 
 // The oldest frame is taken.
@@ -166,7 +164,12 @@ fn take(
         words,
         numbers,
     );
-    tell(answer, words, numbers, out)
+    let shown = AnswerRef {
+        answer,
+        words,
+        numbers,
+    };
+    tell(&shown, out)
 }
 
 // ---- a frame of the input
@@ -252,6 +255,7 @@ fn write(smoother: &mut LentSmoother, cell: Cell<SmootherPlace>)
 }
 
 // A call, with what follows it, the frame that the refiner gave last, and what is lent of the output buffers.
+// As it is: that `out` has at least TEXT bytes is a clause. A caller may lend a longer buffer; a type of exactly TEXT bytes would ask more of it.
 pub fn call(
     smoother: &mut LentSmoother,
     call: SmootherCall,

@@ -10,7 +10,7 @@ use Rattle.engine.specs.Config.{birth, miss, density, variance}
 use Rattle.kf.specs.declared.filter.Kf.{Kf}
 use Rattle.cost.specs.declared.prices.Prices.{Prices}
 use Rattle.cost.specs.declared.Sums.{Sums}
-use Rattle.cost.specs.declared.Dot.{Dot}
+use Rattle.kf.specs.declared.filter.Dot.{Dot}
 use Rattle.cost.specs.declared.Fold.{Fold}
 use Rattle.cost.specs.declared.Fold.TheVariants.{Fresh, Frozen, Going}
 use Rattle.kf.specs.Filter.{started, worked}

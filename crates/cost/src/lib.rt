@@ -10,7 +10,7 @@ pub mod prices;
 use bounds::DETECTIONS;
 use engine::config::FgoConfig;
 use engine::types::ScanIndex;
-use kf::filter::{Kf, Updated};
+use kf::filter::{Dot, Kf, Updated};
 use logs::Logs;
 
 // Where the fold over a window stands.
@@ -33,15 +33,6 @@ pub struct Sums {
     pub misses: u64,
 }
 
-// Where a detection lies, the variance of its position, and its scan's time in seconds.
-#[derive(Clone, Copy)]
-pub struct Dot {
-    pub x: f64,
-    pub y: f64,
-    pub r: f64,
-    pub t: f64,
-}
-
 // Dot i, counted round.
 pub fn dot_at(dots: &[Dot; DETECTIONS], i: usize) -> Dot
     ensures { result ≡ dot_at dots.now i }
@@ -60,7 +51,7 @@ pub fn skipped(scan: ScanIndex, last: ScanIndex) -> u64
 pub fn born_at(c: FgoConfig, scan: ScanIndex, d: Dot) -> Sums
     ensures { result ≡ born c (measurement_of scan d) }
 {
-    let kf = Kf::start(d.x, d.y, d.t, d.r, c.initial_velocity_variance);
+    let kf = Kf::start(d, c.initial_velocity_variance);
     Sums {
         kf,
         total: c.birth_cost,
@@ -90,7 +81,7 @@ impl Sums {
     {
         let p = self.kf.predict(d.t, q);
         let l = logs.log_of(p.p00 + d.r);
-        let Updated { kf, nll } = p.update_by(d.x, d.y, d.r, l);
+        let Updated { kf, nll } = p.update_by(d, l);
         Sums {
             kf,
             total: self.total + nll,

@@ -1,10 +1,10 @@
 // What prices windows.
 ghost use Rattle.std.specs.Prelude.{◌^◌, ◌<◌};
 
-use crate::Dot;
 use bounds::DETECTIONS;
 use engine::config::FgoConfig;
 use engine::types::ScanIndex;
+use kf::filter::Dot;
 
 // The settings, the number of the oldest scan held, which is far from where a word ends, and the dots.
 #[derive(Drop)]

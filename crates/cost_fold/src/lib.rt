@@ -1,7 +1,8 @@
 // The fold over the row of a window.
 //
 // A row has for each scan held one more than the place of its detection among the dots, 0 where it has none.
-// As it is: a slot is a number and no Option, which is no plainer: the definition of a window's measurements reads a row as numbers.
+// As it is: a slot is a number and no Option, which is no plainer: the definition of a window's measurements reads a row as numbers, so that each clause over a
+// row of Options would first have to say which numbers they stand for; and a row, which is copied and compared for each pair of a pass, would be twice as wide.
 #![tactic(auto)]
 
 ghost use Rattle.std.specs.Prelude.{◌≡◌, MatchOption};
@@ -14,7 +15,6 @@ ghost use Rattle.cost_fold.specs.Fold.{Asks, Bare, Leading};
 use cost::logs::Logs;
 use cost::prices::Prices;
 use cost::{Fold, Sums};
-use engine::types::ScanIndex;
 
 // Where the first detection stands, if there is one.
 fn first_detection(slots: &[usize]) -> Option<usize>
@@ -24,6 +24,8 @@ fn first_detection(slots: &[usize]) -> Option<usize>
 }
 
 // The fold over the slots of a row after a detection or a frozen part: the row begins at the held scan k.
+// As it is: prices and logs are two arguments, here and in all that comes to a cost by it. In one struct, lent as `&mut`, each clause would say too that the
+// prices stay as they were; given by value, it would be made at each call.
 fn fold_on(prices: &Prices<'_>, from: &Sums, slots: &[usize], k: usize, logs: &mut Logs) -> Sums
     requires { Asks slots.now k (Going from.now) }
     ensures { result ≡ foldl (added (density prices.now.config)) from.now (measurements (view_in prices.now) k slots.now) }
@@ -32,7 +34,7 @@ fn fold_on(prices: &Prices<'_>, from: &Sums, slots: &[usize], k: usize, logs: &m
     let mut r = *from;
     for (i, code) in slots.iter().enumerate() {
         if 0 < *code {
-            let scan = ScanIndex(prices.first.0 + (k + i) as u64);
+            let scan = prices.first.later(k + i);
             r = r.add(q, scan, cost::dot_at(prices.dots, *code - 1), logs);
         }
     }
@@ -41,6 +43,8 @@ fn fold_on(prices: &Prices<'_>, from: &Sums, slots: &[usize], k: usize, logs: &m
 
 // The fold over a part of a row that begins at the held scan k, going on from where it stands. It asks that the part ends by scan SCANS, and for few misses so
 // far.
+// As it is: the part and the scan that it begins at are two arguments here, in `fold_on` and in `cost_of`. A struct of both would be no plainer: of the calls
+// all but two, `fold_on` of a whole part and `fold_window` in `cost_of`, cut a new part and would make it there; and few misses would still be asked for.
 #[inline(always)]
 pub fn fold_window(
     prices: &Prices<'_>,
@@ -57,7 +61,7 @@ pub fn fold_window(
             let Some(i) = first_detection(slots) else {
                 return *from;
             };
-            let scan = ScanIndex(prices.first.0 + (k + i) as u64);
+            let scan = prices.first.later(k + i);
             let r = cost::born_at(prices.config, scan, cost::dot_at(prices.dots, slots[i] - 1));
             Fold::Going(fold_on(prices, &r, &slots[i + 1..], k + (i + 1), logs))
         }

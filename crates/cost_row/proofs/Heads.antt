@@ -8,6 +8,7 @@ use lib.ListN.{length, get_or, take, drop, length-take, length-drop, take-append
 use lib.Seq.{length-take-le, take-add, get_or-drop, ext_get_or}
 use Rattle.bounds.specs.Bounds.{SCANS}
 use Rattle.engine.specs.declared.config.FgoConfig.{FgoConfig}
+use Rattle.engine.specs.declared.types.ScanIndex.{ScanIndex}
 use Rattle.cost.specs.declared.Fold.{Fold}
 use Rattle.cost.specs.Cost.{Measurement, View, measurements, fold_over, closed, cost, misses_of}
 use Rattle.cost.proofs.Steps.{fold-append, dets_append, dets_none, misses_fold}
@@ -39,6 +40,10 @@ module _ (c : FgoConfig) (v : View) (p : Fold) (r : List ℕ) where
   head_few k e l z =
       let m : length (take k r) ≤ SCANS = omega (arith, length-take k r) in
       omega (arith, misses_fold c v p 0 (take k r) (omega arith))
+
+-- the scan of a number
+pub scan_by : {s : ScanIndex} {n : ℕ} → s.0 ≡ n → s ≡ record { 0 = n }
+scan_by e = λ i. record { 0 = e i }
 
 -- ---- the rest of a row, up to its end
 

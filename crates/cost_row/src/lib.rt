@@ -4,14 +4,16 @@
 ghost use Rattle.std.specs.Prelude.{◌≡◌, ◌^◌, ◌≤◌, ◌<◌, drop};
 ghost use Rattle.bounds.specs.Bounds.{SCANS, FROZEN};
 ghost use Rattle.cost.specs.Cost.{measurements, cost, misses_of, view_in};
-ghost use Rattle.cost_row.specs.Price.{frozen_at, fold_among, row_cost, on_to, Until, EndsBy};
+ghost use Rattle.cost_row.specs.Price.{frozen_at, fold_among, row_cost, on_to, Until};
 
+pub mod ended;
 pub mod window;
 
 use bounds::{FILTERS, PARTS, SCANS};
 use cost::Fold;
 use cost::logs::Logs;
 use cost::prices::Prices;
+use ended::EndedRow;
 use engine::types::RefinedId;
 use fgo_part::FrozenTracks;
 
@@ -51,35 +53,31 @@ pub fn fold_to(
     cost_fold::fold_window(prices, f, &row[k..g], k, logs)
 }
 
-// What a window costs: f is the fold over its scans before k, the rest is the row from k on, which has no detection from `end` on. It asks what `fold_to` asks.
+// What a window costs: f is the fold over its scans before k, the rest is the row from k on. It asks for few misses so far.
+// As it is: few misses are asked for here, in `fold_to`, and in `swap_gain` and `drop_gain` of the searches. As a fact of the fold it would not be kept: one
+// that goes on may have more misses than before.
 #[inline(always)]
 pub fn rest_cost(
     prices: &Prices<'_>,
     f: &Fold,
-    row: &[usize; SCANS],
+    row: &EndedRow<'_>,
     k: usize,
-    end: usize,
     logs: &mut Logs,
 ) -> f64
-    requires { EndsBy end row.now × (misses_of f.now < 2 ^ 58) }
-    ensures { result ≡ cost prices.now.config f.now (measurements (view_in prices.now) k (drop k row.now)) }
+    requires { misses_of f.now < 2 ^ 58 }
+    ensures { result ≡ cost prices.now.config f.now (measurements (view_in prices.now) k (drop k row.now.slots.now)) }
 {
-    if end <= k {
+    if row.end <= k {
         return f.close(prices.config);
     }
-    cost_fold::cost_of(prices, f, &row[k..end], k, logs)
+    let slots = row.slots;
+    cost_fold::cost_of(prices, f, &slots[k..row.end], k, logs)
 }
 
-// What the window costs that goes on from p and has this row, without a detection from `end` on.
-pub fn row_cost(
-    prices: &Prices<'_>,
-    p: &Fold,
-    row: &[usize; SCANS],
-    end: usize,
-    logs: &mut Logs,
-) -> f64
-    requires { EndsBy end row.now × (misses_of p.now ≡ 0) }
-    ensures { result ≡ row_cost prices.now.config (view_in prices.now) p.now row.now }
+// What the window costs that goes on from p and has this row.
+pub fn row_cost(prices: &Prices<'_>, p: &Fold, row: &EndedRow<'_>, logs: &mut Logs) -> f64
+    requires { misses_of p.now ≡ 0 }
+    ensures { result ≡ row_cost prices.now.config (view_in prices.now) p.now row.now.slots.now }
 {
-    rest_cost(prices, p, row, 0, end, logs)
+    rest_cost(prices, p, row, 0, logs)
 }

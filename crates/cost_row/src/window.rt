@@ -1,23 +1,21 @@
 // The window of a track as a row.
 ghost use Rattle.std.specs.Prelude.{◌≡◌};
 ghost use Rattle.cost.specs.Cost.{misses_of};
-ghost use Rattle.cost_row.specs.Price.{Fit, EndsBy};
+ghost use Rattle.cost_row.specs.Price.{Fit};
 
+use crate::ended::EndedRow;
 use bounds::SCANS;
 use cost::Fold;
 use engine::types::RefinedId;
-use search_rows::rows;
 
-// A track's id, what its window goes on from, its row, from where on that has no detection, and what it costs.
+// A track's id, what its window goes on from, its row, and what it costs.
 #[derive(Drop)]
 pub struct Window<'a> {
     pub id: RefinedId,
     pub from: Fold,
-    pub row: &'a [usize; SCANS],
-    pub end: usize,
+    pub row: EndedRow<'a>,
     pub cost: f64,
-    pub ghost fit: { Fit from row.now },
-    pub ghost ends: { EndsBy end row.now },
+    pub ghost fit: { Fit from row.slots.now },
 }
 
 impl<'a> Window<'a> {
@@ -26,14 +24,13 @@ impl<'a> Window<'a> {
         requires { misses_of from ≡ 0 }
         ensures id { result.id ≡ id }
         ensures from { result.from ≡ from }
-        ensures row { result.row.now ≡ row.now }
+        ensures row { result.row.slots.now ≡ row.now }
         ensures cost { result.cost ≡ cost }
     {
         Window {
             id,
             from,
-            row,
-            end: rows::end_of(row),
+            row: EndedRow::new(row),
             cost,
         }
     }

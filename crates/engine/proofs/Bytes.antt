@@ -40,6 +40,19 @@ little-bytes (suc w) s o =
     let more = little-add (suc w) 1 s o in
     rw (← add-one (suc w), more, little-bytes w s o, little-one s (o + suc w), mul_comm (256 ^ suc w) (get_or s (o + suc w) 0)) refl
 
+-- the same bytes, elsewhere
+little-same : (w : ℕ) (r s : List ℕ) (p o : ℕ) → ((i : ℕ) → i < w → get_or r (p + i) 0 ≡ get_or s (o + i) 0) → little w r p ≡ little w s o
+unfolding little
+little-same zero r s p o h = refl
+little-same (suc w) r s p o h =
+    let first : get_or r p 0 ≡ get_or s o 0 = rw (add-zero, add-zero) at (h 0 (omega arith)) in
+    let rest : little w r (suc p) ≡ little w s (suc o) = little-same w r s (suc p) (suc o) (λ i g. rw (suc-add, suc-add, ← add-suc, ← add-suc) (h (suc i) (omega arith))) in
+    rw (first, rest) refl
+
+-- bytes that are each those from a place on are the number there
+pub little-made : (w : ℕ) (s : List ℕ) (o : ℕ) (r : List ℕ) → ((k : ℕ) → k < w → get_or r k 0 ≡ get_or s (o + k) 0) → little w r 0 ≡ little w s o
+little-made w s o r h = little-same w r s 0 o (λ k g. rw zero-add (h k g))
+
 -- a signed number of eight bytes, passed on
 pub signed_passed : (s : List ℕ) (o : ℕ) → ((i : ℕ) → Fits w8 (get_or s i 0)) → to_z w64 (of_z w64 (signed (little 8 s o))) ≡ signed (little 8 s o)
 signed_passed s o h = let b : Fits w64 (little 8 s o) = record { fits = little_below 8 s o h } in to_z-of_z (sfits_to_z b)

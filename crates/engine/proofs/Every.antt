@@ -1,14 +1,10 @@
 -- Facts of tests: of a conjunction, of a disjunction, of a refusal that is 0 or 5, and of a test over all numbers below a bound. Assumes nothing.
 use Prim.Native.Nat.{ℕ, zero, suc, ◌+◌, ◌<◌}
-use mathlib.Core.Path.{◌≡◌, refl, sym, ap, subst, ◌∙◌}
+use mathlib.Core.Path.{◌≡◌, refl, sym, ap, ◌∙◌}
 use mathlib.Core.Bool.{Bool, true, false, ◌&&◌, ◌||◌, and-false, and-true, and_assoc}
 use native.Mathlib.Numerals.{add-one}
 use native.Mathlib.Omega.{arith}
 use lib.Dec.{eqb}
-use lib.ListN.{length, get_or}
-use Rattle.std.specs.Bool.{MatchBool}
-use Rattle.std.specs.List.{range_with_len, AllWithin, HoldsAt}
-use Rattle.std.proofs.lemmas.List.FromFn.{length-range_with_len, get_or-range_with_len}
 use borrow.Author.Tests.{eqb-true, eqb-false}
 use Rattle.engine.specs.Body.{all}
 
@@ -64,13 +60,3 @@ pub all_front : (p : ℕ → Bool) (n : ℕ) → all p (suc n) ≡ (p 0 && all (
 unfolding all
 all_front p zero = sym (and-true (p 0))
 all_front p (suc n) = ap (λ b. b && p (suc n)) (all_front p n) ∙ and_assoc (p 0) (all (λ i. p (suc i)) n) (p (suc n))
-
-numbered : (n i : ℕ) → i < n → get_or (range_with_len 0 n) i 0 ≡ i
-numbered n i h = let e : ◌≡◌ {A = ℕ} (0 + i) i = omega arith in get_or-range_with_len 0 n i 0 h ∙ e
-
--- what `all` answers over the numbers below n
-pub all_over : (p : ℕ → Bool) (n : ℕ) (r : Bool) → let l = range_with_len 0 n in
-    MatchBool r (AllWithin (λ i. p i ≡ true) l 0 (length l)) ((k : ℕ) × (k < length l) × HoldsAt (λ i. p i ≡ false) l k) → r ≡ all p n
-all_over p n true h = sym (all_true p n (λ i g. subst (λ j. p j ≡ true) (numbered n i g) (h i 0 (omega arith) (rw (length-range_with_len 0 n) g))))
-all_over p n false h =
-    let g = rw (length-range_with_len 0 n) at h.1 in sym (all-less p h.0 n g (subst (λ j. p j ≡ false) (numbered n h.0 g) (h.2 0)))

@@ -1,5 +1,6 @@
 pub mod Bytes
 pub mod Every
+pub mod Ranges
 pub mod Ids
 pub mod Passing
 pub mod Named
@@ -8,3 +9,4 @@ pub mod Reading
 pub mod Settings
 pub mod Laid
 pub mod ReadBack
+pub mod Turns

@@ -1,5 +1,5 @@
 -- What a body that passes tells, and the rows of a body, for any layout. Assumes nothing.
-use Prim.Native.Nat.{ℕ, zero, suc, ◌+◌, ◌-◌, ◌<◌, ◌≤◌}
+use Prim.Native.Nat.{ℕ, zero, suc, ◌+◌, ◌<◌, ◌≤◌}
 use mathlib.Core.Path.{◌≡◌, refl}
 use mathlib.Core.List.{List}
 use mathlib.Core.Bool.{Bool, true, false, cond, ◌&&◌}
@@ -8,9 +8,8 @@ use native.Mathlib.Nat.{zero-add}
 use lib.ListN.{length, get_or, get_or-eq_default}
 use lib.Dec.{eqb}
 use borrow.Author.Tests.{eqb-true, leb-true}
-use Rattle.engine.specs.Little.{little}
 use Rattle.bounds.specs.Bounds.{ENGINES, SENSORS}
-use Rattle.engine.specs.Body.{Layout, code_ok, present_ok, association_ok, time_ok, zero_bytes, zeros_ok, track_count, sensor_count, observation_count, association_count, size, time, head_ok, tracks_ok, associations_ok, observations_ok, indices_ok, refusal, rows}
+use Rattle.engine.specs.Body.{Layout, code_ok, time_ok, zeros_ok, track_count, sensor_count, observation_count, association_count, size, time, head_ok, tracks_ok, associations_ok, observations_ok, indices_ok, refusal, rows}
 use Rattle.engine.proofs.Every.{both}
 
 -- what the header's test tells
@@ -55,21 +54,6 @@ few_sensors {k} {s} h = go (eqb (track_count k s) 0) h.sensors
     go : (t : Bool) → sensor_count k s ≤ cond t 0 SENSORS → sensor_count k s ≤ SENSORS
     go true l = omega arith
     go false l = l
-
--- what the test of an association tells
-pub record Associates (w : ℕ) (s : List ℕ) (o : ℕ) : Type 0 where
-  pub id : present_ok (get_or s (o + w) 0) (little 8 s (o + 8)) ≡ true
-  pub outcome : code_ok (get_or s (o + (w + 1)) 0) ≡ true
-  pub cost : present_ok (get_or s (o + (w + 2)) 0) (little 8 s (o + 16)) ≡ true
-  pub zeros : zero_bytes (5 - w) s (o + (w + 3)) ≡ true
-
-pub associates : (w : ℕ) (s : List ℕ) (o : ℕ) → association_ok w s o ≡ true → Associates w s o
-unfolding association_ok
-associates w s o h =
-    let h1 = both _ _ h in
-    let h2 = both _ _ h1.1 in
-    let h3 = both _ _ h2.1 in
-    record { id = h1.0; outcome = h2.0; cost = h3.0; zeros = h3.1 }
 
 pub record Passed (k : Layout) (s : List ℕ) : Type 0 where
   pub head : head_ok k s ≡ true

@@ -1,10 +1,10 @@
 // A frame's body: its header and its fields.
-ghost use Rattle.std.specs.Prelude.{◌≡◌, ◌+◌, ◌^◌, ◌<◌, ◌≤◌, length, get_or};
+ghost use Rattle.std.specs.Prelude.{◌≡◌, ◌+◌, ◌*◌, ◌^◌, ◌<◌, ◌≤◌, length, get_or, Some, None, IfSome};
 ghost use Rattle.engine.specs.Frame.{present, no_track, no_observation, no_association};
 ghost use Rattle.bounds.specs.Bounds.{ENGINE, OBSERVATION, ASSOCIATION};
 ghost use Rattle.engine.specs.Body.{layout_of, body_of, tracks_in, sensors_in, observations_in, associations_in, sensors_from, observations_from};
-ghost use Rattle.engine.specs.Body.{associations_from, frame_in, body_refusal, track_at, observation_at, association_at, time_read, sensor_read};
-ghost use Rattle.engine.specs.Body.{track_read, observation_read, association_read};
+ghost use Rattle.engine.specs.Body.{associations_from, frame_in, body_refusal, track_at, observation_at, association_at, row_read, time_read};
+ghost use Rattle.engine.specs.Body.{sensor_read, track_read, observation_read, association_read};
 
 use crate::little;
 use crate::types::{
@@ -18,14 +18,6 @@ use bounds::{ASSOCIATION, ENGINE, HEADER, OBSERVATION, SENSOR};
 pub struct Body<'a> {
     pub kind: BodyKind,
     pub bytes: &'a [u8],
-}
-
-// A byte of the header as a count; 0 past the end.
-fn count_at(s: &[u8], o: usize) -> usize
-    ensures value { result ≡ get_or s.now o 0 }
-    ensures small { result < 2 ^ 8 }
-{
-    s.get(o).map_or(0, |b| usize::from(*b))
 }
 
 // A value, if its present byte says that it is there.
@@ -101,12 +93,14 @@ impl<'a> Body<'a> {
     }
 
     // How many engine tracks the header says that the frame has.
+    // As it is, here and in the three counts below: four fields at four places. All four are public, so a function of the place, with the match in it,
+    // would stand beside them, each with its own definition as now: `self.count_at(1)` for the match of one arm, which is no plainer.
     pub fn track_count(&self) -> usize
         ensures count { result ≡ tracks_in (body_of self.now) }
         ensures small { result < 2 ^ 8 }
     {
         match self.kind {
-            BodyKind::Narrow => count_at(self.bytes, 1),
+            BodyKind::Narrow => little::byte_at(self.bytes, 1),
         }
     }
 
@@ -116,7 +110,7 @@ impl<'a> Body<'a> {
         ensures small { result < 2 ^ 8 }
     {
         match self.kind {
-            BodyKind::Narrow => count_at(self.bytes, 4),
+            BodyKind::Narrow => little::byte_at(self.bytes, 4),
         }
     }
 
@@ -126,7 +120,7 @@ impl<'a> Body<'a> {
         ensures small { result < 2 ^ 8 }
     {
         match self.kind {
-            BodyKind::Narrow => count_at(self.bytes, 2),
+            BodyKind::Narrow => little::byte_at(self.bytes, 2),
         }
     }
 
@@ -136,7 +130,7 @@ impl<'a> Body<'a> {
         ensures small { result < 2 ^ 8 }
     {
         match self.kind {
-            BodyKind::Narrow => count_at(self.bytes, 3),
+            BodyKind::Narrow => little::byte_at(self.bytes, 3),
         }
     }
 
@@ -164,6 +158,18 @@ impl<'a> Body<'a> {
         self.observations_from() + OBSERVATION * self.observation_count()
     }
 
+    // Where the bytes of row i begin, of n rows of a size each from a place on; none past the last row, and where the bytes end before the row does.
+    #[tactic(auto, unfolding(crate::specs::Body::row_read))]
+    fn row_from(&self, from: usize, size: usize, n: usize, i: usize) -> Option<usize>
+        requires { from + size * n < 2 ^ 64 }
+        ensures place { result ≡ row_read None Some self.now.bytes.now size n from i }
+        ensures whole { IfSome result (λ at. at + size ≤ length self.now.bytes.now) }
+    {
+        (i < n)
+            .then(|| from + size * i)
+            .filter(|at| at + size <= self.bytes.len())
+    }
+
     // ---- the fields: each reader answers, on any bytes, the field where its bytes are all there, and else 0 or the value for none; for a body that passes
     // this is what the frame says
 
@@ -182,6 +188,7 @@ impl<'a> Body<'a> {
         ensures { (result ≡ time_read (layout_of self.now.kind) self.now.bytes.now)
             × (body_refusal (body_of self.now) ≡ 0 → result ≡ (frame_in (body_of self.now)).time) }
     {
+        // As it is: 0, and no Option, of a body without a time: this is public, and its definition `time_read` says 0.
         if self.bytes.len() < self.header_size() {
             return 0;
         }
@@ -193,14 +200,8 @@ impl<'a> Body<'a> {
         ensures { (result ≡ sensor_read (layout_of self.now.kind) self.now.bytes.now i)
             × (body_refusal (body_of self.now) ≡ 0 → result ≡ get_or (frame_in (body_of self.now)).sensors i 0) }
     {
-        if self.sensor_count() <= i {
-            return 0;
-        }
-        let o = self.sensors_from() + SENSOR * i;
-        if self.bytes.len() < o + SENSOR {
-            return 0;
-        }
-        little::u32_at(self.bytes, o)
+        self.row_from(self.sensors_from(), SENSOR, self.sensor_count(), i)
+            .map_or(0, |o| little::u32_at(self.bytes, o))
     }
 
     // Engine track i.
@@ -208,14 +209,8 @@ impl<'a> Body<'a> {
         ensures { (result ≡ track_read (layout_of self.now.kind) self.now.bytes.now i)
             × (body_refusal (body_of self.now) ≡ 0 → result ≡ get_or (frame_in (body_of self.now)).tracks i no_track) }
     {
-        if self.track_count() <= i {
-            return no_track();
-        }
-        let o = self.header_size() + ENGINE * i;
-        if self.bytes.len() < o + ENGINE {
-            return no_track();
-        }
-        track_at(self.bytes, o)
+        self.row_from(self.header_size(), ENGINE, self.track_count(), i)
+            .map_or(no_track(), |o| track_at(self.bytes, o))
     }
 
     // The observation at an index.
@@ -223,15 +218,9 @@ impl<'a> Body<'a> {
         ensures { (result ≡ observation_read (layout_of self.now.kind) self.now.bytes.now index.0)
             × (body_refusal (body_of self.now) ≡ 0 → result ≡ get_or (frame_in (body_of self.now)).observations index.0 no_observation) }
     {
-        let i = index.0;
-        if self.observation_count() <= i {
-            return no_observation();
-        }
-        let o = self.observations_from() + OBSERVATION * i;
-        if self.bytes.len() < o + OBSERVATION {
-            return no_observation();
-        }
-        observation_at(self.bytes, o)
+        let from = self.observations_from();
+        self.row_from(from, OBSERVATION, self.observation_count(), index.0)
+            .map_or(no_observation(), |o| observation_at(self.bytes, o))
     }
 
     // The association whose bytes begin at place o.
@@ -263,13 +252,11 @@ impl<'a> Body<'a> {
         ensures { (result ≡ association_read (layout_of self.now.kind) self.now.bytes.now j)
             × (body_refusal (body_of self.now) ≡ 0 → result ≡ get_or (frame_in (body_of self.now)).associations j no_association) }
     {
-        if self.association_count() <= j {
-            return no_association();
+        let from = self.associations_from();
+        // As it is: tried as a `map_or`, as in the three above. The proof did not close: of an association, the check finds no clause for the closure itself.
+        match self.row_from(from, ASSOCIATION, self.association_count(), j) {
+            None => no_association(),
+            Some(o) => self.association_at(o),
         }
-        let o = self.associations_from() + ASSOCIATION * j;
-        if self.bytes.len() < o + ASSOCIATION {
-            return no_association();
-        }
-        self.association_at(o)
     }
 }

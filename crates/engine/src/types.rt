@@ -1,5 +1,5 @@
 // Ids, codes and the rows of a frame.
-ghost use Rattle.std.specs.Prelude.{◌≡◌};
+ghost use Rattle.std.specs.Prelude.{◌≡◌, ◌+◌, ◌^◌, ◌<◌};
 ghost use Rattle.engine.specs.Frame.{mode_of, mode_number, outcome_of, outcome_number};
 
 // The id that the engine gave a track.
@@ -14,13 +14,23 @@ pub struct RefinedId(pub u64);
 #[derive(Clone, Copy, PartialEq, Eq, PartialOrd, Ord)]
 pub struct ScanIndex(pub u64);
 
+impl ScanIndex {
+    // The number of the scan so many later; it must be below 2^64.
+    pub fn later(self, by: usize) -> ScanIndex
+        requires { self.0 + by < 2 ^ 64 }
+        ensures { result.0 ≡ self.0 + by }
+    {
+        ScanIndex(self.0 + by as u64)
+    }
+}
+
 // The place of an observation in its scan.
 #[derive(Clone, Copy)]
 pub struct ObservationIndex(pub usize);
 
 // How a frame's body is laid out.
-// As it is, here and in each match of it: one variant, since numbers without it would be no plainer: a further layout is one more variant, and every place that
-// reads by the layout matches it (docs/DECISIONS.md, "A kind of body").
+// As it is, here and in each match of it: one variant. That a body goes with its kind is a rule of the project (docs/DECISIONS.md, "A kind of body"), and
+// `Body` and its kind are public.
 #[derive(Clone, Copy)]
 pub enum BodyKind {
     // Counts and indices have a byte each.

@@ -1,22 +1,27 @@
 // The refiner: open, push, take and counters.
+//
+// As it is: words and numbers go to each function side by side. Of a struct of `&mut` slices it is not known what is written through them, so with one the
+// proofs do not close; fgo_emit's `put_frame` says the same.
 #![tactic(auto)]
 
-ghost use Rattle.std.specs.Prelude.{◌≡◌, ◌≤◌};
+ghost use Rattle.std.specs.Prelude.{◌≡◌, ◌≤◌, List, Float};
 ghost use Rattle.buffers.specs.Answer.{answer_in, opening_of, opened_by, pushed, taken};
 ghost use Rattle.refusals.specs.Refusals.{refused};
 ghost use Rattle.engine.specs.Body.{body_of};
 ghost use Rattle.fgo_spec.specs.Refiner.{takes};
-ghost use Rattle.fgo_state.specs.Memory.{state_of};
+ghost use Rattle.fgo_state.specs.Memory.{memory, state_of};
 ghost use Rattle.fgo_emit.specs.Writing.{Roomy};
 ghost use Rattle.fgo_arrive.specs.Arriving.{Ready};
 ghost use Rattle.fgo.specs.Promise.{new_by, open_refusal, later_refusal, due, Promised, counted_in, counted_by, count_refusal};
 
+use bounds::{OWNERS, PARTS};
 use buffers::Answer;
 use engine::body::Body;
 use engine::config::FgoConfig;
 use engine::types::{RefinedId, ScanIndex};
 use fgo_place::own;
 use fgo_spec::moves::FgoCounters;
+use fgo_state::scans::Scans;
 use fgo_state::state::{FixedLagRefiner, Memory};
 use refusals::Refusal;
 
@@ -41,7 +46,7 @@ fn new(config: FgoConfig) -> FixedLagRefiner
     }
 }
 
-// A new refiner, or 1. It asks nothing of the memory that is lent later on.
+// A new refiner, or `Setting`. It asks nothing of the memory that is lent later on.
 pub fn open(config: FgoConfig) -> Result<FixedLagRefiner, Refusal>
     ensures { opening_of result ≡ opened_by (open_refusal config) (new_by config) }
 {
@@ -71,7 +76,7 @@ fn freeze_oldest(
     let many = fgo_freeze::freeze_scan(r.config, scans, n, &mut memory.parts, r.frozen);
     let size = fgo_emit::put_frame(r.config, scans, n, &memory.parts, many, words, numbers);
     let time = scans.body(n).time();
-    r.first = ScanIndex(n.0 + 1);
+    r.first = n.later(1);
     r.held -= 1;
     let held = r.held_in(scans);
     r.frozen = fgo_freeze::forget(r.config, time, &held, &mut memory.parts, many);
@@ -82,7 +87,7 @@ fn freeze_oldest(
 
 // ---- the entry points
 
-// What push and take ask alike: or 3 or 4.
+// What push and take ask alike: or `State` or `Output`.
 fn check_call(
     r: &FixedLagRefiner,
     memory: &Memory,
@@ -91,7 +96,7 @@ fn check_call(
 ) -> Result<(), Refusal>
     ensures { refused result ≡ later_refusal r.now memory.now words numbers }
 {
-    if !fgo_rule::is_sound(r, memory) {
+    if !fgo_rule::is_sound(r, &memory.scans, &memory.owners, &memory.parts.tracks) {
         return Err(Refusal::State);
     }
     if !buffers::is_roomy(words, numbers) {
@@ -100,7 +105,7 @@ fn check_call(
     Ok(())
 }
 
-// The oldest frame held, whatever the lag: 3, 4, 13 or a frame.
+// The oldest frame held, whatever the lag: `State`, `Output`, `Empty` or the frame.
 pub fn take(
     r: &mut FixedLagRefiner,
     memory: &mut Memory,
@@ -118,7 +123,8 @@ pub fn take(
     freeze_oldest(r, memory, words, numbers)
 }
 
-// A frame, by its body: 3, 4, 5, 6, 7, 8, 9 or 10; or held; or the oldest frame, where more than the lag are held.
+// A frame, by its body: `State`, `Output`, `Frame`, `Coordinate`, `Index`, `Count`, `Detections` or `Owners`; or held; or the oldest frame, where more than
+// the lag are held.
 pub fn push(
     r: &mut FixedLagRefiner,
     b: &Body<'_>,
@@ -138,11 +144,19 @@ pub fn push(
     Ok(None)
 }
 
-// The moves made so far, or 3.
-pub fn counters(r: &FixedLagRefiner, memory: &Memory) -> Result<FgoCounters, Refusal>
-    ensures { counted_in result ≡ counted_by (count_refusal r.now memory.now) r.now.counters }
+// The moves made so far, or `State`, whatever the filters of the frozen parts are.
+// As it is, here and in fgo_rule's `is_sound`: three parts of a `Memory` and no `Memory`, since the filters of the frozen parts are not asked for: by the rule
+// that a public function asks no more of its callers than it did, a caller need not have them.
+pub fn counters(
+    r: &FixedLagRefiner,
+    scans: &Scans,
+    owners: &[u64; OWNERS],
+    tracks: &[u64; PARTS],
+) -> Result<FgoCounters, Refusal>
+    ensures { (filters : List Float) → counted_in result
+        ≡ counted_by (count_refusal r.now (memory scans.now.bodies scans.now.columns owners.now tracks.now filters)) r.now.counters }
 {
-    if fgo_rule::is_sound(r, memory) {
+    if fgo_rule::is_sound(r, scans, owners, tracks) {
         Ok(r.counters)
     } else {
         Err(Refusal::State)

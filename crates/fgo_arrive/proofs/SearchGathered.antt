@@ -12,7 +12,7 @@ use lib.Dec.{eqb, ltb, leb}
 use lib.Ieee.{Float}
 use borrow.Author.Tests.{leb-true, leb-false}
 use Rattle.std.proofs.lemmas.List.{get_or-map}
-use Rattle.bounds.specs.Bounds.{SCANS, DETECTIONS, FROZEN}
+use Rattle.bounds.specs.Bounds.{SCANS, DETECTIONS}
 use Rattle.engine.specs.declared.config.FgoConfig.{FgoConfig}
 use Rattle.engine.specs.declared.types.Association.{Association}
 use Rattle.engine.specs.Config.{legal}
@@ -20,12 +20,12 @@ use Rattle.engine.specs.Frame.{Frame, no_association}
 use Rattle.engine.specs.Body.{rows}
 use Rattle.engine.proofs.Passing.{length-rows}
 use Rattle.engine.proofs.Settings.{legal_tells}
-use Rattle.cost.specs.declared.Dot.{Dot}
+use Rattle.kf.specs.declared.filter.Dot.{Dot}
 use Rattle.cost.specs.Cost.{measurement_at, no_dot}
 use Rattle.fgo_spec.specs.declared.moves.FgoCounters.{FgoCounters}
 use Rattle.fgo_spec.specs.Lists.{keep, times, find, found_if}
 use Rattle.fgo_spec.specs.Windows as windows
-use Rattle.fgo_spec.specs.Windows.{Scan, Detection, in_windows, noise, measure, detection_of}
+use Rattle.fgo_spec.specs.Windows.{Scan, Detection, in_windows, measure, detection_of}
 use Rattle.fgo_spec.specs.Faithful.{Regular}
 use Rattle.fgo_spec.specs.Rule.{All, ColumnRule}
 use Rattle.fgo_spec.proofs.All.{All_weaken}
@@ -33,7 +33,7 @@ use Rattle.fgo_spec.proofs.Windows.{columns_regular}
 use Rattle.fgo_spec.specs.Gathered.{column_at, picked, spread, put_back}
 use Rattle.search_rows.specs.Rows.{Starts}
 use Rattle.cost_row.specs.Price.{frozen_at, fold_after, fold_among}
-use Rattle.search.specs.Pass.{Scene, scene_of, view_on, Able}
+use Rattle.search.specs.Pass.{Scene, scene_of, view_on}
 use Rattle.search.specs.Represents as search
 use Rattle.search.specs.Represents.{RepresentsFrom, Spare}
 use Rattle.fgo_spec.proofs.Spreads.{above}
@@ -125,9 +125,6 @@ module _ (bodies columns : List ℕ) (first held n : ℕ) (is es is' es' ts' : L
 
   pub starts_gathered : Starts ts'
   starts_gathered = record { long = g.long; rises = starts_rise; ends = omega (arith, g.beyond SCANS h.few (omega arith), few) }
-
-  pub able : (c : FgoConfig) (frozen : ℕ) → frozen ≤ FROZEN → (ds : List Dot) (tracks : List ℕ) (filters : List Float) → Able (scene_of (record { config = c; first = record { 0 = first }; detections = n; frozen = frozen }) ts' ds tracks filters)
-  able c frozen l ds tracks filters = record { early = omega (arith, h.early); gathered = few; frozen = l; starts = starts_gathered }
 
   pub ids_long : length is ≡ DETECTIONS → length is' ≡ DETECTIONS
   ids_long l =

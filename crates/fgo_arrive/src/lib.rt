@@ -6,19 +6,20 @@ ghost use Rattle.engine.specs.Body.{body_of};
 ghost use Rattle.fgo_arrive.specs.Arriving.{SearchesHeld, SearchedHeld, Holds, HeldBy, Arrives, Arrived};
 
 use bounds::{ASSOCIATIONS, DETECTIONS, OWNERS};
-use cost::Dot;
 use cost::prices::Prices;
 use engine::body::Body;
 use engine::checked::CheckedBody;
-use engine::types::ScanIndex;
+use fgo_part::FrozenTracks;
 use fgo_place::placing::Placing;
 use fgo_place::{own, place};
 use fgo_state::scans::Scans;
 use fgo_state::state::{FixedLagRefiner, Memory};
 use fgo_state::{gather, scans};
+use kf::filter::Dot;
 use search::pass;
 use search::scene::SceneRef;
 use search_rows::moves::Tally;
+use search_rows::starts::StartsRef;
 
 // A dot that is not there yet.
 const NO_DOT: Dot = Dot {
@@ -36,9 +37,7 @@ fn search_held(r: &FixedLagRefiner, m: &mut Memory) -> Tally
     ensures parts { m.new.parts ≡ m.old.parts }
 {
     let held = r.held_in(&m.scans);
-    let mut gathered = held.gather();
-    // As it is: the ids are copied, and copied back. A part of a struct with a ghost field, lent by `&mut`, is not covered by the borrow checker.
-    let mut ids = gathered.ids;
+    let gathered = &mut held.gather();
     let mut dots = [NO_DOT; DETECTIONS];
     held.gather_dots(r.config, &mut dots);
     let prices = Prices {
@@ -46,17 +45,23 @@ fn search_held(r: &FixedLagRefiner, m: &mut Memory) -> Tally
         first: r.first,
         dots: &dots,
     };
+    let starts = StartsRef {
+        places: &gathered.starts,
+    };
+    let frozen = FrozenTracks {
+        tracks: &m.parts.tracks,
+        count: r.frozen,
+    };
     let scene = SceneRef {
         prices: &prices,
         detections: gathered.count,
-        frozen: r.frozen,
-        starts: &gathered.starts,
-        parts: &m.parts,
+        starts: &starts,
+        frozen: &frozen,
+        filters: &m.parts.filters,
     };
-    let t = pass::improve(&scene, r.next_id, r.counters, &mut ids);
-    gathered.ids = ids;
-    gather::scatter(&mut m.scans, r.first, &gathered);
-    own::hold_latest(&mut m.owners, r.owned, &gathered);
+    let t = pass::improve(&scene, r.next_id, r.counters, &mut gathered.ids);
+    gather::scatter(&mut m.scans, r.first, gathered.held, &gathered.ids);
+    own::hold_latest(&mut m.owners, r.owned, gathered);
     t
 }
 
@@ -72,8 +77,11 @@ fn hold(r: &mut FixedLagRefiner, b: &CheckedBody<'_>, scans: &mut Scans, owners:
         next_id: r.next_id,
     };
     let p = place::place_all(b, begun, owners, &mut ids);
-    let n = ScanIndex(r.first.0 + r.held as u64);
-    scans.put(n, &b.body, &ids[..b.body.association_count()]);
+    scans.put(
+        r.first.later(r.held),
+        &b.body,
+        &ids[..b.body.association_count()],
+    );
     r.held += 1;
     r.owned = p.owned;
     r.next_id = p.next_id;

@@ -2,4 +2,3 @@ pub mod Associations
 pub mod Listing
 pub mod Framing
 pub mod Filling
-pub mod Summing

@@ -14,10 +14,9 @@ use Rattle.fgo_part.specs.Parts.{part_id, prefix_in, entry_in, table_in}
 use Rattle.fgo_state.specs.Memory.{body_at, ids_in, scan_in}
 use Rattle.fgo_freeze.specs.Frozen.{PartOk, PartsOk}
 
--- a frozen part by value that can be listed at a time
-pub record Lists (time : ℤ) (p : Prefix) : Type 0 where
-  pub heights : p.height_count ≤ HEIGHTS
-  pub timed : time_ok time ≡ true
+-- a frozen part by value that can be listed
+pub record Lists (p : Prefix) : Type 0 where
+  pub heights : p.heights.count ≤ HEIGHTS
   pub last : time_ok p.last_ns ≡ true
 
 -- ---- tracks
@@ -27,8 +26,7 @@ abbrev pub report_in : FgoConfig → ℤ → List ℕ → List Float → ℕ →
 report_in c time tracks filters k = report c time (part_id tracks k) (prefix_in tracks filters k)
 
 -- what writing the part k as listed track i asks
-pub record PutsTrack (time : ℤ) (tracks : List ℕ) (filters : List Float) (k i : ℕ) (ws : List ℕ) (ns : List Float) : Type 0 where
-  pub timed : time_ok time ≡ true
+pub record PutsTrack (tracks : List ℕ) (filters : List Float) (k i : ℕ) (ws : List ℕ) (ns : List Float) : Type 0 where
   pub part : PartOk (entry_in tracks filters k)
   pub few : k < FROZEN
   pub words : HEAD + TRACK + TRACK * i ≤ length ws

@@ -2,38 +2,28 @@
 #![tactic(auto)]
 
 ghost use Rattle.std.specs.Prelude.{◌≡◌, ◌+◌, ◌*◌, ◌<◌, ◌≤◌, true, length, ◌-ℤ◌, int_le};
-ghost use Rattle.std.specs.Float.{nan};
-ghost use Rattle.bounds.specs.Bounds.{FROZEN, HEIGHTS, HEAD, LINK, VECTOR};
+ghost use Rattle.bounds.specs.Bounds.{FROZEN, HEAD, LINK, VECTOR};
 ghost use Rattle.engine.specs.Config.{coast};
 ghost use Rattle.engine.specs.Body.{body_of, time_ok, frame_in, sensors_in, associations_in};
 ghost use Rattle.engine.specs.Encode.{cost_present};
-ghost use Rattle.fgo_spec.specs.Freezing as freezing;
 ghost use Rattle.fgo_spec.specs.Emitting as spec;
 ghost use Rattle.buffers.specs.Buffers.{over};
-ghost use Rattle.fgo_part.specs.Parts.{cells, prefix_of, table_in, part_last_ns};
+ghost use Rattle.fgo_part.specs.Parts.{prefix_of, table_in, part_last_ns};
 ghost use Rattle.fgo_freeze.specs.Frozen.{PartsOk};
 ghost use Rattle.fgo_emit.specs.Writing.{Lists, report_in, PutsTrack, PutTrack, Roomy, PutTracks, links_in, costs_in, emitted_in, PutsFrame, PutFrame, head_in};
 
-use bounds::{HEAD, HEIGHTS, LINK, PARTS, STATE, TRACK, VECTOR};
+use bounds::{HEAD, LINK, PARTS, STATE, TRACK, VECTOR};
 use buffers::{FrameSize, put};
-use engine::checked::CheckedBody;
 use engine::config::FgoConfig;
-use engine::types::{Association, BodyKind, Outcome, RefinedId, ScanIndex};
+use engine::types::{Association, Outcome, RefinedId, ScanIndex};
+use fgo_freeze::moment::Moment;
 use fgo_part::{FrozenParts, Prefix, class_word, part_id};
+use fgo_state::scan::HeldScan;
 use fgo_state::scans::Scans;
 use kf::filter::Kf;
 use scalar::bits;
 
 // ---- tracks
-
-// The mean of n heights, oldest first.
-fn mean(hs: [f64; HEIGHTS], n: usize) -> f64
-    requires { n ≤ HEIGHTS }
-    ensures { result ≡ freezing.mean (cells nan hs 0 n) }
-{
-    let sum = hs[..n].iter().copied().reduce(|sum, h| sum + h);
-    sum.map_or(0.0, |sum| sum / std::num::nearest_u64_to_f64(n as u64))
-}
 
 fn lifecycle(count: u64) -> u64
     ensures { result ≡ spec.lifecycle count }
@@ -42,15 +32,15 @@ fn lifecycle(count: u64) -> u64
 }
 
 // The words of a listed track.
-fn track_words(c: FgoConfig, time: i64, id: RefinedId, p: Prefix) -> [u64; TRACK]
-    requires { Lists time p }
-    ensures { result ≡ spec.track_words (spec.report c time id.0 (prefix_of p)) }
+fn track_words(at: Moment, id: RefinedId, p: Prefix) -> [u64; TRACK]
+    requires { Lists p }
+    ensures { result ≡ spec.track_words (spec.report at.config at.time id.0 (prefix_of p)) }
 {
     [
         id.0,
         lifecycle(p.count),
         bits::to_word(p.last_ns),
-        bits::to_word(fgo_freeze::age_of(time, p.last_ns)),
+        bits::to_word(at.age_of(p.last_ns)),
         class_word(p.class),
         p.count,
     ]
@@ -88,61 +78,62 @@ fn row_of(k: Kf, height: f64, r: f64) -> [f64; STATE]
     l
 }
 
-fn track_numbers(c: FgoConfig, time: i64, id: RefinedId, p: Prefix) -> [f64; STATE]
-    requires { Lists time p }
-    ensures { result ≡ spec.track_numbers (spec.report c time id.0 (prefix_of p)) }
+fn track_numbers(at: Moment, id: RefinedId, p: Prefix) -> [f64; STATE]
+    requires { Lists p }
+    ensures { result ≡ spec.track_numbers (spec.report at.config at.time id.0 (prefix_of p)) }
 {
-    let height = mean(p.heights, p.height_count);
-    let k = p.kf.predict(bits::seconds(time), c.accel_spectral_density);
-    row_of(k, height, c.position_variance())
+    let c = at.config;
+    let k = p
+        .kf
+        .predict(bits::seconds(at.time), c.accel_spectral_density);
+    row_of(k, p.heights.mean(), c.position_variance())
 }
 
 // Frozen part k as listed track i.
 // As it is: words and numbers at a stride, which are the published format of an emitted frame.
 fn put_track(
-    c: FgoConfig,
-    time: i64,
+    at: Moment,
     parts: &FrozenParts,
     k: usize,
     i: usize,
     words: &mut [u64],
     numbers: &mut [f64],
 )
-    requires { PutsTrack time parts.now.tracks parts.now.filters k i words.old numbers.old }
-    ensures { PutTrack (report_in c time parts.now.tracks parts.now.filters k) i words.old numbers.old words.new numbers.new }
+    requires { PutsTrack parts.now.tracks parts.now.filters k i words.old numbers.old }
+    ensures { PutTrack (report_in at.config at.time parts.now.tracks parts.now.filters k) i words.old numbers.old words.new numbers.new }
 {
     let id = part_id(&parts.tracks, k);
     let p = parts.prefix_at(k);
-    put(words, HEAD + TRACK * i, &track_words(c, time, id, p));
-    put(numbers, STATE * i, &track_numbers(c, time, id, p));
+    put(words, HEAD + TRACK * i, &track_words(at, id, p));
+    put(numbers, STATE * i, &track_numbers(at, id, p));
 }
 
-// Whether frozen part k is listed at a time: its age is at most coast_ns.
-fn is_listed(c: FgoConfig, time: i64, tracks: &[u64; PARTS], k: usize) -> bool
-    requires { (k < FROZEN) × (time_ok time ≡ true) × (time_ok (part_last_ns tracks.now k) ≡ true) }
-    ensures { result ≡ int_le (time -ℤ part_last_ns tracks.now k) (coast c) }
+// Whether frozen part k is listed at a moment: its age is at most coast_ns.
+fn is_listed(at: Moment, tracks: &[u64; PARTS], k: usize) -> bool
+    requires { (k < FROZEN) × (time_ok (part_last_ns tracks.now k) ≡ true) }
+    ensures { result ≡ int_le (at.time -ℤ part_last_ns tracks.now k) (coast at.config) }
 {
-    fgo_freeze::part_age(time, tracks, k) <= c.coast_ns
+    at.part_age(tracks, k) <= at.config.coast_ns
 }
 
 // The listed tracks; how many they are.
+// As it is: a loop that counts, and no `(0..frozen).filter(..).enumerate()`: that tells no count after the last, so the filter would stand here twice.
 fn put_tracks(
-    c: FgoConfig,
-    time: i64,
+    at: Moment,
     parts: &FrozenParts,
     frozen: usize,
     words: &mut [u64],
     numbers: &mut [f64],
 ) -> usize
-    requires { PartsOk time parts.now.tracks parts.now.filters frozen × Roomy words.old numbers.old }
-    ensures tracks { PutTracks (spec.listing c time (table_in parts.now.tracks parts.now.filters frozen)) result
+    requires { PartsOk at.time parts.now.tracks parts.now.filters frozen × Roomy words.old numbers.old }
+    ensures tracks { PutTracks (spec.listing at.config at.time (table_in parts.now.tracks parts.now.filters frozen)) result
         words.old numbers.old words.new numbers.new }
     ensures few { result ≤ FROZEN }
 {
     let mut i: usize = 0;
     for k in 0..frozen {
-        if is_listed(c, time, &parts.tracks, k) {
-            put_track(c, time, parts, k, i, words, numbers);
+        if is_listed(at, &parts.tracks, k) {
+            put_track(at, parts, k, i, words, numbers);
             i += 1;
         }
     }
@@ -170,56 +161,52 @@ fn association_words(a: Association, id: RefinedId) -> [u64; LINK]
 }
 
 // The associations of a scan, from place o on.
-fn put_associations(b: &CheckedBody<'_>, scans: &Scans, n: ScanIndex, words: &mut [u64], o: usize)
-    requires { o + LINK * associations_in (body_of b.now.body) ≤ length words.old }
-    ensures { words.new ≡ over o (links_in scans.now.columns n.0 (body_of b.now.body)) words.old }
+fn put_associations(s: &HeldScan<'_>, words: &mut [u64], o: usize)
+    requires { o + LINK * associations_in (body_of s.now.frame.body) ≤ length words.old }
+    ensures { words.new ≡ over o (links_in s.now.scans.now.columns s.now.n.0 (body_of s.now.frame.body)) words.old }
 {
-    for j in 0..b.body.association_count() {
-        let a = b.association(j);
-        put(
-            words,
-            o + LINK * j,
-            &association_words(a, scans.id_at(n, j)),
-        );
+    for j in 0..s.count() {
+        let ws = association_words(s.association(j), s.id(j));
+        put(words, o + LINK * j, &ws);
     }
 }
 
 // The costs of a scan's associations, from place o on.
-fn put_costs(b: &CheckedBody<'_>, numbers: &mut [f64], o: usize)
-    requires { o + associations_in (body_of b.now.body) ≤ length numbers.old }
-    ensures { numbers.new ≡ over o (costs_in (body_of b.now.body)) numbers.old }
+fn put_costs(s: &HeldScan<'_>, numbers: &mut [f64], o: usize)
+    requires { o + associations_in (body_of s.now.frame.body) ≤ length numbers.old }
+    ensures { numbers.new ≡ over o (costs_in (body_of s.now.frame.body)) numbers.old }
 {
-    for (j, x) in numbers[o..o + b.body.association_count()]
-        .iter_mut()
-        .enumerate()
-    {
-        *x = b.association(j).cost.unwrap_or(0.0);
+    for (j, x) in numbers[o..o + s.count()].iter_mut().enumerate() {
+        *x = s.association(j).cost.unwrap_or(0.0);
     }
 }
 
 // The sensors of a scan, from place o on.
-fn put_sensors(b: &CheckedBody<'_>, words: &mut [u64], o: usize)
-    requires { o + sensors_in (body_of b.now.body) ≤ length words.old }
-    ensures { words.new ≡ over o (frame_in (body_of b.now.body)).sensors words.old }
+fn put_sensors(s: &HeldScan<'_>, words: &mut [u64], o: usize)
+    requires { o + sensors_in (body_of s.now.frame.body) ≤ length words.old }
+    ensures { words.new ≡ over o (frame_in (body_of s.now.frame.body)).sensors words.old }
 {
-    for (i, w) in words[o..o + b.body.sensor_count()].iter_mut().enumerate() {
-        *w = b.sensor(i);
+    for (i, w) in words[o..o + s.frame.body.sensor_count()]
+        .iter_mut()
+        .enumerate()
+    {
+        *w = s.frame.sensor(i);
     }
 }
 
 // ---- the frame
 
 // The words before the tracks.
-fn put_head(b: &CheckedBody<'_>, tracks: usize, words: &mut [u64])
+fn put_head(s: &HeldScan<'_>, tracks: usize, words: &mut [u64])
     requires { HEAD ≤ length words.old }
-    ensures { words.new ≡ over 0 (head_in (body_of b.now.body) tracks) words.old }
+    ensures { words.new ≡ over 0 (head_in (body_of s.now.frame.body) tracks) words.old }
 {
     let ws = [
-        bits::to_word(b.time()),
-        u64::from(b.body.mode()),
+        bits::to_word(s.frame.time()),
+        u64::from(s.frame.body.mode()),
         tracks as u64,
-        b.body.association_count() as u64,
-        b.body.sensor_count() as u64,
+        s.count() as u64,
+        s.frame.body.sensor_count() as u64,
         0,
     ];
     put(words, 0, &ws);
@@ -240,18 +227,21 @@ pub fn put_frame(
     ensures { PutFrame (emitted_in c scans.now.bodies scans.now.columns n.0 parts.now.tracks parts.now.filters frozen) result words.old
         numbers.old words.new numbers.new }
 {
-    let b = CheckedBody {
-        body: scans.body(n),
+    let s = scans.held(n);
+    let at = Moment {
+        config: c,
+        time: s.frame.time(),
     };
-    let t = put_tracks(c, b.time(), parts, frozen, words, numbers);
-    put_head(&b, t, words);
+    let t = put_tracks(at, parts, frozen, words, numbers);
+    put_head(&s, t, words);
     let a = HEAD + TRACK * t;
-    let count = b.body.association_count();
-    put_associations(&b, scans, n, words, a);
-    put_sensors(&b, words, a + LINK * count);
-    put_costs(&b, numbers, STATE * t);
+    let count = s.count();
+    let e = a + LINK * count;
+    put_associations(&s, words, a);
+    put_sensors(&s, words, e);
+    put_costs(&s, numbers, STATE * t);
     FrameSize {
-        words: a + LINK * count + b.body.sensor_count(),
+        words: e + s.frame.body.sensor_count(),
         numbers: STATE * t + count,
     }
 }

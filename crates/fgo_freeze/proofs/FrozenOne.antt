@@ -15,8 +15,8 @@ use Rattle.fgo_spec.specs.Windows.{Detection}
 use Rattle.fgo_spec.specs.Freezing.{freeze}
 use Rattle.fgo_part.specs.declared.Prefix.{Prefix}
 use Rattle.fgo_part.specs.Parts.{part_id, prefix_in, entry_in, table_in, prefix_of, Put, part_ids}
+use Rattle.fgo_part.proofs.Recent.{heights_few}
 use Rattle.fgo_freeze.specs.Frozen.{Moves, Raised, Ordered, frozen_by}
-use Rattle.fgo_freeze.proofs.Heights.{heights_few}
 use Rattle.fgo_freeze.proofs.Table.{found, replaced, inserted}
 use Rattle.fgo_freeze.proofs.Order.{ordered_at, absent}
 
@@ -32,7 +32,7 @@ module _ (c : FgoConfig) (t : List ℕ) (f : List Float) (n x k : ℕ) (d : Dete
       let l : 1 ≤ length (prefix_in t f k).heights = rw z at w.0 in
       let m : (prefix_in t f k).count ≤ b = rw z at w.1 in
       let q : p.count ≡ (prefix_in t f k).count = ap (λ u. u.count) e in
-      record { heights = heights_few p.heights 0 p.height_count (rw (← ap (λ u. u.heights) e) at l); count = omega arith }
+      record { heights = heights_few p.heights.values 0 p.heights.count (rw (← ap (λ u. u.heights) e) at l); count = omega arith }
 
   -- the track has a frozen part
   pub one_moved : k < n → part_id t k ≡ x → (p q : Prefix) → prefix_of p ≡ prefix_in t f k → prefix_of q ≡ freeze c (some (prefix_of p)) d → {t' : List ℕ} {f' : List Float} → Put k x q t f t' f' → table_in t' f' n ≡ frozen_by c x d T

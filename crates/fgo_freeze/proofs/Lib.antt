@@ -1,5 +1,5 @@
 pub mod Times
-pub mod Heights
+pub mod Held
 pub mod Classes
 pub mod Raising
 pub mod Table

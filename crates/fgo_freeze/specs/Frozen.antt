@@ -1,5 +1,5 @@
 -- Document 01, "fgo.rs: freezing", on the lent memory. Definitions only.
-use Rattle.std.specs.Prelude.{ℕ, suc, ◌+◌, ◌^◌, ◌<◌, ◌≤◌, ◌≡◌, Bool, true, cond, ◌||◌, List, [], ◌∷◌, length, ltb, ℤ, ◌-ℤ◌, Float}
+use Rattle.std.specs.Prelude.{ℕ, suc, ◌+◌, ◌^◌, ◌<◌, ◌≤◌, ◌≡◌, Bool, true, ◌||◌, List, [], ◌∷◌, length, ℤ, ◌-ℤ◌, Float}
 use Rattle.std.specs.Int.Signed.{le_z}
 use Rattle.bounds.specs.Bounds.{ACCEPTED, FROZEN, HEIGHTS}
 use Rattle.engine.specs.declared.config.FgoConfig.{FgoConfig}
@@ -22,13 +22,9 @@ detection_by d = record { scan = d.scan.0; time = d.time; x = d.x; y = d.y; z = 
 abbrev pub seen_in : ℕ → Body → ℕ → windows.Detection
 seen_in n b j = detection_of n (frame_in b) (association_in b j)
 
--- how many heights there are after one more
-abbrev pub height_count_after : ℕ → ℕ
-height_count_after n = cond (ltb n HEIGHTS) (suc n) HEIGHTS
-
 -- a frozen part by value that can move on: it has at most HEIGHTS heights, and its count is not at the end of its range
 pub record Moves (p : Prefix) : Type 0 where
-  pub heights : p.height_count ≤ HEIGHTS
+  pub heights : p.heights.count ≤ HEIGHTS
   pub count : suc p.count < 2 ^ 64
 
 -- ---- the table of frozen parts, by ascending id

@@ -1,25 +1,29 @@
 // Freezing: the oldest scan's detections move the frozen parts of their tracks on, and parts that nothing asks for any more are forgotten.
 #![tactic(auto)]
 
-ghost use Rattle.std.specs.Prelude.{◌≡◌, true, [], ◌∷◌, ◌++◌, ◌+◌, ◌<◌, ◌≤◌, ◌-ℤ◌, None};
+pub mod moment;
+
+ghost use Rattle.std.specs.Prelude.{◌≡◌, true, ◌<◌, ◌≤◌, None};
 ghost use Rattle.std.proofs.Math.Option.{none, some};
-ghost use Rattle.std.specs.Float.{nan};
-ghost use Rattle.bounds.specs.Bounds.{FROZEN, HEIGHTS};
-ghost use Rattle.engine.specs.Body.{body_of, time_ok, frame_in, body_refusal};
+ghost use Rattle.bounds.specs.Bounds.{FROZEN};
+ghost use Rattle.engine.specs.Body.{body_of, time_ok, frame_in};
 ghost use Rattle.fgo_spec.specs.Windows.{class_among, class_for};
 ghost use Rattle.fgo_spec.specs.Freezing as spec;
-ghost use Rattle.fgo_part.specs.Parts.{cells, prefix_of, table_in, part_last_ns};
+ghost use Rattle.fgo_part.specs.Parts.{prefix_of, table_in, part_last_ns};
 ghost use Rattle.fgo_state.specs.Memory.{scan_in, scans_in};
-ghost use Rattle.fgo_freeze.specs.Frozen.{detection_by, seen_in, height_count_after, Moves, Raised, frozen_by, Freezes, FreezesScan, kept_in, PartsOk};
+ghost use Rattle.fgo_state.specs.Gathering.{dot_of};
+ghost use Rattle.fgo_freeze.specs.Frozen.{detection_by, seen_in, Moves, Raised, frozen_by, Freezes, FreezesScan, kept_in, PartsOk};
 
-use bounds::{FILTER, HEIGHTS, PART, PARTS};
+use crate::moment::Moment;
+use bounds::{FILTER, PART, PARTS};
 use engine::checked::CheckedBody;
 use engine::config::FgoConfig;
 use engine::types::{EngineId, RefinedId, ScanIndex};
-use fgo_part::{FrozenParts, FrozenTracks, Prefix, part_id, part_last_ns};
+use fgo_part::{FrozenParts, FrozenTracks, Heights, Prefix, part_id};
 use fgo_state::held::HeldRef;
+use fgo_state::scan::HeldScan;
 use fgo_state::scans::Scans;
-use kf::filter::Kf;
+use kf::filter::{Dot, Kf};
 use scalar::bits;
 
 // A detection as it is frozen: the number of its scan, the scan's time, where it lies, and the class that its association knows.
@@ -52,66 +56,46 @@ fn class_for(b: &CheckedBody<'_>, a: Option<EngineId>) -> Option<u32>
     class_among(b, a?)
 }
 
-// Association j of scan n.
-fn seen_at(b: &CheckedBody<'_>, n: ScanIndex, j: usize) -> Detection
-    ensures { detection_by result ≡ seen_in n.0 (body_of b.now.body) j }
+// Association j of a scan.
+fn seen_at(s: &HeldScan<'_>, j: usize) -> Detection
+    ensures { detection_by result ≡ seen_in s.now.n.0 (body_of s.now.frame.body) j }
 {
-    let a = b.association(j);
-    let p = b.observation(a.index);
+    let a = s.association(j);
+    let p = s.frame.observation(a.index);
     Detection {
-        scan: n,
-        time: b.time(),
+        scan: s.n,
+        time: s.frame.time(),
         x: p.x,
         y: p.y,
         z: p.z,
-        class: class_for(b, a.track),
+        class: class_for(&s.frame, a.track),
     }
 }
 
 // ---- one detection more
 
-// The last HEIGHTS of n heights and one more.
-fn with_height(hs: [f64; HEIGHTS], n: usize, z: f64) -> [f64; HEIGHTS]
-    requires { n ≤ HEIGHTS }
-    ensures { cells nan result 0 (height_count_after n) ≡ spec.recent (cells nan hs 0 n ++ (z ∷ [])) }
+// A detection as the filter takes it.
+fn dot_of(c: FgoConfig, d: Detection) -> Dot
+    ensures { result ≡ dot_of c (detection_by d) }
 {
-    let mut r = hs;
-    if n < HEIGHTS {
-        r[n] = z;
-        return r;
+    Dot {
+        x: d.x,
+        y: d.y,
+        r: c.position_variance(),
+        t: bits::seconds(d.time),
     }
-    r.copy_within(1..HEIGHTS, 0);
-    r[HEIGHTS - 1] = z;
-    r
-}
-
-fn height_count(n: usize) -> usize
-    requires { n ≤ HEIGHTS }
-    ensures { result ≡ height_count_after n }
-{
-    (n + 1).min(HEIGHTS)
 }
 
 // The frozen part of a track that had none.
 fn fresh(c: FgoConfig, d: Detection) -> Prefix
     ensures { prefix_of result ≡ spec.freeze c none (detection_by d) }
 {
-    let kf = Kf::start(
-        d.x,
-        d.y,
-        bits::seconds(d.time),
-        c.position_variance(),
-        c.initial_velocity_variance,
-    );
-    let mut heights = [0.0; HEIGHTS];
-    heights[0] = d.z;
     Prefix {
-        kf,
+        kf: Kf::start(dot_of(c, d), c.initial_velocity_variance),
         last_frame: d.scan,
         last_ns: d.time,
         count: 1,
-        heights,
-        height_count: 1,
+        heights: Heights::new().with(d.z),
         class: d.class,
     }
 }
@@ -121,13 +105,7 @@ fn moved_on(c: FgoConfig, kf: Kf, d: Detection) -> Kf
     ensures { result ≡ spec.move_on c kf (detection_by d) }
 {
     let mut k = kf;
-    k.advance(
-        bits::seconds(d.time),
-        c.accel_spectral_density,
-        d.x,
-        d.y,
-        c.position_variance(),
-    );
+    k.advance(dot_of(c, d), c.accel_spectral_density);
     k
 }
 
@@ -141,8 +119,7 @@ fn freeze(c: FgoConfig, p: Prefix, d: Detection) -> Prefix
         last_frame: d.scan,
         last_ns: d.time,
         count: p.count + 1,
-        heights: with_height(p.heights, p.height_count, d.z),
-        height_count: height_count(p.height_count),
+        heights: p.heights.with(d.z),
         class: d.class.or(p.class),
     }
 }
@@ -150,6 +127,9 @@ fn freeze(c: FgoConfig, p: Prefix, d: Detection) -> Prefix
 // ---- the table of frozen parts
 
 // The parts from k on move up by one.
+// As it is, here and below: the parts and how many there are are two arguments. A caller lends the parts apart from the state, which counts them, so a
+// struct of both would hold a `&mut`, and of such a struct no fact says what it holds afterwards.
+// As it is: by PART and FILTER, at which stride parts lie in the lent memory: that is a published format.
 fn make_room(parts: &mut FrozenParts, k: usize, frozen: usize)
     requires { (k ≤ frozen) × (frozen < FROZEN) }
     ensures { Raised k frozen parts.old.tracks parts.old.filters parts.new.tracks parts.new.filters }
@@ -200,14 +180,12 @@ pub fn freeze_scan(
     ensures { table_in parts.new.tracks parts.new.filters result
         ≡ spec.freeze_scan c n.0 (scan_in scans.now.bodies scans.now.columns n.0) (table_in parts.old.tracks parts.old.filters frozen) }
 {
-    let b = CheckedBody {
-        body: scans.body(n),
-    };
+    let s = scans.held(n);
     let mut f = frozen;
-    for j in 0..b.body.association_count() {
-        let id = scans.id_at(n, j);
+    for j in 0..s.count() {
+        let id = s.id(j);
         if 0 < id.0 {
-            f = freeze_one(c, parts, f, id, seen_at(&b, n, j));
+            f = freeze_one(c, parts, f, id, seen_at(&s, j));
         }
     }
     f
@@ -215,31 +193,18 @@ pub fn freeze_scan(
 
 // ---- forgetting
 
-// The age of what was seen last at a time; both times must be in bounds.
-pub fn age_of(now: i64, last: i64) -> i64
-    requires { (time_ok now ≡ true) × (time_ok last ≡ true) }
-    ensures { result ≡ now -ℤ last }
-{
-    now - last
-}
-
-// The age of frozen part k at a time; both times must be in bounds.
-pub fn part_age(time: i64, tracks: &[u64; PARTS], k: usize) -> i64
-    requires { (k < FROZEN) × (time_ok time ≡ true) × (time_ok (part_last_ns tracks.now k) ≡ true) }
-    ensures { result ≡ time -ℤ part_last_ns tracks.now k }
-{
-    age_of(time, part_last_ns(tracks, k))
-}
-
 // Whether frozen part k stays: its track has a window, or its age is at most forget_after_ns.
-fn is_kept(c: FgoConfig, time: i64, held: &HeldRef<'_>, tracks: &[u64; PARTS], k: usize) -> bool
-    requires { (k < FROZEN) × (time_ok time ≡ true) × (time_ok (part_last_ns tracks.now k) ≡ true) }
-    ensures { result ≡ kept_in c time (scans_in held.now.scans.now.bodies held.now.scans.now.columns held.now.first.0 held.now.count) tracks.now k }
+fn is_kept(at: Moment, held: &HeldRef<'_>, tracks: &[u64; PARTS], k: usize) -> bool
+    requires { (k < FROZEN) × (time_ok (part_last_ns tracks.now k) ≡ true) }
+    ensures { result ≡ kept_in at.config at.time (scans_in held.now.scans.now.bodies held.now.scans.now.columns held.now.first.0 held.now.count) tracks.now k }
 {
-    held.windows_in(part_id(tracks, k)) || part_age(time, tracks, k) <= c.forget_after_ns
+    held.windows_in(part_id(tracks, k)) || at.part_age(tracks, k) <= at.config.forget_after_ns
 }
 
 // The frozen parts that stay, moved together; how many they are. All times must be in bounds.
+// As it is: a loop like that of `keep_owners`. This one moves parts in two arrays, that one entries in one, so a function of both would take a closure that
+// tells which stay and one that moves them, which is no plainer. `w += 1` counts those that stayed, which no iterator tells after its last, as `put_tracks` of
+// fgo_emit says.
 pub fn forget(
     c: FgoConfig,
     time: i64,
@@ -252,9 +217,10 @@ pub fn forget(
         ≡ spec.remember c time (scans_in held.now.scans.now.bodies held.now.scans.now.columns held.now.first.0 held.now.count)
         (table_in parts.old.tracks parts.old.filters frozen) }
 {
+    let at = Moment { config: c, time };
     let mut w: usize = 0;
     for k in 0..frozen {
-        if is_kept(c, time, held, &parts.tracks, k) {
+        if is_kept(at, held, &parts.tracks, k) {
             parts.copy(k, w);
             w += 1;
         }

@@ -1,3 +1,5 @@
 pub mod Cells
 pub mod Parts
 pub mod Places
+pub mod Recent
+pub mod Summing

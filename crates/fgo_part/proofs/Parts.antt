@@ -147,13 +147,13 @@ module _ (t : List ℕ) (f : List Float) (k : ℕ) (few : k < FROZEN) (wide : le
 
   -- a part by value put there
   pub part_put :
-      (x : ℕ) (p : Prefix) {t' : List ℕ} {f' : List Float} → length p.heights ≡ HEIGHTS → signed (word p.last_ns) ≡ p.last_ns →
+      (x : ℕ) (p : Prefix) {t' : List ℕ} {f' : List Float} → length p.heights.values ≡ HEIGHTS → signed (word p.last_ns) ≡ p.last_ns →
       class_in (class_word p.class) ≡ p.class → t' ≡ over (PART * k) (part_words x p) t → f' ≡ over (FILTER * k) (part_numbers p) f → Put k x p t f t' f'
   unfolding prefix_in
   part_put x p high time class et ef =
       let ws : List ℕ = part_words x p in
       let ns : List Float = part_numbers p in
-      let b : length ns ≡ FILTER = length-append (kf_numbers p.kf) p.heights ∙ ap (λ (n : ℕ). KF + n) high in
+      let b : length ns ≡ FILTER = length-append (kf_numbers p.kf) p.heights.values ∙ ap (λ (n : ℕ). KF + n) high in
       let w = word_in ws ns refl b in
       let n = number_in ws ns refl b in
       let t₁ : List ℕ = over (PART * k) ws t in
@@ -161,8 +161,8 @@ module _ (t : List ℕ) (f : List Float) (k : ℕ) (few : k < FROZEN) (wide : le
       let e0 : part_id t₁ k ≡ x = rw add-zero at (w 0 (lit< tt)) in
       let g : part_kf f₁ k ≡ p.kf = kf_same f₁ ns (FILTER * k) 0 (λ i h. n i (omega arith) ∙ ap (λ (m : ℕ). get_or ns m nan) (sym (zero-add i))) in
       let h =
-      heights_same f₁ p.heights (part_heights_at k) 0
-      (λ i l. ap (λ (m : ℕ). get_or f₁ m nan) (add_assoc (FILTER * k) KF i) ∙ n (KF + i) (omega arith) ∙ get_or-append-add (kf_numbers p.kf) p.heights i nan ∙ ap (λ (m : ℕ). get_or p.heights m nan) (sym (zero-add i)))
-      p.height_count in
+      heights_same f₁ p.heights.values (part_heights_at k) 0
+      (λ i l. ap (λ (m : ℕ). get_or f₁ m nan) (add_assoc (FILTER * k) KF i) ∙ n (KF + i) (omega arith) ∙ get_or-append-add (kf_numbers p.kf) p.heights.values i nan ∙ ap (λ (m : ℕ). get_or p.heights.values m nan) (sym (zero-add i)))
+      p.heights.count in
       rw (et, ef)
       (record { here = rw (e0, g, w 1 (lit< tt), w 2 (lit< tt), w 3 (lit< tt), w 4 (lit< tt), w 5 (lit< tt), time, class, h); others = others_stay ws ns refl b })

@@ -12,6 +12,7 @@ use Rattle.kf.specs.declared.filter.Kf.{Kf}
 use Rattle.kf.specs.Filter.{kf_in, kf_numbers}
 use Rattle.fgo_spec.specs.Windows as windows
 use Rattle.fgo_spec.specs.Emitting.{class_word}
+use Rattle.fgo_part.specs.declared.Heights.{Heights}
 use Rattle.fgo_part.specs.declared.Prefix.{Prefix}
 use Rattle.fgo_part.specs.declared.FrozenParts.{FrozenParts}
 use Rattle.engine.specs.Frame.{ClassLabel}
@@ -94,6 +95,10 @@ no_parts = record { tracks = replicate PARTS 0; filters = replicate FILTERS (of_
 
 -- ---- parts by value
 
+-- the heights that are there
+abbrev pub heights_of : Heights → List Float
+heights_of h = heights_in h.values 0 h.count
+
 -- a frozen part by value, as the part that it is
 abbrev pub prefix_of : Prefix → windows.Prefix
 prefix_of p =
@@ -102,18 +107,18 @@ prefix_of p =
       last_frame = p.last_frame.0;
       last_ns = p.last_ns;
       count = p.count;
-      heights = heights_in p.heights 0 p.height_count;
+      heights = heights_of p.heights;
       class = p.class;
     }
 
 -- its words, under an id
 abbrev pub part_words : ℕ → Prefix → List ℕ
 part_words x p =
-    x ∷ p.last_frame.0 ∷ word p.last_ns ∷ p.count ∷ class_word p.class ∷ p.height_count ∷ []
+    x ∷ p.last_frame.0 ∷ word p.last_ns ∷ p.count ∷ class_word p.class ∷ p.heights.count ∷ []
 
 -- its numbers
 abbrev pub part_numbers : Prefix → List Float
-part_numbers p = kf_numbers p.kf ++ p.heights
+part_numbers p = kf_numbers p.kf ++ p.heights.values
 
 -- ---- writing
 

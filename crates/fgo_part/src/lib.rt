@@ -3,18 +3,79 @@
 // The words are its id, last frame, last time, count, class and number of heights; the numbers are those of its filter, then its last heights, oldest first.
 #![tactic(auto)]
 
-ghost use Rattle.std.specs.Prelude.{◌≡◌, ◌+◌, ◌*◌, ◌<◌, ◌≤◌};
-ghost use Rattle.bounds.specs.Bounds.{FROZEN, PART, HEIGHTS, FILTER};
-ghost use Rattle.fgo_spec.specs.Lists.{has, place_in, segment};
+ghost use Rattle.std.specs.Prelude.{◌≡◌, [], ◌∷◌, ◌++◌, ◌<◌, ◌≤◌};
+ghost use Rattle.bounds.specs.Bounds.{FROZEN, HEIGHTS};
+ghost use Rattle.fgo_spec.specs.Lists.{has, place_in};
+ghost use Rattle.fgo_spec.specs.Freezing.{recent, mean};
 ghost use Rattle.fgo_spec.specs.Emitting.{class_word};
 ghost use Rattle.fgo_part.specs.Parts.{class_in, part_id, part_last_frame, part_last_ns, part_count, part_class, part_height_count};
-ghost use Rattle.fgo_part.specs.Parts.{part_ids, part_kf, part_heights_at, prefix_in, prefix_of, no_parts, Copied, Put};
+ghost use Rattle.fgo_part.specs.Parts.{part_ids, part_kf, heights_of, prefix_in, prefix_of, no_parts, Copied, Put};
 
 use bounds::{FILTER, FILTERS, HEIGHTS, KF, PART, PARTS};
-use buffers::put;
+use buffers::{array_at, put};
 use engine::types::{RefinedId, ScanIndex};
 use kf::filter::Kf;
 use scalar::bits;
+
+// ---- heights
+
+// The last heights of a track, oldest first, and how many there are.
+// As it is: no ghost field says that there are no more than HEIGHTS: a caller may lend any memory, sound or not, and a part is read from it.
+#[derive(Clone, Copy)]
+pub struct Heights {
+    pub values: [f64; HEIGHTS],
+    pub count: usize,
+}
+
+impl Heights {
+    // Those of a track that was not seen yet.
+    pub fn new() -> Heights
+        ensures { result.count ≡ 0 }
+    {
+        Heights {
+            values: [0.0; HEIGHTS],
+            count: 0,
+        }
+    }
+
+    // One more, of which the last HEIGHTS stay.
+    pub fn with(self, z: f64) -> Heights
+        requires { self.count ≤ HEIGHTS }
+        ensures few { result.count ≤ HEIGHTS }
+        ensures heights { heights_of result ≡ recent (heights_of self ++ (z ∷ [])) }
+    {
+        let mut values = self.values;
+        if self.count < HEIGHTS {
+            values[self.count] = z;
+            return Heights {
+                values,
+                count: self.count + 1,
+            };
+        }
+        values.copy_within(1..HEIGHTS, 0);
+        values[HEIGHTS - 1] = z;
+        Heights {
+            values,
+            count: HEIGHTS,
+        }
+    }
+
+    // Their mean, added oldest first.
+    pub fn mean(self) -> f64
+        requires { self.count ≤ HEIGHTS }
+        ensures { result ≡ mean (heights_of self) }
+    {
+        let sum = self.values[..self.count]
+            .iter()
+            .copied()
+            .reduce(|sum, h| sum + h);
+        sum.map_or(0.0, |sum| {
+            sum / std::num::nearest_u64_to_f64(self.count as u64)
+        })
+    }
+}
+
+// ---- the part
 
 // The frozen part of a track.
 #[derive(Clone, Copy)]
@@ -23,21 +84,21 @@ pub struct Prefix {
     pub last_frame: ScanIndex,
     pub last_ns: i64,
     pub count: u64,
-    // The last heights, oldest first, and how many there are.
-    pub heights: [f64; HEIGHTS],
-    pub height_count: usize,
+    pub heights: Heights,
     pub class: Option<u32>,
 }
 
 // What stands for a class that is not known.
 const NO_CLASS: u64 = 0x1_0000_0000;
 
+// A class as a word.
 pub fn class_word(k: Option<u32>) -> u64
     ensures { (result ≡ class_word k) × (class_in result ≡ k) }
 {
     k.map_or(NO_CLASS, u64::from)
 }
 
+// The class that a word says.
 pub fn class_of(w: u64) -> Option<u32>
     ensures { result ≡ class_in w }
 {
@@ -46,8 +107,8 @@ pub fn class_of(w: u64) -> Option<u32>
 
 // ---- the fields of part k, which is below FROZEN
 //
-// As it is, here and below: functions of the words or of the numbers, and no struct of a part: who reads a part is lent one of the two arrays alone, so it
-// would take a struct for each, which is no plainer.
+// As it is, here and below: functions of the words or of the numbers, and no struct of a part. `FrozenTracks` below, the words with a count, would serve the
+// rule and the search; but `prefix_at`, `put_track`, `part_age` and `is_kept` have no count, so these functions would stay beside its methods.
 
 // The id of its track.
 pub fn part_id(tracks: &[u64; PARTS], k: usize) -> RefinedId
@@ -124,6 +185,8 @@ impl FrozenTracks<'_> {
     }
 
     // The first place whose id is not below this one.
+    // As it is: from place to place, and no `partition_point`, which takes a slice: the ids lie a stride apart in the lent words, a published format. And this
+    // is promised of any table, where `partition_point` says something of an ordered one only.
     pub fn place_of(&self, id: RefinedId) -> usize
         ensures { (result ≡ place_in id.0 (part_ids self.now.tracks.now self.now.count)) × (result ≤ self.now.count) }
     {
@@ -154,18 +217,6 @@ impl FrozenParts {
         }
     }
 
-    // The heights of part k, with what stands past the last of them.
-    fn heights(&self, k: usize) -> [f64; HEIGHTS]
-        requires { k < FROZEN }
-        ensures { result ≡ segment (part_heights_at k) (part_heights_at k + HEIGHTS) self.now.filters }
-    {
-        let all = &self.filters[..];
-        let o = FILTER * k + KF;
-        let mut hs = [0.0; HEIGHTS];
-        hs.copy_from_slice(&all[o..o + HEIGHTS]);
-        hs
-    }
-
     // Frozen part k, which is below FROZEN.
     pub fn prefix_at(&self, k: usize) -> Prefix
         requires { k < FROZEN }
@@ -176,8 +227,10 @@ impl FrozenParts {
             last_frame: part_last_frame(&self.tracks, k),
             last_ns: part_last_ns(&self.tracks, k),
             count: part_count(&self.tracks, k),
-            heights: self.heights(k),
-            height_count: part_height_count(&self.tracks, k) as usize,
+            heights: Heights {
+                values: array_at(&self.filters, FILTER * k + KF),
+                count: part_height_count(&self.tracks, k) as usize,
+            },
             class: part_class(&self.tracks, k),
         }
     }
@@ -204,10 +257,10 @@ impl FrozenParts {
             bits::to_word(p.last_ns),
             p.count,
             class_word(p.class),
-            p.height_count as u64,
+            p.heights.count as u64,
         ];
         put(&mut self.tracks, PART * k, &ws);
         put(&mut self.filters, FILTER * k, &p.kf.numbers());
-        put(&mut self.filters, FILTER * k + KF, &p.heights);
+        put(&mut self.filters, FILTER * k + KF, &p.heights.values);
     }
 }

@@ -11,6 +11,8 @@ use fgo_state::owners::{engine_at, owner_at, put_owner};
 use fgo_state::state::LiveTracks;
 
 // The owners, each changed to the holder of the latest detection of its engine id, if a window has one. It asks for OWNED owners at most.
+// As it is, here and in keep_owners: a loop over places and no iterator over entries. `chunks_exact_mut` was tried here, and the proof did not close: once its
+// borrow is over, the check knows how long the array is and not what it holds. And keep_owners writes an entry at another place than where it was read.
 pub fn hold_latest(owners: &mut [u64; OWNERS], owned: usize, gathered: &Gathered)
     requires { owned ≤ OWNED }
     ensures { owners_in owners.new owned
@@ -18,14 +20,16 @@ pub fn hold_latest(owners: &mut [u64; OWNERS], owned: usize, gathered: &Gathered
 {
     for k in 0..owned {
         let e = engine_at(owners, k);
-        let x = gathered.latest(e);
-        if 0 < x.0 {
+        if let Some(x) = gathered.latest(e) {
             put_owner(owners, k, e, x);
         }
     }
 }
 
 // The entries of the owner table that have a live owner, moved together; how many they are. It asks for OWNED owners at most.
+// As it is: a loop like that of fgo_freeze's `forget`: here entries of one array move, there parts of two arrays. A function of both would take two closures,
+// one that tests a place and one that moves what lies there, which is no plainer. And w counts by hand: a `filter` with `enumerate` tells no count after the
+// last, as fgo_emit's `put_tracks` says.
 pub fn keep_owners(live: &LiveTracks<'_>, owned: usize, owners: &mut [u64; OWNERS]) -> usize
     requires { owned ≤ OWNED }
     ensures { let l = live.now in owners_in owners.new result

@@ -1,9 +1,10 @@
 // Placing: each association of a new frame goes to the track that owns its engine id, or starts a track.
-ghost use Rattle.std.specs.Prelude.{◌≡◌, ◌+◌, ◌^◌, ◌<◌, ◌≤◌, take, Some};
+ghost use Rattle.std.specs.Prelude.{◌≡◌, ◌+◌, ◌^◌, ◌<◌, ◌≤◌, Some};
 ghost use Rattle.bounds.specs.Bounds.{ASSOCIATIONS, OWNED};
 ghost use Rattle.engine.specs.Body.{body_of, frame_in, associations_in};
 ghost use Rattle.fgo_spec.specs.Placing as spec;
-ghost use Rattle.fgo_state.specs.Memory.{owners_in};
+ghost use Rattle.fgo_state.specs.Memory.{owner_of, owners_in};
+ghost use Rattle.fgo_state.specs.Owners.{id_from};
 ghost use Rattle.fgo_place.specs.Placing.{assigned_in, free_below, placed_one, placed_all, Placed, begins};
 
 use crate::placing::Placing;
@@ -35,16 +36,13 @@ fn assign(owners: &mut [u64; OWNERS], owned: usize, e: EngineId, x: RefinedId) -
     owned
 }
 
-// The owner, if it was there before this push and has no detection among the first n; 0 if not. `old` is the next id before the push.
-fn free_owner(old: RefinedId, x: RefinedId, n: usize, ids: &[u64; ASSOCIATIONS]) -> RefinedId
-    requires { n ≤ ASSOCIATIONS }
-    ensures { result.0 ≡ free_below old.0 (take n ids.now) x.0 }
+// The owner of an engine id, if it was there before this push and has no detection among the ids of the frame so far. `old` is the next id before the push.
+fn free_owner(old: RefinedId, table: &OwnersRef<'_>, e: EngineId, ids: &[u64]) -> Option<RefinedId>
+    ensures { result ≡ id_from (free_below old.0 ids.now (owner_of table.now.entries.now table.now.owned e.0)) }
 {
-    if old <= x || ids[..n].contains(&x.0) {
-        RefinedId(0)
-    } else {
-        x
-    }
+    table
+        .owner_of(e)
+        .filter(|x| *x < old && !ids.contains(&x.0))
 }
 
 // Association j, with an engine id: it goes to its owner, or starts a track, which owns the engine id from then on.
@@ -65,8 +63,7 @@ fn place_track(
         entries: owners,
         owned: p.owned,
     };
-    let x = free_owner(old, table.owner_of(e), j, ids);
-    if 0 < x.0 {
+    if let Some(x) = free_owner(old, &table, e, &ids[..j]) {
         ids[j] = x.0;
         return p;
     }

@@ -8,7 +8,6 @@ use mathlib.Core.List.{List, [], ◌∷◌, ◌++◌, foldr}
 use lib.ListN.{length, length-append, drop_of_length-le}
 use lib.Seq.{drop-cons}
 use lib.Dec.{eqb}
-use Rattle.bounds.specs.Bounds.{JOINED}
 use Rattle.engine.specs.declared.types.Association.{Association}
 use Rattle.engine.specs.Frame.{no_association, Associated}
 use Rattle.engine.specs.Body.{Body, frame_in, associations_in}
@@ -69,15 +68,14 @@ module _ (owners : List ℕ) (owned : ℕ) (s : Body) where
     pub some : j ≤ associations_in s
     pub few : n + j ≤ owned + associations_in s
     pub alike : Alike (cells 0 all 0 n) (joined_in owners owned s j)
-    pub room : length all ≡ JOINED
 
-  pub joins_none : {all : List ℕ} (j : ℕ) → length all ≡ JOINED → j ≡ associations_in s → cells 0 all 0 owned ≡ engines_in owners owned → Joins all owned j
-  joins_none j r h e =
+  pub joins_none : {all : List ℕ} (j : ℕ) → j ≡ associations_in s → cells 0 all 0 owned ≡ engines_in owners owned → Joins all owned j
+  joins_none j h e =
       let f = e ∙ sym (joined_none j (omega arith)) in
-      record { some = omega arith; few = omega arith; alike = record { same = λ x. ap (has x) f; long = ap length f }; room = r }
+      record { some = omega arith; few = omega arith; alike = record { same = λ x. ap (has x) f; long = ap length f } }
 
-  pub joins_more : {all all' : List ℕ} {n n' j : ℕ} {a : Associated} → Joins all n j → 0 < j → a ≡ (association_in s (j - 1)).track → cells 0 all' 0 n' ≡ join_end a (cells 0 all 0 n) → n' ≤ n + 1 → length all' ≡ JOINED → Joins all' n' (j - 1)
-  joins_more {all} {all'} {n} {n'} {j} {a} p h ea e few r =
+  pub joins_more : {all all' : List ℕ} {n n' j : ℕ} {a : Associated} → Joins all n j → 0 < j → a ≡ (association_in s (j - 1)).track → cells 0 all' 0 n' ≡ join_end a (cells 0 all 0 n) → n' ≤ n + 1 → Joins all' n' (j - 1)
+  joins_more {all} {all'} {n} {n'} {j} {a} p h ea e few =
       let i : suc (j - 1) ≡ j = omega arith in
       let some = p.some in
       let count = p.few in
@@ -88,7 +86,6 @@ module _ (owners : List ℕ) (owned : ℕ) (s : Body) where
         some = omega arith;
         few = omega arith;
         alike = record { same = λ x. ap (has x) e ∙ q.same x ∙ ap (has x) (sym step); long = ap length e ∙ q.long ∙ ap length (sym step) };
-        room = r;
       }
 
   pub joins_all : {all : List ℕ} {n j : ℕ} → Joins all n j → j ≤ 0 → n ≡ length (joined_in owners owned s 0)

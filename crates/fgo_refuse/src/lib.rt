@@ -1,7 +1,7 @@
 // What a push is refused for, once the state is sound and the buffers are long enough.
 #![tactic(auto)]
 
-ghost use Rattle.std.specs.Prelude.{◌≡◌, ◌+◌, ◌<◌, ◌≤◌, length};
+ghost use Rattle.std.specs.Prelude.{◌≡◌, ◌+◌, ◌<◌, ◌≤◌, length, Some};
 ghost use Rattle.bounds.specs.Bounds.{ACCEPTED, ASSOCIATIONS, JOINED};
 ghost use Rattle.refusals.specs.Refusals.{refused};
 ghost use Rattle.engine.specs.Body.{body_of, frame_in};
@@ -14,7 +14,6 @@ use bounds::{ACCEPTED, COUNTED, DETECTIONS, JOINED, OWNED, OWNERS};
 use engine::body::Body;
 use engine::checked::CheckedBody;
 use engine::types::EngineId;
-use fgo_state::held::HeldRef;
 use fgo_state::owners::{OwnersRef, engine_at};
 use fgo_state::scans::Scans;
 use fgo_state::state::FixedLagRefiner;
@@ -38,33 +37,54 @@ fn owner_keys(o: &OwnersRef<'_>, all: &mut [u64; JOINED])
     }
 }
 
-// The engine id of an association joins n others, unless it is among them; how many they are then.
-fn join_one(a: Option<EngineId>, all: &mut [u64; JOINED], n: usize) -> usize
-    requires { n < JOINED }
-    ensures { (cells 0 all.new 0 result ≡ join_end a (cells 0 all.old 0 n)) × (result ≤ n + 1) }
-{
-    let Some(e) = a else { return n };
-    if all[..n].contains(&e.0) {
-        return n;
+// The engine ids that a push joins: the first `count`.
+#[derive(Drop)]
+struct Joined {
+    all: [u64; JOINED],
+    count: usize,
+}
+
+impl Joined {
+    // Those of the owner table.
+    fn of(o: &OwnersRef<'_>) -> Joined
+        ensures ids { cells 0 result.all 0 result.count ≡ engines_in o.now.entries.now o.now.owned }
+        ensures count { result.count ≡ o.now.owned }
+    {
+        let mut all = [0; JOINED];
+        owner_keys(o, &mut all);
+        Joined {
+            all,
+            count: o.owned,
+        }
     }
-    all[n] = e.0;
-    n + 1
+
+    // One more, unless it is among them.
+    fn join(&mut self, e: EngineId)
+        requires { self.old.count < JOINED }
+        ensures ids { cells 0 self.new.all 0 self.new.count ≡ join_end (Some e) (cells 0 self.old.all 0 self.old.count) }
+        ensures count { self.new.count ≤ self.old.count + 1 }
+    {
+        if !self.all[..self.count].contains(&e.0) {
+            self.all[self.count] = e.0;
+            self.count += 1;
+        }
+    }
 }
 
 // Engine ids with an owner, joined with the frame's.
 fn joined_count(o: &OwnersRef<'_>, b: &CheckedBody<'_>) -> usize
     ensures { result ≡ length (joined_in o.now.entries.now o.now.owned (body_of b.now.body) 0) }
 {
-    let mut all = [0u64; JOINED];
-    owner_keys(o, &mut all);
-    let mut n = o.owned;
+    let mut joined = Joined::of(o);
     for j in (0..b.body.association_count()).rev() {
-        n = join_one(b.association(j).track, &mut all, n);
+        if let Some(e) = b.association(j).track {
+            joined.join(e);
+        }
     }
-    n
+    joined.count
 }
 
-// 8: no more scans, ids or moves can be counted.
+// `Refusal::Count`: no more scans, ids or moves can be counted.
 fn is_full(r: &FixedLagRefiner) -> bool
     requires { r.now.first.0 + r.now.held ≤ ACCEPTED + 1 }
     ensures { result ≡ full_in r.now }
@@ -78,8 +98,8 @@ fn is_full(r: &FixedLagRefiner) -> bool
         || COUNTED < k.drops
 }
 
-// Whether a frame may be pushed, after 3 and 4: or the first of 5 to 10 that it is refused for. It asks that SCANS scans at most are held, with FROZEN parts
-// and OWNED owners at most.
+// Whether a frame may be pushed, after `State` and `Output`: or the first that it is refused for of `Frame`, `Coordinate`, `Index`, `Count`, `Detections` and
+// `Owners`. It asks that SCANS scans at most are held, with FROZEN parts and OWNED owners at most.
 pub fn check_push(
     r: &FixedLagRefiner,
     scans: &Scans,
@@ -93,12 +113,7 @@ pub fn check_push(
     if is_full(r) {
         return Err(Refusal::Count);
     }
-    let held = HeldRef {
-        scans,
-        first: r.first,
-        count: r.held,
-    };
-    if DETECTIONS < r.frozen + held.window_count() + id_count(&b) {
+    if DETECTIONS < r.frozen + r.held_in(scans).window_count() + id_count(&b) {
         return Err(Refusal::Detections);
     }
     let owners = OwnersRef {

@@ -6,12 +6,11 @@ use mathlib.Core.Path.{◌≡◌, refl, sym, ap, ◌∙◌}
 use mathlib.Core.Bool.{Bool, true, false, ◌&&◌, and_assoc}
 use mathlib.Core.List.{List, [], ◌∷◌, ◌++◌}
 use lib.ListN.{length, get_or, take}
-use Rattle.std.specs.List.{range_with_len, list_all}
-use Rattle.std.proofs.lemmas.List.{map-id, get_or-take, length-take-le}
+use Rattle.std.specs.List.{list_all}
+use Rattle.std.proofs.lemmas.List.{get_or-take, length-take-le}
 use Rattle.engine.specs.Body.{all, rows}
 use Rattle.engine.proofs.Every.{all_front}
 use Rattle.fgo_spec.specs.Rule.{all_of}
-use Rattle.fgo_part.proofs.Places.{rows_range}
 
 -- tests that agree
 pub all_same : (p q : ℕ → Bool) (n : ℕ) → ((i : ℕ) → i < n → p i ≡ q i) → all p n ≡ all q n
@@ -58,10 +57,6 @@ all_both p q (suc n) = ap (λ b. b && (p n && q n)) (all_both p q n) ∙ swap (a
 list_of : {A : Type 0} (q : A → Bool) (l : List A) → list_all q l ≡ all_of q l
 list_of q [] = refl
 list_of q (a ∷ l) = ap (λ b. q a && b) (list_of q l)
-
--- of the numbers of a range
-pub all_range : (p : ℕ → Bool) (n : ℕ) → list_all p (range_with_len 0 n) ≡ all p n
-all_range p n = list_of p (range_with_len 0 n) ∙ ap (all_of p) (sym (rows_range (λ i. i) 0 n ∙ map-id (range_with_len 0 n))) ∙ sym (all-numbers p n)
 
 -- of the first of a list
 pub all_taken : {A : Type 0} (q : A → Bool) (l : List A) (n : ℕ) (d : A) → n ≤ length l → list_all q (take n l) ≡ all (λ i. q (get_or l i d)) n

@@ -1,4 +1,4 @@
-// The state rule, checked whole: 3 is answered where it is broken.
+// The state rule, checked whole: `Refusal::State` is answered where it is broken.
 #![tactic(auto)]
 
 ghost use Rattle.std.specs.Prelude.{◌≡◌, ◌<◌, ◌&&◌};
@@ -10,8 +10,7 @@ ghost use Rattle.fgo_state.specs.Sound.{bodies_ok};
 ghost use Rattle.fgo_rule.specs.Tests.{counts_ok, id_ok, column_in, scan_ok, columns_ok, id_before, part_ok, parts_ok};
 ghost use Rattle.fgo_rule.specs.Tests.{owned_all, distinct_at, entries_ok, owned_in, sound_in, Owning};
 
-use bounds::{ACCEPTED, DETECTIONS, FROZEN, HEIGHTS, OWNED, PARTS};
-use engine::checked::CheckedBody;
+use bounds::{ACCEPTED, DETECTIONS, FROZEN, HEIGHTS, OWNED, OWNERS, PARTS};
 use engine::types::{EngineId, RefinedId, ScanIndex};
 use fgo_part::{
     FrozenTracks, part_count, part_height_count, part_id, part_last_frame, part_last_ns,
@@ -19,8 +18,9 @@ use fgo_part::{
 use fgo_state::gather::Gathered;
 use fgo_state::held::HeldRef;
 use fgo_state::owners::{OwnersRef, engine_at, owner_at};
+use fgo_state::scan::HeldScan;
 use fgo_state::scans::Scans;
-use fgo_state::state::{FixedLagRefiner, LiveTracks, Memory};
+use fgo_state::state::{FixedLagRefiner, LiveTracks};
 
 // ---- counts
 
@@ -45,29 +45,28 @@ fn loose_ok(a: Option<EngineId>, id: RefinedId) -> bool
     a.is_some() || id.0 == 0
 }
 
-// The id of association j of scan n, of which the body is b.
-fn id_ok(next: RefinedId, scans: &Scans, b: &CheckedBody<'_>, n: ScanIndex, j: usize) -> bool
-    requires { j < associations_in (body_of b.now.body) }
-    ensures { result ≡ id_ok next.0 scans.now.columns (body_of b.now.body) n.0 j }
+// The id of association j of a held scan.
+fn id_ok(next: RefinedId, s: &HeldScan<'_>, j: usize) -> bool
+    requires { j < associations_in (body_of s.now.frame.body) }
+    ensures { result ≡ id_ok next.0 s.now.scans.now.columns (body_of s.now.frame.body) s.now.n.0 j }
 {
-    let x = scans.id_at(n, j);
-    (x.0 == 0 || !scans.stands_in(n, j + 1, b.body.association_count(), x))
+    let x = s.id(j);
+    (x.0 == 0 || !s.scans.stands_in(s.n, j + 1, s.count(), x))
         && x < next
-        && loose_ok(b.association(j).track, x)
+        && loose_ok(s.association(j).track, x)
 }
 
-fn column_ok(next: RefinedId, scans: &Scans, b: &CheckedBody<'_>, n: ScanIndex) -> bool
-    ensures { result ≡ column_in next.0 scans.now.columns (body_of b.now.body) n.0 }
+fn column_ok(next: RefinedId, s: &HeldScan<'_>) -> bool
+    ensures { result ≡ column_in next.0 s.now.scans.now.columns (body_of s.now.frame.body) s.now.n.0 }
 {
-    (0..b.body.association_count()).all(|j| id_ok(next, scans, b, n, j))
+    (0..s.count()).all(|j| id_ok(next, s, j))
 }
 
-// Scan n has a body that none of 5, 6 and 7 would refuse, and ids in order.
+// Scan n has a body that passes, and ids in order.
 fn scan_ok(next: RefinedId, scans: &Scans, n: ScanIndex) -> bool
     ensures { result ≡ scan_ok next.0 scans.now.bodies scans.now.columns n.0 }
 {
-    let body = scans.body(n);
-    engine_check::check_body(&body).is_ok_and(|b| column_ok(next, scans, &b, n))
+    engine_check::check_body(&scans.body(n)).is_ok() && column_ok(next, &scans.held(n))
 }
 
 fn scans_ok(next: RefinedId, h: &HeldRef<'_>) -> bool
@@ -75,7 +74,7 @@ fn scans_ok(next: RefinedId, h: &HeldRef<'_>) -> bool
         ≡ bodies_ok h.now.scans.now.bodies h.now.scans.now.columns h.now.first.0 h.now.count
         && columns_ok next.0 h.now.scans.now.bodies h.now.scans.now.columns h.now.first.0 h.now.count }
 {
-    (0..h.count).all(|i| scan_ok(next, h.scans, ScanIndex(h.first.0 + i as u64)))
+    (0..h.count).all(|i| scan_ok(next, h.scans, h.first.later(i)))
 }
 
 // ---- frozen parts
@@ -155,30 +154,27 @@ fn owners_ok(live: &LiveTracks<'_>, o: &OwnersRef<'_>) -> bool
 
 // ---- the rule
 
-// Whether a refiner and its memory meet the state rule. It does not look at the numbers of the frozen parts.
-pub fn is_sound(r: &FixedLagRefiner, m: &Memory) -> bool
-    ensures { result ≡ sound_in r.now m.now.scans.bodies m.now.scans.columns m.now.owners m.now.parts.tracks }
+// Whether a refiner and its memory meet the state rule, whatever the filters of the frozen parts are.
+// As it is: three parts of a `Memory`, since the filters are not asked for, as `counters` of fgo says.
+pub fn is_sound(
+    r: &FixedLagRefiner,
+    scans: &Scans,
+    owners: &[u64; OWNERS],
+    tracks: &[u64; PARTS],
+) -> bool
+    ensures { result ≡ sound_in r.now scans.now.bodies scans.now.columns owners.now tracks.now }
 {
     if !counts_ok(r) {
         return false;
     }
-    let held = HeldRef {
-        scans: &m.scans,
-        first: r.first,
-        count: r.held,
-    };
-    let frozen = FrozenTracks {
-        tracks: &m.parts.tracks,
-        count: r.frozen,
-    };
+    let live = r.live_in(scans, tracks);
     let owners = OwnersRef {
-        entries: &m.owners,
+        entries: owners,
         owned: r.owned,
     };
-    let live = LiveTracks { held, frozen };
-    scans_ok(r.next_id, &held)
-        && parts_ok(r.first, r.next_id, &frozen)
-        && r.frozen + held.window_count() <= DETECTIONS
-        && owned_ok(&held, &owners)
+    scans_ok(r.next_id, &live.held)
+        && parts_ok(r.first, r.next_id, &live.frozen)
+        && r.frozen + live.held.window_count() <= DETECTIONS
+        && owned_ok(&live.held, &owners)
         && owners_ok(&live, &owners)
 }

@@ -1,13 +1,11 @@
 -- Rows: the next one, one more at the end, in two parts, rows that agree, a function of each, and what holds of them all. Assumes nothing.
 use Prim.Native.Nat.{ℕ, zero, suc, ◌+◌, ◌-◌, ◌≤◌, ◌<◌}
 use mathlib.Core.Path.{◌≡◌, refl, sym, ap, ◌∙◌, subst}
-use mathlib.Core.Bool.{Bool, true, false}
 use mathlib.Core.List.{[], ◌∷◌, ◌++◌, map}
 use native.Mathlib.Nat.{zero-add, add-zero, add-suc, suc-add}
 use native.Mathlib.Numerals.{add-one}
 use native.Mathlib.Omega.{arith}
 use Rattle.engine.specs.Body.{rows}
-use Rattle.fgo_spec.specs.Lists.{any}
 use Rattle.fgo_spec.specs.Rule.{All}
 
 module _ {A : Type 0} where
@@ -69,19 +67,6 @@ module _ {A : Type 0} where
   pub rows_end : (g : ℕ → A) (k n i : ℕ) → n ≤ i → rows g k (n - i) ≡ []
   unfolding rows
   rows_end g k n i h = let a : n - i ≡ 0 = omega arith in rw a
-
-  module _ (p : A → Bool) (g : ℕ → A) (k n i : ℕ) where
-    pub any_here : i < n → p (g k) ≡ true → any p (rows g k (n - i)) ≡ true
-    unfolding any
-    any_here h e = let s = rows_step g k n i {l = k + 1} h refl in rw (s, e)
-
-    pub any_next : {l : ℕ} → i < n → l ≡ k + 1 → p (g k) ≡ false → any p (rows g k (n - i)) ≡ any p (rows g l (n - (i + 1)))
-    unfolding any
-    any_next h q e = let s = rows_step g k n i h q in rw (s, e)
-
-    pub any-end : n ≤ i → any p (rows g k (n - i)) ≡ false
-    unfolding any
-    any-end h = let s = rows_end g k n i h in rw s
 
 -- a function of each row
 pub map_rows : {A B : Type 0} (f : A → B) (g : ℕ → A) (o n : ℕ) → map f (rows g o n) ≡ rows (λ i. f (g i)) o n

@@ -2,6 +2,8 @@
 use engine::types::{RefinedId, ScanIndex};
 
 // A move of a pair of tracks.
+// As it is, here and in `TrackMove`: the gain stands in each variant. With a struct of a move and its gain, each definition of the search that makes a move or
+// reads one would name that struct too, which is no plainer.
 #[derive(Clone, Copy)]
 pub enum PairMove {
     // From the cut on the two exchange their windows.

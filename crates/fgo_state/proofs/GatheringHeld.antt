@@ -9,12 +9,15 @@ use mathlib.Core.Logic.{⊎_elim}
 use lib.ListN.{length, get_or, set, replicate, length-append, length-map, length-set}
 use lib.Seq.{get_or-set_same, get_or-set_other}
 use Rattle.bounds.specs.Bounds.{DETECTIONS, STARTS}
-use Rattle.cost.specs.declared.Dot.{Dot}
+use Rattle.kf.specs.declared.filter.Dot.{Dot}
 use Rattle.engine.specs.declared.config.FgoConfig.{FgoConfig}
-use Rattle.engine.specs.Body.{Body, rows, frame_in, associations_in}
+use Rattle.engine.specs.declared.types.ScanIndex.{ScanIndex}
+use Rattle.engine.specs.Body.{Body, body_of, rows, frame_in, associations_in}
 use Rattle.fgo_spec.specs.Lists.{keep}
 use Rattle.fgo_spec.specs.Windows.{window_count}
 use Rattle.buffers.specs.Buffers.{over}
+use Rattle.fgo_state.specs.declared.scan.HeldScan.{HeldScan}
+use Rattle.fgo_state.specs.declared.scans.Scans.{Scans}
 use Rattle.fgo_state.specs.Memory.{body_at, id_at, scan_in, scans_in}
 use Rattle.fgo_state.specs.Gathering.{gathered, ids_of, engines_of, held_dot, dots_of, count_in, found_in, found_of, HeldScans, GathersScan, GatheredScan, GatheredAll}
 use Rattle.engine.proofs.Passing.{length-rows}
@@ -26,6 +29,13 @@ use Rattle.fgo_state.proofs.GatheringScan.{written-gathered}
 use Rattle.std.proofs.lemmas.List.{length-replicate, get_or-replicate}
 use Rattle.buffers.proofs.Over.{length_over, over-before, over_in}
 use Rattle.buffers.proofs.Writes.{WrittenOver, written_none}
+
+-- how the held scan n lies, by its columns, its number and its body
+pub lies_at : (h : HeldScan) {s : Scans} {n : ScanIndex} {m : ℕ} → (h.scans.now ≡ s) × (h.n ≡ n) → n.0 ≡ m →
+    (h.scans.now.columns ≡ s.columns) × (h.n.0 ≡ m) × (body_of h.frame.body ≡ body_at s.bodies s.columns m)
+lies_at h {s} {n} {m} e q =
+    let at : h.n.0 ≡ m = ap (λ i. i.0) e.1 ∙ q in
+    (ap (λ x. x.columns) e.0, at, rw (← e.0, ← at) h.lies)
 
 -- those of one scan, counted
 pub found_one : (columns : List ℕ) (n : ℕ) (s : Body) → length (found_in columns n s) ≡ count_in columns n (associations_in s)
@@ -86,28 +96,30 @@ module _ (bodies columns : List ℕ) (first : ℕ) (is es : List ℕ) where
             rw z none;
       }
 
-  module _ {held k p : ℕ} {is' es' ts : List ℕ} (h : HeldScans bodies columns first held) (g : GathersHeld bodies columns first k p is es is' es' ts) (l : k < held) (li : length is' ≡ DETECTIONS) (le : length es' ≡ DETECTIONS) {s : Body} (e : s ≡ body_at bodies columns (first + k)) where
-    pub held_fits : GathersScan s columns (first + k) p is' es'
+  module _ {held k p : ℕ} {is' es' ts : List ℕ} (h : HeldScans bodies columns first held) (g : GathersHeld bodies columns first k p is es is' es' ts) (l : k < held) (li : length is' ≡ DETECTIONS) (le : length es' ≡ DETECTIONS) {s : Body} {cs : List ℕ} {n : ℕ} (a : (cs ≡ columns) × (n ≡ first + k) × (s ≡ body_at bodies columns (first + k))) where
+    pub held_fits : GathersScan s cs n p is' es'
     held_fits =
         record {
-          room = rw e (omega (arith, found_room bodies columns first k h l, g.place));
+          room = rw (a.0, a.1, a.2) (omega (arith, found_room bodies columns first k h l, g.place));
           beside = omega arith;
         }
 
-    pub held_more : {q : ℕ} {is'' es'' ts' : List ℕ} → GatheredScan (found_in columns (first + k) s) p q is' es' is'' es'' → ts' ≡ set ts (k + 1) q → GathersHeld bodies columns first (k + 1) q is es is'' es'' ts'
-    held_more {q} {is''} {es''} {ts'} w et =
+    pub held_more : {q : ℕ} {is'' es'' ts' : List ℕ} → GatheredScan (found_in cs n s) p q is' es' is'' es'' → ts' ≡ set ts (k + 1) q → GathersHeld bodies columns first (k + 1) q is es is'' es'' ts'
+    held_more {q} {is''} {es''} {ts'} x et =
+        let w : GatheredScan (found_in columns (first + k) s) p q is' es' is'' es'' = rw (a.0, a.1) at x in
+        let e = a.2 in
         let f = found_of bodies columns first k in
         let z = found_in columns (first + k) s in
         let m : f ++ z ≡ found_of bodies columns first (k + 1) = rw e (sym (found_next bodies columns first k)) in
         let c : q ≡ length (found_of bodies columns first (k + 1)) = omega (arith, w.count, g.place, length-append f z, ap length m) in
         let r : length f + length z ≤ DETECTIONS = rw e (found_room bodies columns first k h l) in
-        let a = g.ids.long in
-        let b = g.engines.long in
-        let n : p ≡ 0 + length f = omega (arith, g.place) in
+        let b = g.ids.long in
+        let d = g.engines.long in
+        let o : p ≡ 0 + length f = omega (arith, g.place) in
         record {
           place = c;
-          ids = written-gathered (λ x. x.id) 0 is f z g.ids m n (omega arith) w.ids;
-          engines = written-gathered (λ x. x.engine) 0 es f z g.engines m n (omega arith) w.engines;
+          ids = written-gathered (λ x. x.id) 0 is f z g.ids m o (omega arith) w.ids;
+          engines = written-gathered (λ x. x.engine) 0 es f z g.engines m o (omega arith) w.engines;
           starts =
               λ long i j.
               let nt : length ts ≡ STARTS = sym (length-set ts (k + 1) q) ∙ ap length (sym et) ∙ long in
@@ -153,19 +165,22 @@ module _ (c : FgoConfig) (bodies columns : List ℕ) (first : ℕ) (ds : List Do
   unfolding rows gathered
   dots_held_none = record { place = refl; dots = written_none 0 ds }
 
-  module _ {held k p : ℕ} {ds' : List Dot} (h : HeldScans bodies columns first held) (g : DotsHeld c bodies columns first k p ds ds') (l : k < held) (ld : length ds' ≡ DETECTIONS) {s : Body} (e : s ≡ body_at bodies columns (first + k)) where
-    pub dots_held_fits : p + length (found_in columns (first + k) s) ≤ DETECTIONS
-    dots_held_fits = rw e (omega (arith, found_room bodies columns first k h l, g.place))
+  module _ {held k p : ℕ} {ds' : List Dot} (h : HeldScans bodies columns first held) (g : DotsHeld c bodies columns first k p ds ds') (l : k < held) (ld : length ds' ≡ DETECTIONS) {s : Body} {cs : List ℕ} {n : ℕ} (a : (cs ≡ columns) × (n ≡ first + k) × (s ≡ body_at bodies columns (first + k))) where
+    pub dots_held_fits : p + length (found_in cs n s) ≤ DETECTIONS
+    dots_held_fits = rw (a.0, a.1, a.2) (omega (arith, found_room bodies columns first k h l, g.place))
 
-    pub dots-held-more : {q : ℕ} {ds'' : List Dot} → q ≡ p + length (found_in columns (first + k) s) → ds'' ≡ over p (dots_of c (found_in columns (first + k) s)) ds' → DotsHeld c bodies columns first (k + 1) q ds ds''
-    dots-held-more {q} {ds''} count written =
+    pub dots-held-more : {q : ℕ} {ds'' : List Dot} → q ≡ p + length (found_in cs n s) → ds'' ≡ over p (dots_of c (found_in cs n s)) ds' → DotsHeld c bodies columns first (k + 1) q ds ds''
+    dots-held-more {q} {ds''} many over-them =
+        let count : q ≡ p + length (found_in columns (first + k) s) = rw (a.0, a.1) at many in
+        let written : ds'' ≡ over p (dots_of c (found_in columns (first + k) s)) ds' = rw (a.0, a.1) at over-them in
+        let e = a.2 in
         let f = found_of bodies columns first k in
         let z = found_in columns (first + k) s in
         let m : f ++ z ≡ found_of bodies columns first (k + 1) = rw e (sym (found_next bodies columns first k)) in
         let r : length f + length z ≤ DETECTIONS = rw e (found_room bodies columns first k h l) in
-        let a = g.dots.long in
-        let n : p ≡ 0 + length f = omega (arith, g.place) in
+        let b = g.dots.long in
+        let o : p ≡ 0 + length f = omega (arith, g.place) in
         record {
           place = omega (arith, count, g.place, length-append f z, ap length m);
-          dots = written-gathered (held_dot c) 0 ds f z g.dots m n (omega arith) written;
+          dots = written-gathered (held_dot c) 0 ds f z g.dots m o (omega arith) written;
         }

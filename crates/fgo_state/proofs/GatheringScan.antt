@@ -7,7 +7,7 @@ use mathlib.Core.List.{List, [], ◌∷◌, ◌++◌, map, append-nil, map-appen
 use lib.ListN.{length, take, drop, get_or, set, length-append, length-map}
 use lib.Seq.{take_all, set_split}
 use Rattle.bounds.specs.Bounds.{DETECTIONS}
-use Rattle.cost.specs.declared.Dot.{Dot}
+use Rattle.kf.specs.declared.filter.Dot.{Dot}
 use Rattle.engine.specs.declared.config.FgoConfig.{FgoConfig}
 use Rattle.engine.specs.declared.types.Association.{Association}
 use Rattle.engine.specs.Frame.{Frame, no_association, engine_of}

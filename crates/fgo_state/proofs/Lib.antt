@@ -15,3 +15,5 @@ pub mod ScatteringScan
 pub mod ScatteringHeld
 pub mod Heads
 pub mod Down
+pub mod FindMap
+pub mod Tracks

@@ -4,7 +4,7 @@ use mathlib.Core.List.{List, [], ◌∷◌, ◌++◌, map, foldr}
 use Rattle.bounds.specs.Bounds.{SCANS, STARTS, ACCEPTED, DETECTIONS, COLUMN}
 use Rattle.scalar.specs.Scalar.{seconds_of}
 use Rattle.engine.specs.declared.config.FgoConfig.{FgoConfig}
-use Rattle.cost.specs.declared.Dot.{Dot}
+use Rattle.kf.specs.declared.filter.Dot.{Dot}
 use Rattle.engine.specs.declared.types.Association.{Association}
 use Rattle.engine.specs.Frame.{Frame, engine_of}
 use Rattle.engine.specs.Body.{Body, frame_in, body_refusal, rows}

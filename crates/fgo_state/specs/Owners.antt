@@ -1,6 +1,7 @@
--- The place of an engine id among the owner entries. Definitions only.
-use Rattle.std.specs.Prelude.{ℕ, ◌<◌, ◌≡◌, List, Option}
+-- The place of an engine id among the owner entries, and the track of a number. Definitions only.
+use Rattle.std.specs.Prelude.{ℕ, zero, suc, ◌<◌, ◌≡◌, List, Option, None, Some}
 use Rattle.std.specs.Option.{MatchOption}
+use Rattle.engine.specs.declared.types.RefinedId.{RefinedId}
 use Rattle.fgo_state.specs.Memory.{engine_at}
 
 -- r is the place of the first of n owner entries with the engine id e; there is none where no entry has it
@@ -8,3 +9,8 @@ abbrev pub IsPlaceOf : List ℕ → ℕ → ℕ → Option ℕ → Type 0
 IsPlaceOf owners n e r =
     MatchOption r ((k : ℕ) → k < n → e ≡ engine_at owners k → ⊥)
     (λ i. (i < n) × (e ≡ engine_at owners i) × ((k : ℕ) → k < i → e ≡ engine_at owners k → ⊥))
+
+-- the refined id of a number, where 0 stands for none
+unfoldable pub id_from : ℕ → Option RefinedId
+id_from zero = None
+id_from (suc x) = Some (record { 0 = suc x })

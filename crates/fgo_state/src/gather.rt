@@ -5,22 +5,24 @@ ghost use Rattle.engine.specs.Frame.{engine_of};
 ghost use Rattle.engine.specs.Body.{body_of};
 ghost use Rattle.buffers.specs.Buffers.{over};
 ghost use Rattle.fgo_state.specs.Memory.{association_in};
+ghost use Rattle.fgo_state.specs.Owners.{id_from};
 ghost use Rattle.fgo_state.specs.Gathering.{dots_of, dot_in, count_in, Scattered, found_in, found_of, StartsWithin, holder_of, latest_of};
 ghost use Rattle.fgo_state.specs.Gathering.{HeldScans, GathersScan, GatheredScan, GatheredAll, ScatteredScan};
 
 use crate::held::HeldRef;
+use crate::scan::HeldScan;
 use crate::scans;
 use crate::scans::Scans;
 use bounds::{COLUMN, COLUMNS, DETECTIONS, STARTS};
-use cost::Dot;
-use engine::checked::CheckedBody;
 use engine::config::FgoConfig;
 use engine::types::{EngineId, RefinedId, ScanIndex};
+use kf::filter::Dot;
 use scalar::bits;
 
 // The detections in windows of `held` scans, in order: `count` of them.
 // As it is: an array of ids and one of engine ids, since the search is lent the ids alone and changes them: structs would have to be taken apart before each
-// search and put together again after it, which is no plainer.
+// search and put together again after it, which is no plainer. And numbers in both: the definitions compare lists of numbers, and a list of ids would be
+// mapped to one in each clause.
 #[derive(Drop)]
 pub struct Gathered {
     pub ids: [u64; DETECTIONS],
@@ -33,67 +35,56 @@ pub struct Gathered {
     pub ghost few: { count ≤ DETECTIONS },
 }
 
-// The engine id of association j of a body; 0 where it has none.
-fn engine_of(b: &CheckedBody<'_>, j: usize) -> EngineId
-    ensures { result.0 ≡ engine_of (association_in (body_of b.now.body) j).track }
+// The engine id of association j of a held scan; 0 where it has none.
+fn engine_of(s: &HeldScan<'_>, j: usize) -> EngineId
+    ensures { result.0 ≡ engine_of (association_in (body_of s.now.frame.body) j).track }
 {
-    b.association(j).track.unwrap_or(EngineId(0))
+    s.association(j).track.unwrap_or(EngineId(0))
 }
 
-// The detections in windows of scan n, from place o on; the place after the last.
-fn gather_scan(
-    b: &CheckedBody<'_>,
-    scans: &Scans,
-    n: ScanIndex,
-    o: usize,
-    ids: &mut [u64],
-    engines: &mut [u64],
-) -> usize
-    requires { GathersScan (body_of b.now.body) scans.now.columns n.0 o ids.old engines.old }
-    ensures { GatheredScan (found_in scans.now.columns n.0 (body_of b.now.body)) o result ids.old engines.old ids.new engines.new }
+// The detections in windows of a held scan, from place o on; the place after the last.
+// As it is, here, in dot_scan and in scatter_scan: a loop each, since each does another thing with what it meets: a function of all three would take a closure
+// that writes to what is lent, which is no plainer. And p counts by hand: a `filter` with `enumerate` tells no count after the last, as fgo_emit's `put_tracks`
+// says.
+fn gather_scan(s: &HeldScan<'_>, o: usize, ids: &mut [u64], engines: &mut [u64]) -> usize
+    requires { GathersScan (body_of s.now.frame.body) s.now.scans.now.columns s.now.n.0 o ids.old engines.old }
+    ensures { GatheredScan (found_in s.now.scans.now.columns s.now.n.0 (body_of s.now.frame.body)) o result ids.old engines.old ids.new engines.new }
 {
     let mut p = o;
-    for j in 0..b.body.association_count() {
-        let id = scans.id_at(n, j);
+    for j in 0..s.count() {
+        let id = s.id(j);
         if 0 < id.0 {
             ids[p] = id.0;
-            engines[p] = engine_of(b, j).0;
+            engines[p] = engine_of(s, j).0;
             p += 1;
         }
     }
     p
 }
 
-// Association j of a scan as the search sees it.
-fn dot_in(c: FgoConfig, b: &CheckedBody<'_>, j: usize) -> Dot
-    ensures { result ≡ dot_in c (body_of b.now.body) j }
+// Association j of a held scan as the search sees it.
+fn dot_in(c: FgoConfig, s: &HeldScan<'_>, j: usize) -> Dot
+    ensures { result ≡ dot_in c (body_of s.now.frame.body) j }
 {
-    let d = b.observation(b.association(j).index);
+    let d = s.frame.observation(s.association(j).index);
     Dot {
         x: d.x,
         y: d.y,
         r: c.position_variance(),
-        t: bits::seconds(b.time()),
+        t: bits::seconds(s.frame.time()),
     }
 }
 
-// The dots of the detections in windows of scan n, of which the first is detection o; the place after the last.
-fn dot_scan(
-    c: FgoConfig,
-    b: &CheckedBody<'_>,
-    scans: &Scans,
-    n: ScanIndex,
-    o: usize,
-    dots: &mut [Dot; DETECTIONS],
-) -> usize
-    requires { o + length (found_in scans.now.columns n.0 (body_of b.now.body)) ≤ DETECTIONS }
-    ensures count { result ≡ o + length (found_in scans.now.columns n.0 (body_of b.now.body)) }
-    ensures dots { dots.new ≡ over o (dots_of c (found_in scans.now.columns n.0 (body_of b.now.body))) dots.old }
+// The dots of the detections in windows of a held scan, of which the first is detection o; the place after the last.
+fn dot_scan(c: FgoConfig, s: &HeldScan<'_>, o: usize, dots: &mut [Dot; DETECTIONS]) -> usize
+    requires { o + length (found_in s.now.scans.now.columns s.now.n.0 (body_of s.now.frame.body)) ≤ DETECTIONS }
+    ensures count { result ≡ o + length (found_in s.now.scans.now.columns s.now.n.0 (body_of s.now.frame.body)) }
+    ensures dots { dots.new ≡ over o (dots_of c (found_in s.now.scans.now.columns s.now.n.0 (body_of s.now.frame.body))) dots.old }
 {
     let mut p = o;
-    for j in 0..b.body.association_count() {
-        if 0 < scans.id_at(n, j).0 {
-            dots[p] = dot_in(c, b, j);
+    for j in 0..s.count() {
+        if 0 < s.id(j).0 {
+            dots[p] = dot_in(c, s, j);
             p += 1;
         }
     }
@@ -102,6 +93,8 @@ fn dot_scan(
 
 impl HeldRef<'_> {
     // The detections in windows of the held scans. It asks for SCANS scans and DETECTIONS detections at most, and bodies that pass.
+    // As it is, here, in gather_dots and in scatter: `HeldScans` is asked by each, and is no fact of a struct, since scatter is lent the scans by `&mut`: of a
+    // struct that holds them so no fact says what it holds afterwards.
     pub fn gather(&self) -> Gathered
         requires { HeldScans self.now.scans.now.bodies self.now.scans.now.columns self.now.first.0 self.now.count }
         ensures all { GatheredAll self.now.scans.now.bodies self.now.scans.now.columns self.now.first.0 self.now.count result.count
@@ -113,11 +106,8 @@ impl HeldRef<'_> {
         let mut starts = [0; STARTS];
         let mut p: usize = 0;
         for k in 0..self.count {
-            let n = ScanIndex(self.first.0 + k as u64);
-            let b = CheckedBody {
-                body: self.scans.body(n),
-            };
-            p = gather_scan(&b, self.scans, n, p, &mut ids, &mut engines);
+            let s = self.scans.held(self.first.later(k));
+            p = gather_scan(&s, p, &mut ids, &mut engines);
             starts[k + 1] = p;
         }
         starts[self.count + 1..].fill(p);
@@ -138,11 +128,8 @@ impl HeldRef<'_> {
     {
         let mut p: usize = 0;
         for k in 0..self.count {
-            let n = ScanIndex(self.first.0 + k as u64);
-            let b = CheckedBody {
-                body: self.scans.body(n),
-            };
-            p = dot_scan(c, &b, self.scans, n, p, dots);
+            let s = self.scans.held(self.first.later(k));
+            p = dot_scan(c, &s, p, dots);
         }
     }
 }
@@ -150,27 +137,26 @@ impl HeldRef<'_> {
 // ---- the latest holder of an engine id
 
 impl Gathered {
-    // The greatest id that holds the engine id e among the detections from place a to before place b; 0 if none.
-    fn holder_in(&self, e: EngineId, a: usize, b: usize) -> RefinedId
+    // The greatest id that holds the engine id e among the detections from place a to before place b, if one does: clutter, which has the id 0, holds none.
+    fn holder_in(&self, e: EngineId, a: usize, b: usize) -> Option<RefinedId>
         requires { b ≤ DETECTIONS }
-        ensures { result.0 ≡ holder_of e.0 self.now.ids self.now.engines a b }
+        ensures { result ≡ id_from (holder_of e.0 self.now.ids self.now.engines a b) }
     {
-        let most = (a..b)
+        (a..b)
             .filter(|i| self.engines[*i] == e.0)
             .map(|i| self.ids[i])
-            .max();
-        RefinedId(most.unwrap_or(0))
+            .max()
+            .map(RefinedId)
+            .filter(|x| 0 < x.0)
     }
 
-    // The holder of the latest detection of the engine id e; 0 if none.
-    pub fn latest(&self, e: EngineId) -> RefinedId
-        ensures { result.0 ≡ latest_of e.0 self.now.ids self.now.engines self.now.starts self.now.held }
+    // The holder of the latest detection of the engine id e, if it has one.
+    pub fn latest(&self, e: EngineId) -> Option<RefinedId>
+        ensures { result ≡ id_from (latest_of e.0 self.now.ids self.now.engines self.now.starts self.now.held) }
     {
         (0..self.held)
             .rev()
-            .map(|k| self.holder_in(e, self.starts[k], self.starts[k + 1]))
-            .find(|x| 0 < x.0)
-            .unwrap_or(RefinedId(0))
+            .find_map(|k| self.holder_in(e, self.starts[k], self.starts[k + 1]))
     }
 }
 
@@ -200,15 +186,15 @@ fn scatter_scan(
 }
 
 // The ids of the held scans, put back. It asks what `gather` asks.
-pub fn scatter(scans: &mut Scans, first: ScanIndex, g: &Gathered)
-    requires { HeldScans scans.old.bodies scans.old.columns first.0 g.now.held }
-    ensures ids { Scattered scans.old.bodies first.0 g.now.held g.now.ids scans.old.columns scans.new.columns }
+pub fn scatter(scans: &mut Scans, first: ScanIndex, held: usize, ids: &[u64; DETECTIONS])
+    requires { HeldScans scans.old.bodies scans.old.columns first.0 held }
+    ensures ids { Scattered scans.old.bodies first.0 held ids.now scans.old.columns scans.new.columns }
     ensures bodies { scans.new.bodies ≡ scans.old.bodies }
 {
     let mut p: usize = 0;
-    for k in 0..g.held {
-        let n = ScanIndex(first.0 + k as u64);
+    for k in 0..held {
+        let n = first.later(k);
         let m = scans.count_of(n);
-        p = scatter_scan(&mut scans.columns, n, m, p, &g.ids);
+        p = scatter_scan(&mut scans.columns, n, m, p, ids);
     }
 }

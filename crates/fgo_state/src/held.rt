@@ -31,7 +31,7 @@ impl HeldRef<'_> {
     {
         (0..self.count)
             .map(|i| {
-                let n = ScanIndex(self.first.0 + i as u64);
+                let n = self.first.later(i);
                 self.scans.count_in(n, self.scans.count_of(n))
             })
             .sum()

@@ -4,5 +4,6 @@
 pub mod gather;
 pub mod held;
 pub mod owners;
+pub mod scan;
 pub mod scans;
 pub mod state;

@@ -4,7 +4,7 @@ ghost use Rattle.std.specs.Prelude.{◌≡◌, ◌*◌, ◌<◌, ◌≤◌, [], 
 ghost use Rattle.bounds.specs.Bounds.{OWNED, OWNER};
 ghost use Rattle.buffers.specs.Buffers.{over};
 ghost use Rattle.fgo_state.specs.Memory.{engine_at, owner_at, owner_of};
-ghost use Rattle.fgo_state.specs.Owners.{IsPlaceOf};
+ghost use Rattle.fgo_state.specs.Owners.{IsPlaceOf, id_from};
 
 use bounds::{OWNER, OWNERS};
 use engine::types::{EngineId, RefinedId};
@@ -26,6 +26,7 @@ pub fn owner_at(owners: &[u64; OWNERS], k: usize) -> RefinedId
 }
 
 // Entry k, which is below OWNED, written.
+// As it is: both words by one `put`, as the clause says it: a store of each would be no plainer.
 pub fn put_owner(owners: &mut [u64; OWNERS], k: usize, e: EngineId, x: RefinedId)
     requires { k < OWNED }
     ensures { owners.new ≡ over (OWNER * k) (e.0 ∷ x.0 ∷ []) owners.old }
@@ -49,11 +50,12 @@ impl OwnersRef<'_> {
         (0..self.owned).find(|k| e == engine_at(self.entries, *k))
     }
 
-    // The owner of an engine id; 0 if none.
-    pub fn owner_of(&self, e: EngineId) -> RefinedId
-        ensures { result.0 ≡ owner_of self.now.entries.now self.now.owned e.0 }
+    // The owner of an engine id, if it has one: an entry of the id 0, which no track has, says that it has none.
+    pub fn owner_of(&self, e: EngineId) -> Option<RefinedId>
+        ensures { result ≡ id_from (owner_of self.now.entries.now self.now.owned e.0) }
     {
         self.place_of(e)
-            .map_or(RefinedId(0), |k| owner_at(self.entries, k))
+            .map(|k| owner_at(self.entries, k))
+            .filter(|x| 0 < x.0)
     }
 }

@@ -98,6 +98,8 @@ impl Scans {
     }
 
     // The refined id of its association j; 0 past the last that there is room for.
+    // As it is, here and in `HeldScan::id`: an id of which 0 is clutter. An Option is no plainer: the definitions read a column as numbers, the rule compares
+    // 0 with the next id, `stands_in` may be asked of 0, and a frame has 0 written out, so each of these would make the number again.
     pub fn id_at(&self, n: ScanIndex, j: usize) -> RefinedId
         ensures { result.0 ≡ id_at self.now.columns n.0 j }
     {

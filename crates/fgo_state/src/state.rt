@@ -32,6 +32,8 @@ pub struct FixedLagRefiner {
 
 impl FixedLagRefiner {
     // The scans held, as they are lent.
+    // As it is, here, in `live_in` and in fgo_refuse's `is_full`: the bound is asked for and is no fact of the type, since a caller may hold any refiner, sound
+    // or not: the program calls writes its fields. What reads the scans held has it as the fact `early` of `HeldRef`.
     pub fn held_in<'a>(&self, scans: &'a Scans) -> HeldRef<'a>
         requires { self.now.first.0 + self.now.held ≤ ACCEPTED + 1 }
         ensures { (result.scans.now ≡ scans.now) × (result.first ≡ self.now.first) × (result.count ≡ self.now.held) }

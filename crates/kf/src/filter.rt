@@ -21,6 +21,15 @@ pub struct Kf {
     pub t: f64,
 }
 
+// Where a detection lies, the variance of its position, and its scan's time in seconds.
+#[derive(Clone, Copy)]
+pub struct Dot {
+    pub x: f64,
+    pub y: f64,
+    pub r: f64,
+    pub t: f64,
+}
+
 // A filter after an update, with the negative log-likelihood of the observation.
 #[derive(Clone, Copy)]
 pub struct Updated {
@@ -36,19 +45,19 @@ pub fn log_term(s: f64) -> f64
 }
 
 impl Kf {
-    // A filter that starts at a position at time t: r is the variance of the position, v that of the speed.
-    pub fn start(x: f64, y: f64, t: f64, r: f64, v: f64) -> Kf
-        ensures { result ≡ started x y t r v }
+    // A filter that starts with a detection: v is the variance of the speed.
+    pub fn start(d: Dot, v: f64) -> Kf
+        ensures { result ≡ started d.x d.y d.t d.r v }
     {
         Kf {
-            x,
-            y,
+            x: d.x,
+            y: d.y,
             vx: 0.0,
             vy: 0.0,
-            p00: r,
+            p00: d.r,
             p01: 0.0,
             p11: v,
-            t,
+            t: d.t,
         }
     }
 
@@ -69,24 +78,24 @@ impl Kf {
         }
     }
 
-    // Update with a position: r is its variance.
-    pub fn update(self, x: f64, y: f64, r: f64) -> Updated
-        ensures { result ≡ updated self x y r }
+    // Update with the position of a detection, to whose time it was predicted.
+    pub fn update(self, d: Dot) -> Updated
+        ensures { result ≡ updated self d.x d.y d.r }
     {
-        let l = log_term(self.p00 + r);
-        self.update_by(x, y, r, l)
+        let l = log_term(self.p00 + d.r);
+        self.update_by(d, l)
     }
 
     // The same, with the logarithm that both axes add: l is ln((2·pi)·s), which a caller may have worked out before.
-    pub fn update_by(self, x: f64, y: f64, r: f64, l: f64) -> Updated
-        requires { l ≡ log_of self r }
-        ensures { result ≡ updated self x y r }
+    pub fn update_by(self, d: Dot, l: f64) -> Updated
+        requires { l ≡ log_of self d.r }
+        ensures { result ≡ updated self d.x d.y d.r }
     {
-        let s = self.p00 + r;
+        let s = self.p00 + d.r;
         let k0 = self.p00 / s;
         let k1 = self.p01 / s;
-        let nu_x = x - self.x;
-        let nu_y = y - self.y;
+        let nu_x = d.x - self.x;
+        let nu_y = d.y - self.y;
         let nll = 0.0 + 0.5 * (nu_x * nu_x / s + l) + 0.5 * (nu_y * nu_y / s + l);
         let kf = Kf {
             x: self.x + k0 * nu_x,
@@ -101,11 +110,11 @@ impl Kf {
         Updated { kf, nll }
     }
 
-    // Predict to the time t, then update with a position: the filter that is lent moves on by one detection.
-    pub fn advance(&mut self, t: f64, q: f64, x: f64, y: f64, r: f64)
-        ensures { self.new ≡ (worked self.old t q x y r).kf }
+    // Predict to the time of a detection, then update with its position: the filter that is lent moves on by one detection.
+    pub fn advance(&mut self, d: Dot, q: f64)
+        ensures { self.new ≡ (worked self.old d.t q d.x d.y d.r).kf }
     {
-        *self = self.predict(t, q).update(x, y, r).kf;
+        *self = self.predict(d.t, q).update(d).kf;
     }
 
     // The filter whose numbers stand in a list from place o on; they must be there.

@@ -1,12 +1,11 @@
 -- What `from_fn` makes, where each call of its closure gives what a function says of its index. Assumes nothing.
-use mathlib.Core.Path.{◌≡◌, refl, subst, ◌∙◌}
+use mathlib.Core.Path.{◌≡◌, refl, ◌∙◌}
 use mathlib.Core.List.{List}
-use Prim.Native.Nat.{ℕ, zero, suc, ◌≤◌, ◌<◌, ◌+◌}
+use Prim.Native.Nat.{ℕ, ◌<◌}
 use native.Mathlib.Omega.{arith}
-use lib.ListN.{get_or}
 use denote.Param.Members.{Mut, Called}
-use Rattle.std.specs.Array.{IsFromFnResult, IsFromFnResultFrom}
-use Rattle.std.proofs.Common.{inl, inr, eq-or-lt_of_le}
+use Rattle.std.specs.Array.{IsFromFnResult}
+use Rattle.scalar.proofs.Made.{each_made}
 use Rattle.linalg.specs.Grown.{tabulate}
 use Rattle.linalg.proofs.Fill.{tabulated}
 use Rattle.linalg.proofs.Entries.{tabulate_ext}
@@ -18,16 +17,7 @@ module _
     (size : ℕ)
     (s : F)
     (h : (k : ℕ) (x : A) (t : F) → k < size → Called g s (k, tt) x t → (x ≡ f k) × (t ≡ s)) where
-  each_made : (xs : List A) (i n : ℕ) (t : F) → i + n ≡ size → t ≡ s → IsFromFnResultFrom g t xs i n → (k : ℕ) (d : A) → i ≤ k → k < size → get_or xs k d ≡ f k
-  each_made xs i zero t e same r k d low high = absurd (omega arith)
-  each_made xs i (suc n) t e same r k d low high =
-      let made = h i r.1 r.0 (omega arith) (subst (λ u. Called g u (i, tt) r.1 r.0) same r.3) in
-      elim (eq-or-lt_of_le low) [
-        | inl here ↦ subst (λ j. get_or xs j d ≡ f j) here (r.2.1 d ∙ made.0)
-        | inr later ↦ each_made xs (i + 1) n r.0 (omega arith) made.1 r.4 k d (omega arith) high
-      ]
-
   -- f at 0, .., size - 1, where no call changes what the closure holds
   pub made_of : (xs : List A) → IsFromFnResult g s xs size → xs ≡ tabulate f size
   made_of xs r =
-      tabulated xs (f 0) size r.long ∙ tabulate_ext _ f size (λ k l. each_made xs 0 size s (omega arith) refl r.each k (f 0) (omega arith) l)
+      tabulated xs (f 0) size r.long ∙ tabulate_ext _ f size (λ k l. each_made g f size s h xs 0 size s (omega arith) refl r.each k (f 0) (omega arith) l)

@@ -19,9 +19,8 @@ use Rattle.fgo_state.specs.declared.state.FixedLagRefiner.{FixedLagRefiner}
 use Rattle.fgo_state.specs.declared.state.Memory.{Memory}
 use Rattle.std.specs.Prelude.{Result, Ok}
 use Rattle.refusals.specs.declared.Refusal.{Refusal}
-use Rattle.fgo.specs.Promise.{new_by, open_refusal, Counted, NotCounted, Moves}
+use Rattle.fgo.specs.Promise.{new_by, open_refusal}
 use Rattle.fgo.proofs.Opening.{opened_new}
-use Rattle.print.proofs.Fitting.{Few, refused_few, counters_few}
 use Rattle.smoother_window.specs.declared.FixedLagSmoother.{FixedLagSmoother}
 use Rattle.smoother_window.specs.declared.SmootherConfig.{SmootherConfig}
 use Rattle.smoother_window.specs.Config as Config
@@ -32,7 +31,6 @@ use Rattle.histories.specs.Refined.{Reached}
 use Rattle.histories.specs.Joined as Joined
 use Rattle.histories.proofs.RefinedLaw.{at_new}
 use Rattle.histories.proofs.JoinedLaw.{settings, fine, at_opened}
-use Rattle.playback.specs.Told.{counted_line}
 use Rattle.playback.specs.declared.steps.Player.{Player}
 use Rattle.playback.specs.Smoothed.{Smoothed}
 use Rattle.playback.specs.Played.{pushes, takes, Fresh, Led, Leads, Fewer, TakesAll, Played}
@@ -59,14 +57,6 @@ led_on {more} {r} {m} {r'} {m'} l f =
     let x = f l.settings l.calls l.reached in
     let e : r'.config ≡ r.config = x.settings in
     record { settings = ap legal e ∙ l.settings; calls = l.calls ++ more; reached = subst (λ c. Reached c (l.calls ++ more) r' m') (sym e) x }
-
--- ---- the counters
-
--- the line of the counters is short
-pub counted_few : (k : Counted) → Few (counted_line k) 93
-unfolding counted_line
-counted_few (NotCounted n) = record { few = omega (arith, (refused_few n).few) }
-counted_few (Moves k) = counters_few k
 
 -- ---- pushes
 

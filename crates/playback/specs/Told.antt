@@ -3,17 +3,11 @@ use Rattle.std.specs.Prelude.{ℕ, ◌≡◌, List, [], take, replicate, Float}
 use Rattle.bounds.specs.Bounds.{WORDS, NUMBERS}
 use Rattle.scalar.specs.Digits.{nil}
 use Rattle.buffers.specs.Answer.{Op, pushed, Written, Answer, Refused, Held, Frame}
-use Rattle.print.specs.Text.{Ready, refused_line, counters_line, full_answer}
+use Rattle.print.specs.Text.{Ready, refused_line, full_answer}
 use Rattle.smoother_frame.specs.Frame.{frame}
 use Rattle.smoother.specs.Promise.{Window, window, lent_of, Promised, Pushed}
 use Rattle.playback.specs.declared.output.FrameBuffers.{FrameBuffers}
 use Rattle.playback.specs.declared.smoothed.Smoother.{Smoother}
-use Rattle.fgo.specs.Promise.{Counted, NotCounted, Moves}
-
--- the line of the counters, or of a refusal
-unfoldable pub counted_line : Counted → List ℕ
-counted_line (NotCounted n) = refused_line n
-counted_line (Moves k) = counters_line k
 
 -- output buffers that were never used
 abbrev pub empty_buffers : FrameBuffers
@@ -39,8 +33,8 @@ module _ (k k' : Smoother) (out' : List ℕ) (end : ℕ) where
     pub state : k'.state ≡ given.state
     pub text : Ready (full_answer given.answer words numbers) out' end
 
-  -- an answer of the refiner, whose frame stands at the front of the output buffers b, comes to it: a refusal is told, and a frame is pushed
-  abbrev pub Smooths : Answer → FrameBuffers → Type 0
-  Smooths (Refused n) b = Puts k k' out' end (refused_line n)
-  Smooths Held b = Puts k k' out' end []
-  Smooths (Frame m n) b = Tells (pushed (frame (take m b.words) (take n b.numbers)))
+  -- an answer of the refiner, whose frame stands at the front of the words ws and the numbers ns, comes to it: a refusal is told, and a frame is pushed
+  abbrev pub Smooths : Answer → List ℕ → List Float → Type 0
+  Smooths (Refused n) ws ns = Puts k k' out' end (refused_line n)
+  Smooths Held ws ns = Puts k k' out' end []
+  Smooths (Frame m n) ws ns = Tells (pushed (frame (take m ws) (take n ns)))

@@ -4,37 +4,34 @@
 ghost use Rattle.std.specs.Prelude.{◌≤◌, length};
 ghost use Rattle.bounds.specs.Bounds.{LAG};
 ghost use Rattle.buffers.specs.Answer.{answer_in};
-ghost use Rattle.print.specs.Printed.{Shown, Counted};
+ghost use Rattle.print.specs.Printed.{Counted};
 
-use crate::output::FrameBuffers;
 use bounds::TEXT;
-use buffers::Answer;
 use console::Console;
 use engine::config::FgoConfig;
+use print::answer_ref::AnswerRef;
 use print::answers;
 use refusals::Refusal;
 
 // Where the frames go.
 pub trait Sink: Drop {
-    ghost use Rattle.std.specs.Prelude.{ℕ, List};
+    ghost use Rattle.std.specs.Prelude.{ℕ, List, Float};
     ghost use Rattle.buffers.specs.Answer.{Answer};
-    ghost use Rattle.playback.specs.declared.output.FrameBuffers.{FrameBuffers};
 
     // It holds no frame.
     ghost emptied_of: { Self → Type 0 };
 
-    // An answer of the refiner comes to it, with its frame at the front of these buffers: what is left of it, and the text, which ends there.
-    ghost prints_of: { Self → Self → List ℕ → ℕ → Answer → FrameBuffers → Type 0 };
+    // An answer of the refiner comes to it, with its frame at the front of these words and numbers: what is left of it, and the text, which ends there.
+    ghost prints_of: { Self → Self → List ℕ → ℕ → Answer → List ℕ → List Float → Type 0 };
 
     // Opened behind a refiner with these settings; or its refusal.
     fn open(c: FgoConfig) -> Result<Self, Refusal>
         requires { c.lag_frames ≤ LAG };
 
     // An answer of the refiner, to where its frames go.
-    fn put_answer(&mut self, answer: Answer, output: &FrameBuffers, text: &mut [u8; TEXT]) -> usize
-        requires shown { Shown (answer_in answer) output.now.words output.now.numbers }
-        requires counted { Counted (answer_in answer) output.now.words }
-        ensures prints { prints_of self.old self.new text.new result (answer_in answer) output.now }
+    fn put_answer(&mut self, shown: &AnswerRef<'_>, text: &mut [u8; TEXT]) -> usize
+        requires { Counted (answer_in shown.now.answer) shown.now.words.now }
+        ensures prints { prints_of self.old self.new text.new result (answer_in shown.now.answer) shown.now.words.now shown.now.numbers.now }
         ensures within { result ≤ length text.new };
 
     // All that is still held, taken and printed.
@@ -57,20 +54,15 @@ impl Sink for Short {
 
     ghost emptied_of = { λ k. Unit {0} };
 
-    ghost prints_of = { λ k k' out end answer b. Puts k k' out end (short_answer answer b.words b.numbers) };
+    ghost prints_of = { λ k k' out end answer ws ns. Puts k k' out end (short_answer answer ws ns) };
 
     fn open(_c: FgoConfig) -> Result<Short, Refusal> {
         Ok(Short)
     }
 
     #[tactic(auto, using(print::proofs::Fitting::ready, print::proofs::Fitting::short_answer_few))]
-    fn put_answer(
-        &mut self,
-        answer: Answer,
-        output: &FrameBuffers,
-        text: &mut [u8; TEXT],
-    ) -> usize {
-        answers::put_short(text, answer, &output.words, &output.numbers)
+    fn put_answer(&mut self, shown: &AnswerRef<'_>, text: &mut [u8; TEXT]) -> usize {
+        answers::put_short(text, shown)
     }
 
     fn take_rest(
@@ -93,20 +85,15 @@ impl Sink for Full {
 
     ghost emptied_of = { λ k. Unit {0} };
 
-    ghost prints_of = { λ k k' out end answer b. Puts k k' out end (full_answer answer b.words b.numbers) };
+    ghost prints_of = { λ k k' out end answer ws ns. Puts k k' out end (full_answer answer ws ns) };
 
     fn open(_c: FgoConfig) -> Result<Full, Refusal> {
         Ok(Full)
     }
 
     #[tactic(auto, using(print::proofs::Fitting::ready, print::proofs::Fitting::full_answer_few))]
-    fn put_answer(
-        &mut self,
-        answer: Answer,
-        output: &FrameBuffers,
-        text: &mut [u8; TEXT],
-    ) -> usize {
-        answers::put_full(text, answer, &output.words, &output.numbers)
+    fn put_answer(&mut self, shown: &AnswerRef<'_>, text: &mut [u8; TEXT]) -> usize {
+        answers::put_full(text, shown)
     }
 
     fn take_rest(

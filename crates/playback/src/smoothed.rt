@@ -3,15 +3,15 @@
 ghost use Rattle.std.specs.Prelude.{◌≤◌};
 ghost use Rattle.bounds.specs.Bounds.{WINDOW, VALUES};
 ghost use Rattle.buffers.specs.Answer.{pushed, taken};
-ghost use Rattle.smoother.specs.Promise.{window as window_of, lent_of, pushed_as, Promised};
+ghost use Rattle.smoother.specs.Promise.{window as window_of, lent_of};
 ghost use Rattle.playback.specs.Smoothed.{Smoothed};
 
 use crate::output::FrameBuffers;
 use crate::sink::Sink;
 use bounds::{TEXT, TRACKS, VALUES, WINDOW};
-use buffers::Answer;
 use console::Console;
 use engine::config::FgoConfig;
+use print::answer_ref::AnswerRef;
 use print::{answers, lines};
 use refusals::Refusal;
 use smoother::FrameRef;
@@ -38,30 +38,6 @@ fn smoothing(c: FgoConfig) -> SmootherConfig {
     }
 }
 
-// The oldest frame that is held, taken, over so much of the longest window; as smoother::push_over.
-// As it is: the window is lent as `&mut`, though nothing is written there. In a struct with a ghost field the borrow checker does not cover a field that is
-// lent as `&` beside another that is lent as `&mut`.
-fn take_over(
-    s: &mut FixedLagSmoother,
-    size: WindowSize,
-    window: &mut [u64; WINDOW],
-    values: &mut [f64; VALUES],
-    words: &mut [u64],
-    numbers: &mut [f64],
-) -> Answer
-    requires { (size.words ≤ WINDOW) × (size.numbers ≤ VALUES) }
-    ensures { Promised taken s.old (lent_of size (window_of window.old values.old)) words.old numbers.old
-        (pushed_as result s.new) (lent_of size (window_of window.new values.new)) words.new numbers.new }
-{
-    smoother::take(
-        s,
-        &window[..size.words],
-        &values[..size.numbers],
-        words,
-        numbers,
-    )
-}
-
 impl Smoother {
     ghost use Rattle.smoother_frame.specs.Frame.{frame as frame_of};
     ghost use Rattle.playback.specs.Told.{Tells};
@@ -80,7 +56,12 @@ impl Smoother {
             &mut smoothed.words,
             &mut smoothed.numbers,
         );
-        answers::put_full(text, answer, &smoothed.words, &smoothed.numbers)
+        let shown = AnswerRef {
+            answer,
+            words: &smoothed.words,
+            numbers: &smoothed.numbers,
+        };
+        answers::put_full(text, &shown)
     }
 
     // The oldest frame that is held, taken.
@@ -88,15 +69,22 @@ impl Smoother {
         ensures { Tells self.old self.new text.new result taken }
     {
         let mut smoothed = FrameBuffers::new();
-        let answer = take_over(
+        let words = &self.words;
+        let values = &self.values;
+        let size = self.size;
+        let answer = smoother::take(
             &mut self.state,
-            self.size,
-            &mut self.words,
-            &mut self.values,
+            &words[..size.words],
+            &values[..size.numbers],
             &mut smoothed.words,
             &mut smoothed.numbers,
         );
-        answers::put_full(text, answer, &smoothed.words, &smoothed.numbers)
+        let shown = AnswerRef {
+            answer,
+            words: &smoothed.words,
+            numbers: &smoothed.numbers,
+        };
+        answers::put_full(text, &shown)
     }
 }
 
@@ -124,19 +112,14 @@ impl Sink for Smoother {
 
     // A refusal is told, and a frame is pushed.
     #[tactic(auto, using(print::proofs::Fitting::ready, print::proofs::Fitting::refused_few))]
-    fn put_answer(
-        &mut self,
-        answer: Answer,
-        output: &FrameBuffers,
-        text: &mut [u8; TEXT],
-    ) -> usize {
-        match answer {
+    fn put_answer(&mut self, shown: &AnswerRef<'_>, text: &mut [u8; TEXT]) -> usize {
+        match shown.answer {
             Err(refusal) => lines::put_refused(text, 0, refusal),
             Ok(None) => 0,
             Ok(Some(f)) => {
                 let frame = FrameRef {
-                    words: &output.words[..f.words],
-                    numbers: &output.numbers[..f.numbers],
+                    words: &shown.words[..f.words],
+                    numbers: &shown.numbers[..f.numbers],
                 };
                 self.push(&frame, text)
             }

@@ -5,10 +5,7 @@ ghost use Rattle.buffers.specs.Answer.{answer_in, pushed, taken};
 ghost use Rattle.engine.specs.declared.types.BodyKind.TheVariants.{Narrow};
 ghost use Rattle.engine.specs.Body.{body as body_in};
 ghost use Rattle.recording.specs.Recording.{recorded_body};
-ghost use Rattle.print.specs.Text.{Puts};
 ghost use Rattle.print.specs.Printed.{Shown, Counted as InBounds};
-ghost use Rattle.fgo.specs.Promise.{counted_in};
-ghost use Rattle.playback.specs.Told.{counted_line};
 ghost use Rattle.playback.specs.Played.{pushes, Led, Leads, Fewer, TakesAll};
 
 use crate::output::FrameBuffers;
@@ -18,10 +15,9 @@ use buffers::Answer;
 use console::Console;
 use engine::body::Body;
 use engine::types::BodyKind;
-use fgo_spec::moves::FgoCounters;
 use fgo_state::state::{FixedLagRefiner, Memory};
+use print::answer_ref::AnswerRef;
 use print::lines;
-use refusals::Refusal;
 
 // Where a run stands: the refiner, and where its frames go; the refiner's memory, and its output buffers; the text of an answer; and standard output.
 #[derive(Drop)]
@@ -32,16 +28,6 @@ pub struct Player<S> {
     pub output: FrameBuffers,
     pub text: [u8; TEXT],
     pub console: Console,
-}
-
-// The line of the counters, or of a refusal.
-fn put_counted(out: &mut [u8], k: Result<FgoCounters, Refusal>) -> usize
-    ensures { Puts (counted_line (counted_in k)) 0 out.old out.new result }
-{
-    match k {
-        Ok(moves) => lines::put_counters(out, 0, moves),
-        Err(refusal) => lines::put_refused(out, 0, refusal),
-    }
 }
 
 impl<S: Sink> Player<S> {
@@ -77,7 +63,12 @@ impl<S: Sink> Player<S> {
         ensures refiner { self.new.refiner ≡ self.old.refiner }
         ensures memory { self.new.memory ≡ self.old.memory }
     {
-        let end = self.sink.put_answer(answer, &self.output, &mut self.text);
+        let shown = AnswerRef {
+            answer,
+            words: &self.output.words,
+            numbers: &self.output.numbers,
+        };
+        let end = self.sink.put_answer(&shown, &mut self.text);
         self.print_text(rt, end);
     }
 
@@ -144,14 +135,15 @@ impl<S: Sink> Player<S> {
     }
 
     // The counters, printed.
-    #[tactic(auto, using(print::proofs::Fitting::ready, crate::proofs::Playing::counted_few))]
+    #[tactic(auto, using(print::proofs::Fitting::ready, print::proofs::Fitting::counted_few))]
     pub fn print_counters(&mut self, rt: &(impl Print + Eprint))
         ensures refiner { self.new.refiner ≡ self.old.refiner }
         ensures memory { self.new.memory ≡ self.old.memory }
         ensures sink { self.new.sink ≡ self.old.sink }
     {
-        let k = fgo::counters(&self.refiner, &self.memory);
-        let end = put_counted(&mut self.text, k);
+        let m = &self.memory;
+        let k = fgo::counters(&self.refiner, &m.scans, &m.owners, &m.parts.tracks);
+        let end = lines::put_counted(&mut self.text, 0, k);
         self.print_text(rt, end);
     }
 }

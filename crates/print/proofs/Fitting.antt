@@ -11,6 +11,9 @@ use lib.Dec.{leb}
 use lib.IntN.{ℤ, pos, negsuc}
 use lib.Ieee.{Float, nan}
 use Rattle.io.specs.Digits.{last_digits, hex_digit_ascii}
+use Rattle.std.specs.Prelude.{Result, Ok, Err}
+use Rattle.refusals.specs.declared.Refusal.{Refusal}
+use Rattle.refusals.specs.Refusals.{number_of}
 use Rattle.bounds.specs.Bounds.{WORDS, NUMBERS, LINK, STATE, DECIMAL, HEXADECIMAL, TEXT}
 use Rattle.scalar.specs.Scalar.{bits_of}
 use Rattle.buffers.specs.Buffers.{over}
@@ -31,6 +34,7 @@ use Rattle.print.specs.Text.{
   texts,
   refused_line,
   counters_line,
+  counted_line,
   frame_line,
   age,
   position,
@@ -124,6 +128,11 @@ unfolding counters_line
 counters_few k =
     both (written_out (ascii "counters"))
     (both (word_few k.swaps) (both (word_few k.merges) (both (word_few k.splits) (both (word_few k.drops) end_few))))
+
+pub counted_few : (k : Result FgoCounters Refusal) → Few (counted_line k) 93
+unfolding counted_line
+counted_few (Ok k) = counters_few k
+counted_few (Err r) = under 93 (refused_few (number_of r)) (omega arith)
 
 pub opened_few : Few opened_line 7
 opened_few = written_out opened_line

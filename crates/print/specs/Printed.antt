@@ -1,5 +1,6 @@
--- What a frame must be for it to be printed. Definitions only.
+-- What a frame must be for it to be printed. Definitions, and a lemma of the fact that a struct keeps.
 use Rattle.std.specs.Prelude.{ℕ, ◌≤◌, List, length, take, Float}
+use Rattle.std.specs.Coded.{Unit-prop, le_prop}
 use Rattle.bounds.specs.Bounds.{WORDS, NUMBERS}
 use Rattle.smoother_frame.specs.Frame.{Counts}
 use Rattle.buffers.specs.Answer.{Answer, Refused, Held, Frame}
@@ -22,3 +23,16 @@ abbrev pub Counted : Answer → List ℕ → Type 0
 Counted (Refused n) ws = Unit {0}
 Counted Held ws = Unit {0}
 Counted (Frame w x) ws = Counts (take w ws)
+
+-- that it is shown has one proof at most
+pub shown_prop : (a : Answer) (ws : List ℕ) (xs : List Float) → IsProp (Shown a ws xs)
+shown_prop (Refused n) ws xs = Unit-prop
+shown_prop Held ws xs = Unit-prop
+shown_prop (Frame w x) ws xs =
+    λ h k i.
+    record {
+      words = le_prop h.words k.words i;
+      numbers = le_prop h.numbers k.numbers i;
+      wide = le_prop h.wide k.wide i;
+      deep = le_prop h.deep k.deep i;
+    }

@@ -1,5 +1,6 @@
 -- Document 01, "Recording and print": what the programs print, as bytes, in the words and numbers of a frame. Definitions only.
 use Rattle.std.specs.Prelude.{ℕ, zero, suc, ◌+◌, ◌-◌, ◌*◌, ◌^◌, ◌≤◌, ◌<◌, ◌≡◌, cond, List, [], ◌∷◌, ◌++◌, length, take, get_or, leb, ℤ, pos, negsuc, Float}
+use Rattle.std.specs.Prelude.{Result, Ok, Err}
 use Prim.Native.String.{String}
 use Prim.Native.Char.{code}
 use Rattle.std.specs.Float.{nan}
@@ -9,6 +10,8 @@ use Rattle.buffers.specs.Buffers.{over}
 use Rattle.scalar.specs.Scalar.{bits_of, signed}
 use Rattle.smoother_frame.specs.Frame.{time, track_count, association_count, associations_from, id_word, lifecycle_word, count_word}
 use Rattle.fgo_spec.specs.declared.moves.FgoCounters.{FgoCounters}
+use Rattle.refusals.specs.declared.Refusal.{Refusal}
+use Rattle.refusals.specs.Refusals.{number_of}
 use Rattle.buffers.specs.Answer.{Answer, Refused, Held, Frame}
 
 -- ---- a text in a lent buffer
@@ -90,6 +93,11 @@ counters_line k =
     ascii "counters"
     ++ (field (decimal k.swaps)
     ++ (field (decimal k.merges) ++ (field (decimal k.splits) ++ (field (decimal k.drops) ++ end))))
+
+-- the line of the counters, or of a refusal
+unfoldable pub counted_line : Result FgoCounters Refusal → List ℕ
+counted_line (Ok k) = counters_line k
+counted_line (Err r) = refused_line (number_of r)
 
 -- "`opened`"
 abbrev pub opened_line : List ℕ

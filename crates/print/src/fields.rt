@@ -1,6 +1,6 @@
 // Text as it is, and the fields of a line: numbers as text, each after a space.
 
-ghost use Rattle.std.specs.Prelude.{◌≡◌, ℕ, List, length, get_or};
+ghost use Rattle.std.specs.Prelude.{ℕ, List, length, get_or};
 ghost use Rattle.scalar.specs.Scalar.{signed, bits_of};
 ghost use Rattle.print.specs.Text.{decimal, signed_decimal, hexadecimal, field, word_field, signed_field, bits_field, texts, Puts};
 

@@ -4,6 +4,7 @@
 // these promises closes.
 #![tactic(auto)]
 
+pub mod answer_ref;
 pub mod answers;
 pub mod fields;
 pub mod full;

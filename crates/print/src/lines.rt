@@ -1,6 +1,6 @@
 // Lines: of a refusal, of the counters, of an opening, of a digest and of a bad call.
 ghost use Rattle.refusals.specs.Refusals.{number_of};
-ghost use Rattle.print.specs.Text.{refused_line, counters_line, opened_line, digest_line, bad_line, Puts};
+ghost use Rattle.print.specs.Text.{refused_line, counters_line, counted_line, opened_line, digest_line, bad_line, Puts};
 
 use crate::fields;
 use fgo_spec::moves::FgoCounters;
@@ -32,6 +32,17 @@ pub fn put_counters(out: &mut [u8], n: usize, k: FgoCounters) -> usize
     let d = fields::put_decimal(out, c, k.splits);
     let e = fields::put_decimal(out, d, k.drops);
     fields::put_text(out, e, b"\n")
+}
+
+// The line of the counters, or of a refusal.
+#[tactic(auto, unfolding(crate::specs::Text::counted_line))]
+pub fn put_counted(out: &mut [u8], n: usize, k: Result<FgoCounters, Refusal>) -> usize
+    ensures { Puts (counted_line k) n out.old out.new result }
+{
+    match k {
+        Ok(moves) => put_counters(out, n, moves),
+        Err(refusal) => put_refused(out, n, refusal),
+    }
 }
 
 // `opened`.

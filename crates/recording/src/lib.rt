@@ -46,15 +46,11 @@ fn fills_rest(s: &[u8]) -> bool
     ensures { result ≡ fills s.now }
 {
     let n = count_of(s);
-    // As it is: tried as a try_fold over 0..n. What it asks at each turn, that the next place fits its type, did not close: no clause has the places so far.
-    let mut at = CONTENTS + ENTRY * n;
-    for i in 0..n {
-        if offset_of(s, i) != at {
-            return false;
-        }
-        at += size_of(s, i);
-    }
-    at == s.len()
+    (0..n)
+        .try_fold(CONTENTS + ENTRY * n, |at, i| {
+            (offset_of(s, i) == at).then(|| at + size_of(s, i))
+        })
+        .is_some_and(|end| end == s.len())
 }
 
 // 11: over RECORDING bytes, over FRAMES frames, or shorter than its contents table.
@@ -69,6 +65,8 @@ fn is_ill_sized(s: &[u8]) -> bool
 }
 
 // The eleven settings, in the order of `FgoConfig`.
+// As it is: calls_cells's `config_of` lists them too, from words where here they are bytes. One function for both would take an array of words, into which
+// these bytes are read first, which is no plainer.
 #[tactic(auto, unfolding(crate::specs::Recording::settings), using(engine::proofs::Bytes::signed_passed))]
 pub fn settings_of(s: &[u8]) -> FgoConfig
     requires { SETTINGS ≤ length s.now }

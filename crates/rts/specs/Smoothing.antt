@@ -1,11 +1,12 @@
 -- The backward pass over any arithmetic: one step, each operation once, in the order of document 01; and the recursion over a chain of states. Definitions
 -- only.
-use Rattle.std.specs.Prelude.{cond, List, [], ◌∷◌}
+use Rattle.std.specs.Prelude.{cond, List, [], ◌∷◌, Float}
 use Rattle.std.proofs.Math.Option.{Option, none, some}
 use Rattle.scalar.specs.Num.{Num}
 use Rattle.linalg.specs.Matrix.{mul, mul_vec, transpose, add, sub, half_sum}
 use Rattle.linalg.specs.Cholesky.{cholesky, positive, inverse}
 use Rattle.models.specs.Motion.{cv_f, cv_q}
+use Rattle.rts.specs.declared.TrackState.{TrackState}
 use Rattle.rts.specs.declared.Step.{Step}
 use Rattle.rts.specs.declared.Step.TheVariants.{Smoothed, Skipped, Failed}
 
@@ -27,6 +28,10 @@ pub record Later (F : Type 0) : Type 0 where
 -- the state of x and p
 abbrev pub estimate : {F : Type 0} → List F → List F → Estimate F
 estimate x p = record { x = x; p = p }
+
+-- a track's state by value, as the estimate that it is
+abbrev pub estimate_of : TrackState → Estimate Float
+estimate_of t = estimate t.x t.p
 
 -- the answer of a step and a state
 abbrev pub back_step : {F : Type 0} → Step → Estimate F → BackStep F

@@ -4,13 +4,21 @@
 ghost use Rattle.std.specs.Prelude.{◌≡◌};
 ghost use Rattle.scalar.specs.F64.{f64};
 ghost use Rattle.rts.specs.Smoothing as Smoothing;
-ghost use Rattle.rts.specs.Smoothing.{estimate, back_step};
+ghost use Rattle.rts.specs.Smoothing.{estimate_of, back_step};
 
 use cholesky::{cholesky6, inverse6};
 use linalg::matrix::{add, half_sum6, mul_vec6, mul6, sub, transpose6};
 use models::{cv_f6_mul, cv_f6_mul_vec, cv_q6, mul_cv_f6t};
 
+// A track's state: position and velocity, and their covariance by rows.
+#[derive(Clone, Copy)]
+pub struct TrackState {
+    pub x: [f64; 6],
+    pub p: [f64; 36],
+}
+
 // What a step did.
+// As it is: three cases and no Option. What `back` promises tells a step that was skipped from one that smoothed, and it may promise no less.
 #[derive(Clone, Copy)]
 pub enum Step {
     // The later state is replaced by this one's smoothed form.
@@ -73,27 +81,20 @@ fn smoothed_p(p: &[f64; 36], p_pred: &[f64; 36], g: &[f64; 36], ps: &[f64; 36]) 
     half_sum6(&sum)
 }
 
-// One step back: from (xs, ps), the smoothed form of the state dt later, to that of the state (x, p), where q is the density of the motion's noise.
+// One step back: from the smoothed form of the state dt later to that of the state a, where q is the density of the motion's noise.
 #[tactic(auto, unfolding(crate::specs::Smoothing::back, crate::specs::Smoothing::smoothed))]
-pub fn back(
-    q: f64,
-    dt: f64,
-    x: &[f64; 6],
-    p: &[f64; 36],
-    xs: &mut [f64; 6],
-    ps: &mut [f64; 36],
-) -> Step
-    ensures { back_step result (estimate xs.new ps.new) ≡ Smoothing.back f64 q dt (estimate x.now p.now) (estimate xs.old ps.old) }
+pub fn back(q: f64, dt: f64, a: &TrackState, later: &mut TrackState) -> Step
+    ensures { back_step result (estimate_of later.new) ≡ Smoothing.back f64 q dt (estimate_of a.now) (estimate_of later.old) }
 {
     if dt <= 0.0 {
         return Step::Skipped;
     }
-    let p_pred = predicted(q, dt, p);
+    let p_pred = predicted(q, dt, &a.p);
     let Ok(l) = cholesky6(&p_pred) else {
         return Step::Failed;
     };
-    let g = gain(dt, p, &l);
-    *xs = smoothed_x(dt, x, &g, xs);
-    *ps = smoothed_p(p, &p_pred, &g, ps);
+    let g = gain(dt, &a.p, &l);
+    later.x = smoothed_x(dt, &a.x, &g, &later.x);
+    later.p = smoothed_p(&a.p, &p_pred, &g, &later.p);
     Step::Smoothed
 }

@@ -10,3 +10,4 @@ pub mod RootScale
 pub mod RootCases
 pub mod Nearest
 pub mod RootLaw
+pub mod Made

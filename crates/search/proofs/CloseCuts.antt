@@ -7,7 +7,7 @@ use mathlib.Core.List.{List, [], ◌∷◌, map}
 use lib.ListN.{length, get_or}
 use lib.Dec.{T, eqb}
 use lib.Ieee.{Float}
-use Rattle.cost.specs.declared.Dot.{Dot}
+use Rattle.kf.specs.declared.filter.Dot.{Dot}
 use Rattle.bounds.specs.Bounds.{SCANS, STARTS}
 use Rattle.fgo_spec.specs.Lists.{keep, cons_if, any, up_from}
 use Rattle.fgo_spec.proofs.All.{mem_All}

@@ -9,7 +9,7 @@ use lib.ListN.{length, get_or, get_or-eq_default}
 use lib.Dec.{eqb}
 use lib.Ieee.{Float}
 use borrow.Author.Tests.{ne_eqb}
-use Rattle.cost.specs.declared.Dot.{Dot}
+use Rattle.kf.specs.declared.filter.Dot.{Dot}
 use Rattle.bounds.specs.Bounds.{SCANS, STARTS}
 use Rattle.engine.specs.declared.config.FgoConfig.{FgoConfig}
 use Rattle.engine.specs.Config.{radius}

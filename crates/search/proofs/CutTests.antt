@@ -11,7 +11,7 @@ use lib.Dec.{T, eqb, leb}
 use lib.Ieee.{Float, binary64, add, sub, lt}
 use mir.Facts.{and_yes, yes_and, or_yes, eqb_yes, yes_eqb, leb_yes, yes_leb}
 use borrow.Author.Tests.{eq-eqb, ne_eqb}
-use Rattle.cost.specs.declared.Dot.{Dot}
+use Rattle.kf.specs.declared.filter.Dot.{Dot}
 use Rattle.cost.specs.Cost.{View, Measurement, measurement_at, measurements}
 use Rattle.fgo_spec.specs.Lists.{any}
 use Rattle.fgo_spec.proofs.Counting.{or_right}

@@ -12,7 +12,7 @@ use lib.Ieee.{Float}
 use mir.Facts.{or_yes}
 use borrow.Author.Tests.{le-leb}
 use Rattle.search_rows.specs.declared.rows.Row.{Row}
-use Rattle.cost.specs.declared.Dot.{Dot}
+use Rattle.kf.specs.declared.filter.Dot.{Dot}
 use Rattle.bounds.specs.Bounds.{SCANS}
 use Rattle.fgo_spec.specs.Lists.{any, up_from}
 use Rattle.search_rows.specs.Rows.{row_of, first_in, end_from, no_row, Tabled}

@@ -17,7 +17,7 @@ use Rattle.fgo_spec.proofs.Counting.{has-All, has-keep}
 use Rattle.fgo_spec.proofs.Presence.{present_is}
 use Rattle.search_rows.specs.Rows.{present_in}
 use Rattle.search_rows.specs.Moves.{begun, one_more}
-use Rattle.search.specs.Pass.{Scene, Progress, progress_of, id_of, Able, sweep, visit, pass_over, passes_over}
+use Rattle.search.specs.Pass.{Scene, Progress, progress_of, id_of, sweep, visit, pass_over, passes_over}
 use Rattle.search.specs.Represents.{Represents, Finds}
 use Rattle.search.proofs.Standing.{Standing, scans_now}
 use Rattle.search.proofs.IdsAscend.{Ascends, present_ascends, present-length, ascends_keep, ascends_same}
@@ -152,10 +152,10 @@ module _ (e : Scene) (ps : List (ℕ × Prefix)) (ss : List Scan) (laws : PassLa
 -- what the passes find is fgo_spec's
 pub finds :
     (e : Scene) (next : ℕ) (k : FgoCounters) (ids : List ℕ) (ps : List (ℕ × Prefix)) (ss : List Scan) → PassLaws e ps ss →
-    Standing e next ss ids → scans_now e ss ids ≡ ss → Represents e next k ids ps ss → Able e → (r : Progress) →
+    Standing e next ss ids → scans_now e ss ids ≡ ss → Represents e next k ids ps ss → e.hall.detections ≤ DETECTIONS → (r : Progress) →
     r ≡ passes_over e (max_passes_of e.hall.config) (progress_of ids (record { next_id = id_of next; counters = k; passes = 0; moved = true })) true →
     Finds e next k ps ss r.ids r.tally
-finds e next k ids ps ss laws st now g able r is =
+finds e next k ids ps ss laws st now g gathered r is =
     record {
       scans = ap (λ (f : Searched). f.search.scans) found;
       next_id = sym (ap (λ (f : Searched). f.search.next_id) found);
@@ -191,5 +191,5 @@ finds e next k ids ps ss laws st now g able r is =
     found : improve e.hall.config e.hall.first.0 ps ss next k ≡ record { search = model_of e ss r; ran = r.tally.passes }
     found =
         unfold improve in
-        (passes_are e ps ss laws able.gathered (max_passes_of e.hall.config) 0 0 start (record { scans = ss; next_id = next; counters = k; moved = true }) true (let m = g.passes in omega arith) tied
+        (passes_are e ps ss laws gathered (max_passes_of e.hall.config) 0 0 start (record { scans = ss; next_id = next; counters = k; moved = true }) true (let m = g.passes in omega arith) tied
         ∙ ap (λ (r : Progress). record { search = model_of e ss r; ran = r.tally.passes }) (sym is))

@@ -5,8 +5,8 @@ use Rattle.search.specs.declared.marks.Mark.TheVariants.{Resting}
 use Prim.Native.Nat.{ℕ, ◌+◌, ◌≤◌, ◌<◌}
 use native.Mathlib.Decide.{ℕ_discrete}
 use native.Mathlib.Omega.{arith}
-use mathlib.Core.Path.{◌≡◌, sym, ap, ◌∙◌}
-use mathlib.Core.Bool.{Bool, true, false, cond}
+use mathlib.Core.Path.{◌≡◌, refl, sym, ap, ◌∙◌}
+use mathlib.Core.Bool.{Bool, true, false, cond, ◌&&◌, true≢false}
 use mathlib.Core.List.{List}
 use lib.ListN.{get_or, take, drop}
 use lib.Ieee.{Float}
@@ -14,8 +14,10 @@ use Rattle.engine.specs.Config.{radius}
 use Rattle.search_rows.specs.declared.moves.Tally.{Tally}
 use Rattle.search_rows.specs.Rows.{no_row, Tabled}
 use Rattle.fgo_spec.specs.Searching.{square}
-use Rattle.search_neighbours.specs.Near.{any_close, row_at, CloseRows}
-use Rattle.std.specs.Prelude.{is_none}
+use Rattle.search_neighbours.specs.Near.{any_close, meets, row_at, close_rows}
+use Rattle.std.specs.Prelude.{is_some, is_none, Some, None}
+use Rattle.std.specs.Bool.{then_some}
+use Rattle.std.specs.Option.{unwrap_or}
 use Rattle.search.specs.Pass.{Scene, progress_of, row_on, close_on, pair_best, pair_step_on, pair_if, sweep_one, sweep, IdTable, Rests, Grows, Due, Swept}
 use Rattle.search.proofs.Listing.{listed_next, listed_end}
 use Rattle.search.proofs.Meeting.{table_row, table_close}
@@ -30,6 +32,15 @@ Turned e n i j table rows ids t ids' moved' t' =
     (progress_of ids' t' ≡ pair_if e (close_on e (row_on e is (get_or table i 0)) (row_on e is (get_or table j 0))) (get_or table i 0) (get_or table j 0) (progress_of ids t))
     × Rests e table rows moved' i j
 
+-- of what is given if a test passes
+given_none : {A : Type 0} (x : A) (b : Bool) → None ≡ then_some b x → b ≡ false
+given_none x true o = absurd (true≢false (sym (ap is_some o)))
+given_none x false o = refl
+
+given_some : {A : Type 0} (x y : A) (b : Bool) → Some y ≡ then_some b x → (b ≡ true) × (y ≡ x)
+given_some x y true o = (refl, λ i. unwrap_or (o i) x)
+given_some x y false o = absurd (true≢false (ap is_some o))
+
 module _ {e : Scene} {n i j : ℕ} {table ids : List ℕ} {rows : List Row} {costs : List Float} {moved : List Mark} (t : Tally) (h : i < j) (g : j < n) (s : Swept e n table rows ids costs moved) where
   -- neither row changed since the pair was last looked at
   pub turn_rests :
@@ -43,39 +54,44 @@ module _ {e : Scene} {n i j : ℕ} {table ids : List ℕ} {rows : List Row} {cos
         record { pair = λ p q. r },
       )
 
-  module _ {r : Bool} {close : List Bool} (found : CloseRows (square (radius e.hall.config)) e.dots (get_or rows i no_row) (get_or rows j no_row) r close) where
-    -- what was found of the entries of the table is so of the rows
-    is-close : (is : List ℕ) → Tabled e.starts is table n rows → r ≡ any_close (close_on e (row_on e is (get_or table i 0)) (row_on e is (get_or table j 0)))
-    is-close is b = found.found ∙ table_close (square (radius e.hall.config)) e.dots b i j (omega arith) g
+  -- what was found of the entries of the table is so of the rows
+  is-close :
+      (is : List ℕ) → Tabled e.starts is table n rows →
+      (meets (get_or rows i no_row) (get_or rows j no_row) && any_close (close_on e (row_at rows i) (row_at rows j)))
+      ≡ any_close (close_on e (row_on e is (get_or table i 0)) (row_on e is (get_or table j 0)))
+  is-close is b = table_close (square (radius e.hall.config)) e.dots b i j (omega arith) g
 
-    -- they are close nowhere
-    pub turn_apart : r ≡ false → Turned e n i j table rows ids t ids moved t
-    turn_apart z is b =
-        let c = close_on e (row_on e is (get_or table i 0)) (row_on e is (get_or table j 0)) in (
-          sym (ap (λ (u : Bool). cond u (pair_step_on e c (get_or table i 0) (get_or table j 0) (progress_of ids t)) (progress_of ids t)) (sym (is-close is b) ∙ z)),
-          record {
-            pair = λ p q.
-                apart_rests e (get_or table i 0) (get_or table j 0) (row_at rows i) (row_at rows j)
-                (ap any_close (λ k. close_on e (table_row b i (omega arith) k) (table_row b j g k)) ∙ sym (is-close is b) ∙ z);
-          },
-        )
+  -- they are close nowhere
+  pub turn_apart : None ≡ close_rows (square (radius e.hall.config)) e.dots (get_or rows i no_row) (get_or rows j no_row) → Turned e n i j table rows ids t ids moved t
+  turn_apart o is b =
+      let c = close_on e (row_on e is (get_or table i 0)) (row_on e is (get_or table j 0)) in
+      let z : any_close c ≡ false = sym (is-close is b) ∙ given_none _ _ o in (
+        sym (ap (λ (u : Bool). cond u (pair_step_on e c (get_or table i 0) (get_or table j 0) (progress_of ids t)) (progress_of ids t)) z),
+        record {
+          pair = λ p q.
+              apart_rests e (get_or table i 0) (get_or table j 0) (row_at rows i) (row_at rows j)
+              (ap any_close (λ k. close_on e (table_row b i (omega arith) k) (table_row b j g k)) ∙ z);
+        },
+      )
 
-    -- its step is made
-    pub turn_steps :
-        {ids' : List ℕ} {moved' : List Mark} {t' : Tally} → r ≡ true → progress_of ids' t' ≡ pair_step_on e close (get_or table i 0) (get_or table j 0) (progress_of ids t) → Grows n moved moved' →
-        (get_or moved' i Resting ≡ Resting → is_none (pair_best e close (get_or table i 0) (get_or table j 0) ids) ≡ true) → Turned e n i j table rows ids t ids' moved' t'
-    turn_steps z step grows stays is b =
-        let a = get_or table i 0 in
-        let d = get_or table j 0 in
-        let c = close_on e (row_on e is a) (row_on e is d) in (
-          step
-              ∙ ap (λ (u : List Bool). pair_step_on e u a d (progress_of ids t)) (found.scans z ∙ (λ k. close_on e (table_row b i (omega arith) k) (table_row b j g k)))
-              ∙ sym (ap (λ (u : Bool). cond u (pair_step_on e c a d (progress_of ids t)) (progress_of ids t)) (sym (is-close is b) ∙ z)),
-          record {
-            pair = λ p q.
-                stay_rests e a d ids (s.same i (omega arith) (grows.back i (omega arith) p)) (s.same j g (grows.back j g q)) (found.scans z) (stays p);
-          },
-        )
+  -- its step is made
+  pub turn_steps :
+      {close : List Bool} {ids' : List ℕ} {moved' : List Mark} {t' : Tally} → Some close ≡ close_rows (square (radius e.hall.config)) e.dots (get_or rows i no_row) (get_or rows j no_row) →
+      progress_of ids' t' ≡ pair_step_on e close (get_or table i 0) (get_or table j 0) (progress_of ids t) → Grows n moved moved' →
+      (get_or moved' i Resting ≡ Resting → is_none (pair_best e close (get_or table i 0) (get_or table j 0) ids) ≡ true) → Turned e n i j table rows ids t ids' moved' t'
+  turn_steps {close} o step grows stays is b =
+      let a = get_or table i 0 in
+      let d = get_or table j 0 in
+      let c = close_on e (row_on e is a) (row_on e is d) in
+      let f = given_some _ close _ o in (
+        step
+            ∙ ap (λ (u : List Bool). pair_step_on e u a d (progress_of ids t)) (f.1 ∙ (λ k. close_on e (table_row b i (omega arith) k) (table_row b j g k)))
+            ∙ sym (ap (λ (u : Bool). cond u (pair_step_on e c a d (progress_of ids t)) (progress_of ids t)) (sym (is-close is b) ∙ f.0)),
+        record {
+          pair = λ p q.
+              stay_rests e a d ids (s.same i (omega arith) (grows.back i (omega arith) p)) (s.same j g (grows.back j g q)) f.1 (stays p);
+        },
+      )
 
 -- ---- the id at place i with each after it
 

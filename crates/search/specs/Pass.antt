@@ -1,16 +1,15 @@
 -- The passes of the search over the gathered ids: the pairs, then the tracks. Definitions only.
-use Rattle.std.specs.Prelude.{ℕ, zero, suc, ◌^◌, ◌≤◌, ◌<◌, ◌≡◌, ◌≢◌, Bool, true, false}
+use Rattle.std.specs.Prelude.{ℕ, zero, suc, ◌≤◌, ◌<◌, ◌≡◌, ◌≢◌, Bool, true, false}
 use Rattle.std.specs.Prelude.{cond, List, [], ◌∷◌, length, get_or, Float, Option, Some, None, is_none}
 use Rattle.std.specs.Float.{nan, binary64}
 use Rattle.std.specs.Float.Ieee.{add}
-use Rattle.bounds.specs.Bounds.{DETECTIONS, FROZEN}
+use Rattle.bounds.specs.Bounds.{DETECTIONS}
 use Rattle.engine.specs.declared.config.FgoConfig.{FgoConfig}
 use Rattle.engine.specs.declared.types.RefinedId.{RefinedId}
 use Rattle.engine.specs.declared.types.ScanIndex.{ScanIndex}
 use Rattle.engine.specs.Config.{radius}
-use Rattle.cost.specs.declared.Dot.{Dot}
+use Rattle.kf.specs.declared.filter.Dot.{Dot}
 use Rattle.cost.specs.declared.Fold.{Fold}
-use Rattle.cost.specs.declared.prices.Prices.{Prices}
 use Rattle.cost.specs.Cost.{View, view_of}
 use Rattle.fgo_spec.specs.declared.moves.PairMove.{PairMove}
 use Rattle.fgo_spec.specs.declared.moves.TrackMove.{TrackMove}
@@ -18,7 +17,7 @@ use Rattle.search.specs.declared.marks.Mark.{Mark}
 use Rattle.search.specs.declared.marks.Mark.TheVariants.{Resting, ByTrack}
 use Rattle.search_rows.specs.declared.moves.Tally.{Tally}
 use Rattle.search_rows.specs.declared.rows.Row.{Row}
-use Rattle.search_rows.specs.Rows.{Starts, row_of, present_in, no_row}
+use Rattle.search_rows.specs.Rows.{row_of, present_in, no_row}
 use Rattle.fgo_spec.specs.Searching.{square}
 use Rattle.search_neighbours.specs.Near.{close_scans, any_close, row_at, Entered}
 use Rattle.cost_row.specs.Price.{fold_among, row_cost}
@@ -57,10 +56,6 @@ pub record Scene : Type 0 where
 -- the scene of what is lent
 abbrev pub scene_of : Hall → List ℕ → List Dot → List ℕ → List Float → Scene
 scene_of h starts dots ts fs = record { hall = h; starts = starts; dots = dots; tracks = ts; filters = fs }
-
--- the scene by what prices its windows, the detections gathered and the frozen tracks
-abbrev pub scene_by : Prices → ℕ → ℕ → List ℕ → List ℕ → List Float → Scene
-scene_by p n m starts ts fs = scene_of (record { config = p.config; first = p.first; detections = n; frozen = m }) starts p.dots.now ts fs
 
 -- the view of its dots
 abbrev pub view_on : Scene → View
@@ -153,13 +148,6 @@ passes_over e (suc n) s false = s
 passes_over e (suc n) s true = let t = pass_over e s in passes_over e n t t.tally.moved
 
 -- ---- what the inner functions ask
-
--- lent arrays of their lengths, and numbers in bounds
-pub record Able (e : Scene) : Type 0 where
-  pub early : e.hall.first.0 < 2 ^ 33
-  pub gathered : e.hall.detections ≤ DETECTIONS
-  pub frozen : e.hall.frozen ≤ FROZEN
-  pub starts : Starts e.starts
 
 -- n ids above 0, ascending
 pub record IdTable (n : ℕ) (table : List ℕ) : Type 0 where

@@ -2,7 +2,7 @@
 use Rattle.std.specs.Prelude.{ℕ, List, get_or, take}
 use Rattle.search_rows.specs.Rows.{Tabled}
 use Rattle.search.specs.declared.marks.Mark.{Mark}
-use Rattle.search.specs.declared.tables.Course.{Course}
+use Rattle.search.specs.declared.tables.PassState.{PassState}
 use Rattle.search.specs.declared.listed.Pass.{Pass}
 use Rattle.search.specs.declared.listed.Listing.{Listing}
 use Rattle.search.specs.declared.scene.SceneRef.{SceneRef}
@@ -10,11 +10,11 @@ use Rattle.search.specs.Lent.{scene_in}
 use Rattle.search.specs.Pass.{Scene, Progress, progress_of, Rests, Swept, Visits, Left}
 
 -- what a search has made of the ids and of the tally
-abbrev pub progress_in : Course → Progress
+abbrev pub progress_in : PassState → Progress
 progress_in c = progress_of c.ids c.tally
 
 -- the last pass has left it so
-abbrev pub LeftIn : SceneRef → Listing → Course → Type 0
+abbrev pub LeftIn : SceneRef → Listing → PassState → Type 0
 LeftIn s l c = Left (scene_in s) l.count c.first_given.0 l.table c.ids c.costs c.moved
 
 -- the scene that a pass goes over
@@ -38,9 +38,9 @@ abbrev pub RestsIn : Pass → List Mark → ℕ → ℕ → Type 0
 RestsIn p marks i j = Rests (scene_under p) p.list.now.table p.list.now.rows marks i j
 
 -- its pairs are being swept
-abbrev pub SweptIn : Pass → Course → Type 0
+abbrev pub SweptIn : Pass → PassState → Type 0
 SweptIn p c = Swept (scene_under p) p.list.now.count p.list.now.table p.list.now.rows c.ids c.costs c.moved
 
 -- its tracks before place i have been visited
-abbrev pub VisitsIn : Pass → ℕ → ℕ → Course → Type 0
+abbrev pub VisitsIn : Pass → ℕ → ℕ → PassState → Type 0
 VisitsIn p next i c = Visits (scene_under p) p.list.now.count p.list.now.table p.list.now.rows next i c.ids c.costs c.moved

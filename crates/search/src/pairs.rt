@@ -3,14 +3,14 @@ ghost use Rattle.std.specs.Prelude.{◌≡◌, true, false, List, ℕ, ◌+◌, 
 ghost use Rattle.bounds.specs.Bounds.{DETECTIONS, SCANS};
 ghost use Rattle.engine.specs.Config.{radius};
 ghost use Rattle.fgo_spec.specs.Searching.{square};
-ghost use Rattle.search_neighbours.specs.Near.{Entered, CloseRows};
+ghost use Rattle.search_neighbours.specs.Near.{close_rows, Entered};
 ghost use Rattle.search.specs.Pass.{row_on, close_on, pair_best, pair_step_on, pair_if, sweep_one, sweep, Grows};
 ghost use Rattle.search.specs.Stands.{progress_in, scene_under, listed_in, listed_at, TabledIn, RestsIn, SweptIn};
 ghost use Rattle.search.specs.declared.marks.Mark.TheVariants.{Resting};
 
 use crate::listed::{Listing, Pass};
 use crate::marks::Mark;
-use crate::tables::Course;
+use crate::tables::PassState;
 use bounds::SCANS;
 use cost::prices::Prices;
 use cost_row::window::Window;
@@ -20,24 +20,26 @@ use search_rows::moves::PairWithRows;
 use search_rows::rows::Row;
 
 // Makes the best move, if there is one, of the pair at two places of the table; only the costs of these two change.
-fn pair_step(pass: &Pass<'_>, i: usize, j: usize, close: &[bool; SCANS], course: &mut Course)
-    requires { (i < j) × (j < pass.now.list.now.count) × SweptIn pass.now course.old }
+// As it is: here and in what sweeps and visits it is asked how the state stands to the pass (`SweptIn`, `VisitsIn`), and told how to the one before (`Grows`).
+// A struct that held both would hold the state as `&mut`, and of such a struct no fact says what it holds afterwards.
+fn pair_step(pass: &Pass<'_>, i: usize, j: usize, close: &[bool; SCANS], state: &mut PassState)
+    requires { (i < j) × (j < pass.now.list.now.count) × SweptIn pass.now state.old }
     ensures step { let p = pass.now in
-        progress_in course.new
-        ≡ pair_step_on (scene_under p) close.now (listed_at p i) (listed_at p j) (progress_in course.old) }
-    ensures swept { SweptIn pass.now course.new }
-    ensures grows { Grows pass.now.list.now.count course.old.moved course.new.moved }
-    ensures rests { let p = pass.now in get_or course.new.moved i Resting ≡ Resting
-        → is_none (pair_best (scene_under p) close.now (listed_at p i) (listed_at p j) course.old.ids) ≡ true }
+        progress_in state.new
+        ≡ pair_step_on (scene_under p) close.now (listed_at p i) (listed_at p j) (progress_in state.old) }
+    ensures swept { SweptIn pass.now state.new }
+    ensures grows { Grows pass.now.list.now.count state.old.moved state.new.moved }
+    ensures rests { let p = pass.now in get_or state.new.moved i Resting ≡ Resting
+        → is_none (pair_best (scene_under p) close.now (listed_at p i) (listed_at p j) state.old.ids) ≡ true }
 {
     let scene = pass.scene;
     let x = RefinedId(pass.list.table[i]);
     let y = RefinedId(pass.list.table[j]);
-    let ra = pass.row_now(i, course.moved[i] == Mark::Resting, &course.ids);
-    let rb = pass.row_now(j, course.moved[j] == Mark::Resting, &course.ids);
-    let a = Window::new(x, scene.fold_of(x), &ra, course.costs[i]);
-    let b = Window::new(y, scene.fold_of(y), &rb, course.costs[j]);
-    if let Some(m) = search_pair::best_of_pair(scene.prices, close, &a, &b, &mut course.logs) {
+    let ra = pass.row_now(i, state.moved[i] == Mark::Resting, &state.ids);
+    let rb = pass.row_now(j, state.moved[j] == Mark::Resting, &state.ids);
+    let a = Window::new(x, scene.fold_of(x), &ra, state.costs[i]);
+    let b = Window::new(y, scene.fold_of(y), &rb, state.costs[j]);
+    if let Some(m) = search_pair::best_of_pair(scene.prices, close, &a, &b, &mut state.logs) {
         let pair = PairWithRows {
             m,
             ra: &ra,
@@ -49,13 +51,13 @@ fn pair_step(pass: &Pass<'_>, i: usize, j: usize, close: &[bool; SCANS], course:
             x,
             y,
             scene.starts,
-            &mut course.ids,
+            &mut state.ids,
         );
-        course.costs[i] = scene.track_cost(x, &course.ids, &mut course.logs);
-        course.costs[j] = scene.track_cost(y, &course.ids, &mut course.logs);
-        course.moved[i] = Mark::ByPair;
-        course.moved[j] = Mark::ByPair;
-        course.tally = course.tally.count(m);
+        state.costs[i] = scene.track_cost(x, &state.ids, &mut state.logs);
+        state.costs[j] = scene.track_cost(y, &state.ids, &mut state.logs);
+        state.moved[i] = Mark::ByPair;
+        state.moved[j] = Mark::ByPair;
+        state.tally = state.tally.count(m);
     }
 }
 
@@ -73,87 +75,91 @@ fn close_to(a: u8, b: u8) -> usize
     usize::from(a.min(b))
 }
 
-// Whether two rows are close in some scan; `close` then notes in which. Most pairs have no scan in common or beside each other; the others are looked at only
-// in such scans. It asks that the rows say where they begin and end, and that no scan is noted yet.
-fn close_rows(prices: &Prices<'_>, a: &Row, b: &Row, close: &mut [bool; SCANS]) -> bool
-    requires { Entered a.now × Entered b.now × (close.old ≡ replicate SCANS false) }
-    ensures { CloseRows (square (radius prices.now.config)) prices.now.dots.now a.now b.now result close.new }
+// For each scan whether two rows are close in it, if they are close in any. Most pairs have no scan in common or beside each other; the others are looked at
+// only in such scans. It asks that the rows say where they begin and end.
+fn close_rows(prices: &Prices<'_>, a: &Row, b: &Row) -> Option<[bool; SCANS]>
+    requires { Entered a.now × Entered b.now }
+    ensures { result ≡ close_rows (square (radius prices.now.config)) prices.now.dots.now a.now b.now }
 {
-    search_neighbours::meet(a, b)
-        && search_neighbours::close_scans(
-            prices.config.radius_m * prices.config.radius_m,
-            &a.slots,
-            &b.slots,
-            close_from(a.first, b.first),
-            close_to(a.end, b.end),
-            prices.dots,
-            close,
-        )
+    if !search_neighbours::meet(a, b) {
+        return None;
+    }
+    search_neighbours::close_scans(
+        prices.config.radius_m * prices.config.radius_m,
+        &a.slots,
+        &b.slots,
+        close_from(a.first, b.first),
+        close_to(a.end, b.end),
+        prices.dots,
+    )
 }
 
 // Nothing is due of the row at place i: it has not changed since its pairs were last looked at.
-fn row_rests(list: &Listing, course: &Course, i: usize) -> bool
+// As it is: that a place is below DETECTIONS is asked here, in `pair_rests` and in `row_now`. Of the two places of a pair `pair_turn` and `pair_step` ask that
+// `i < j` and `j < count`, from which the bound follows; with a struct for each place, like `Turn` of a track, they would ask that still.
+fn row_rests(list: &Listing, state: &PassState, i: usize) -> bool
     requires { i < DETECTIONS }
-    ensures { result ≡ true → (get_or list.now.due i Resting ≡ Resting) × (get_or course.now.moved i Resting ≡ Resting) }
+    ensures { result ≡ true → (get_or list.now.due i Resting ≡ Resting) × (get_or state.now.moved i Resting ≡ Resting) }
 {
-    list.due[i] == Mark::Resting && course.moved[i] == Mark::Resting
+    list.due[i] == Mark::Resting && state.moved[i] == Mark::Resting
 }
 
 // Neither of the two rows has changed since the pair was last looked at.
-fn pair_rests(list: &Listing, course: &Course, i: usize, j: usize) -> bool
+fn pair_rests(list: &Listing, state: &PassState, i: usize, j: usize) -> bool
     requires { (i < DETECTIONS) × (j < DETECTIONS) }
-    ensures { result ≡ true → (get_or list.now.due i Resting ≡ Resting) × (get_or course.now.moved i Resting ≡ Resting)
-        × (get_or list.now.due j Resting ≡ Resting) × (get_or course.now.moved j Resting ≡ Resting) }
+    ensures { result ≡ true → (get_or list.now.due i Resting ≡ Resting) × (get_or state.now.moved i Resting ≡ Resting)
+        × (get_or list.now.due j Resting ≡ Resting) × (get_or state.now.moved j Resting ≡ Resting) }
 {
-    row_rests(list, course, i) && row_rests(list, course, j)
+    row_rests(list, state, i) && row_rests(list, state, j)
 }
 
 // Makes the best move of the pair at two places of the table, if one of the rows has changed and they are close somewhere.
-fn pair_turn(pass: &Pass<'_>, i: usize, j: usize, course: &mut Course)
-    requires { (i < j) × (j < pass.now.list.now.count) × SweptIn pass.now course.old }
+// As it is: that the rows listed are those of the ids `is` is a premise of what the turns and the sweeps tell (`TabledIn`), and no fact of the pass: the ids
+// as they were when it began are kept nowhere, and a pass that lent them would first copy them.
+fn pair_turn(pass: &Pass<'_>, i: usize, j: usize, state: &mut PassState)
+    requires { (i < j) × (j < pass.now.list.now.count) × SweptIn pass.now state.old }
     ensures turned { let p = pass.now in let e = scene_under p in let a = listed_at p i in let b = listed_at p j in
         (is : List ℕ) → TabledIn p is →
-        (progress_in course.new ≡ pair_if e (close_on e (row_on e is a) (row_on e is b)) a b (progress_in course.old))
-        × RestsIn p course.new.moved i j }
-    ensures swept { SweptIn pass.now course.new }
-    ensures grows { Grows pass.now.list.now.count course.old.moved course.new.moved }
+        (progress_in state.new ≡ pair_if e (close_on e (row_on e is a) (row_on e is b)) a b (progress_in state.old))
+        × RestsIn p state.new.moved i j }
+    ensures swept { SweptIn pass.now state.new }
+    ensures grows { Grows pass.now.list.now.count state.old.moved state.new.moved }
 {
-    if pair_rests(pass.list, course, i, j) {
+    if pair_rests(pass.list, state, i, j) {
         return;
     }
     let rows = &pass.list.rows;
-    let mut close = [false; SCANS];
-    if close_rows(pass.scene.prices, &rows[i], &rows[j], &mut close) {
-        pair_step(pass, i, j, &close, course);
+    if let Some(close) = close_rows(pass.scene.prices, &rows[i], &rows[j]) {
+        pair_step(pass, i, j, &close, state);
     }
 }
 
 // Every pair of the track at place i of the table and one after it.
-fn sweep_one(pass: &Pass<'_>, i: usize, course: &mut Course)
-    requires { (i < pass.now.list.now.count) × SweptIn pass.now course.old }
+fn sweep_one(pass: &Pass<'_>, i: usize, state: &mut PassState)
+    requires { (i < pass.now.list.now.count) × SweptIn pass.now state.old }
     ensures swept_one { let p = pass.now in
         (is : List ℕ) → TabledIn p is →
-        (progress_in course.new
-        ≡ sweep_one (scene_under p) is (listed_at p i) (drop (i + 1) (listed_in p)) (progress_in course.old))
-        × ((j : ℕ) → i < j → j < p.list.now.count → RestsIn p course.new.moved i j) }
-    ensures swept { SweptIn pass.now course.new }
-    ensures grows { Grows pass.now.list.now.count course.old.moved course.new.moved }
+        (progress_in state.new
+        ≡ sweep_one (scene_under p) is (listed_at p i) (drop (i + 1) (listed_in p)) (progress_in state.old))
+        × ((j : ℕ) → i < j → j < p.list.now.count → RestsIn p state.new.moved i j) }
+    ensures swept { SweptIn pass.now state.new }
+    ensures grows { Grows pass.now.list.now.count state.old.moved state.new.moved }
 {
     for j in i + 1..pass.list.count {
-        pair_turn(pass, i, j, course);
+        pair_turn(pass, i, j, state);
     }
 }
 
 // Every pair of the table.
-pub fn sweep_pairs(pass: &Pass<'_>, course: &mut Course)
-    requires { SweptIn pass.now course.old }
+pub fn sweep_pairs(pass: &Pass<'_>, state: &mut PassState)
+    requires { SweptIn pass.now state.old }
     ensures swept_all { let p = pass.now in
         (is : List ℕ) → TabledIn p is →
-        (progress_in course.new ≡ sweep (scene_under p) is (listed_in p) (progress_in course.old))
-        × ((i j : ℕ) → i < j → j < p.list.now.count → RestsIn p course.new.moved i j) }
-    ensures swept { SweptIn pass.now course.new }
+        (progress_in state.new ≡ sweep (scene_under p) is (listed_in p) (progress_in state.old))
+        × ((i j : ℕ) → i < j → j < p.list.now.count → RestsIn p state.new.moved i j) }
+    ensures swept { SweptIn pass.now state.new }
 {
     for i in 0..pass.list.count {
-        sweep_one(pass, i, course);
+        sweep_one(pass, i, state);
     }
 }

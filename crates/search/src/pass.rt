@@ -1,5 +1,6 @@
 // The passes of the search: every pair of tracks that come close, then every track.
-ghost use Rattle.std.specs.Prelude.{◌≡◌, List, ℕ};
+ghost use Rattle.std.specs.Prelude.{◌≡◌, List, ℕ, length};
+ghost use Rattle.bounds.specs.Bounds.{DETECTIONS};
 ghost use Rattle.engine.specs.Config.{max_passes_of};
 ghost use Rattle.fgo_spec.specs.Windows.{Scan, Prefix};
 ghost use Rattle.search.specs.Pass.{pass_over, passes_over};
@@ -10,7 +11,7 @@ ghost use Rattle.search.specs.Represents.{Represents, Finds};
 use crate::listed::{Listing, Pass};
 use crate::marks::Mark;
 use crate::scene::SceneRef;
-use crate::tables::Course;
+use crate::tables::PassState;
 use crate::{pairs, tables, tracks};
 use bounds::{DETECTIONS, SCANS};
 use cost::logs::Logs;
@@ -20,24 +21,25 @@ use search_rows::moves::Tally;
 use search_rows::rows::Row;
 
 // One pass. What it leaves in the tables goes to the next.
-fn run_pass(scene: &SceneRef<'_>, list: &mut Listing, course: &mut Course)
-    requires { LeftIn scene.now list.old course.old }
-    ensures passed { progress_in course.new ≡ pass_over (scene_in scene.now) (progress_in course.old) }
-    ensures left { LeftIn scene.now list.new course.new }
+fn run_pass(scene: &SceneRef<'_>, list: &mut Listing, state: &mut PassState)
+    requires { LeftIn scene.now list.old state.old }
+    ensures passed { progress_in state.new ≡ pass_over (scene_in scene.now) (progress_in state.old) }
+    ensures left { LeftIn scene.now list.new state.new }
 {
-    tables::begin_pass(scene, list, course);
-    course.tally = course.tally.begin();
+    tables::begin_pass(scene, list, state);
+    state.tally = state.tally.begin();
     let pass = Pass { scene, list };
-    pairs::sweep_pairs(&pass, course);
-    let first_given = course.tally.next_id;
-    tracks::visit_tracks(&pass, course);
-    course.first_given = first_given;
+    pairs::sweep_pairs(&pass, state);
+    let first_given = state.tally.next_id;
+    tracks::visit_tracks(&pass, state);
+    state.first_given = first_given;
 }
 
 // Passes, until the most have run or one made no move.
-fn run_passes(scene: &SceneRef<'_>, course: &mut Course)
-    ensures { progress_in course.new
-        ≡ passes_over (scene_in scene.now) (max_passes_of scene.now.prices.now.config) (progress_in course.old) course.old.tally.moved }
+fn run_passes(scene: &SceneRef<'_>, state: &mut PassState)
+    ensures ran { progress_in state.new
+        ≡ passes_over (scene_in scene.now) (max_passes_of scene.now.prices.now.config) (progress_in state.old) state.old.tally.moved }
+    ensures long { length state.new.ids ≡ DETECTIONS }
 {
     let mut list = Listing {
         count: 0,
@@ -50,10 +52,10 @@ fn run_passes(scene: &SceneRef<'_>, course: &mut Course)
         due: [Mark::Resting; DETECTIONS],
     };
     for _ in 0..scene.prices.config.max_passes {
-        if !course.tally.moved {
+        if !state.tally.moved {
             return;
         }
-        run_pass(scene, &mut list, course);
+        run_pass(scene, &mut list, state);
     }
 }
 
@@ -64,11 +66,12 @@ pub fn improve(
     counters: FgoCounters,
     ids: &mut [u64; DETECTIONS],
 ) -> Tally
-    ensures { let e = scene_in scene.now in
+    ensures found { let e = scene_in scene.now in
         (ps : List (ℕ × Prefix)) (ss : List Scan) → Represents e next.0 counters ids.old ps ss →
         Finds e next.0 counters ps ss ids.new result }
+    ensures long { length ids.new ≡ DETECTIONS }
 {
-    let mut course = Course {
+    let mut state = PassState {
         ids: *ids,
         costs: [0.0; DETECTIONS],
         moved: [Mark::Resting; DETECTIONS],
@@ -81,7 +84,7 @@ pub fn improve(
             moved: true,
         },
     };
-    run_passes(scene, &mut course);
-    *ids = course.ids;
-    course.tally
+    run_passes(scene, &mut state);
+    *ids = state.ids;
+    state.tally
 }

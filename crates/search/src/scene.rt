@@ -1,24 +1,26 @@
 // What a search does not change, and what it tells of a track.
-ghost use Rattle.search.specs.Pass.{scene_by, Able};
+ghost use Rattle.std.specs.Prelude.{◌≤◌};
+ghost use Rattle.bounds.specs.Bounds.{DETECTIONS};
 
-use bounds::{DETECTIONS, SCANS, STARTS};
+use bounds::{DETECTIONS, FILTERS, SCANS};
 use cost::Fold;
 use cost::logs::Logs;
 use cost::prices::Prices;
+use cost_row::ended::EndedRow;
 use engine::types::RefinedId;
-use fgo_part::{FrozenParts, FrozenTracks};
+use fgo_part::FrozenTracks;
 use search_rows::rows;
+use search_rows::starts::StartsRef;
 
-// What prices windows; how many detections are gathered and how many tracks are frozen; where the detections of each scan begin; and the frozen tracks, in the
-// words and numbers that are lent.
+// What prices windows; how many detections are gathered, and where those of each scan begin; and the frozen tracks, in the words and numbers that are lent.
 #[derive(Drop)]
 pub struct SceneRef<'a> {
     pub prices: &'a Prices<'a>,
     pub detections: usize,
-    pub frozen: usize,
-    pub starts: &'a [usize; STARTS],
-    pub parts: &'a FrozenParts,
-    pub ghost able: { Able (scene_by prices.now detections frozen starts.now parts.now.tracks parts.now.filters) },
+    pub starts: &'a StartsRef<'a>,
+    pub frozen: &'a FrozenTracks<'a>,
+    pub filters: &'a [f64; FILTERS],
+    pub ghost few: { detections ≤ DETECTIONS },
 }
 
 impl SceneRef<'_> {
@@ -30,11 +32,7 @@ impl SceneRef<'_> {
     pub(crate) fn fold_of(&self, x: RefinedId) -> Fold
         ensures { result ≡ fold_on (scene_in self.now) x.0 }
     {
-        let frozen = FrozenTracks {
-            tracks: &self.parts.tracks,
-            count: self.frozen,
-        };
-        cost_row::fold_from(x, &frozen, &self.parts.filters)
+        cost_row::fold_from(x, self.frozen, self.filters)
     }
 
     // The row of x.
@@ -49,8 +47,7 @@ impl SceneRef<'_> {
         ensures { result ≡ cost_on (scene_in self.now) ids.now x.0 }
     {
         let row = self.row_of(x, ids);
-        let end = rows::end_of(&row);
         let from = self.fold_of(x);
-        cost_row::row_cost(self.prices, &from, &row, end, logs)
+        cost_row::row_cost(self.prices, &from, &EndedRow::new(&row), logs)
     }
 }

@@ -20,8 +20,9 @@ use search_rows::rows;
 // next id when they began, and 0 before the first pass; the logarithms worked out; and what is counted, in it the next id now.
 // As it is: costs and marks stand beside each other, as in `Listing`. As structs they are no plainer: what the clauses say is of the costs alone or of the
 // marks alone (`Costed`, `Grows`), which would first be taken out of the structs, and a pass begins by clearing all marks and no cost.
+// As it is: `first_given` is no Option. It is only asked whether an id is below it, and while it is 0 none is.
 #[derive(Drop)]
-pub struct Course {
+pub struct PassState {
     pub ids: [u64; DETECTIONS],
     pub costs: [f64; DETECTIONS],
     pub moved: [Mark; DETECTIONS],
@@ -31,8 +32,8 @@ pub struct Course {
 }
 
 // What the last pass left: how many ids it listed; the first id that its visits could give; these ids, what they cost, and their marks.
-// As it is: the three stand beside each other, since they are taken over from `Listing` and `Course`, where they stand so; as structs each pass would put them
-// together first.
+// As it is: the three stand beside each other, since they are taken over from `Listing` and `PassState`, where they stand so; as structs each pass would put
+// them together first.
 #[derive(Drop)]
 struct Last {
     count: usize,
@@ -85,36 +86,36 @@ fn carry(
 }
 
 // A pass begins: its tables are written, from those of the last.
-pub fn begin_pass(scene: &SceneRef<'_>, list: &mut Listing, course: &mut Course)
-    requires { LeftIn scene.now list.old course.old }
-    ensures listed { Begins (present_in scene.now.detections course.old.ids) list.new.count list.new.table }
-    ensures rows { Tabled scene.now.starts.now course.old.ids list.new.table list.new.count list.new.rows }
-    ensures swept { Swept (scene_in scene.now) list.new.count list.new.table list.new.rows course.new.ids course.new.costs course.new.moved }
+pub fn begin_pass(scene: &SceneRef<'_>, list: &mut Listing, state: &mut PassState)
+    requires { LeftIn scene.now list.old state.old }
+    ensures listed { Begins (present_in scene.now.detections state.old.ids) list.new.count list.new.table }
+    ensures rows { Tabled scene.now.starts.now.places.now state.old.ids list.new.table list.new.count list.new.rows }
+    ensures swept { Swept (scene_in scene.now) list.new.count list.new.table list.new.rows state.new.ids state.new.costs state.new.moved }
     ensures due { Due (scene_in scene.now) list.new.count list.new.table list.new.rows list.new.due }
-    ensures stays { progress_in course.new ≡ progress_in course.old }
+    ensures stays { progress_in state.new ≡ progress_in state.old }
 {
     let last = Last {
         count: list.count,
-        first_given: course.first_given,
+        first_given: state.first_given,
         table: list.table,
-        costs: course.costs,
-        moved: course.moved,
+        costs: state.costs,
+        moved: state.moved,
     };
-    list.count = rows::present(scene.detections, &course.ids, &mut list.table);
+    list.count = rows::present(scene.detections, &state.ids, &mut list.table);
     rows::fill_rows(
         list.count,
         &list.table,
         scene.starts,
-        &course.ids,
+        &state.ids,
         &mut list.rows,
     );
     let mut k: usize = 0;
     for i in 0..list.count {
         let x = RefinedId(list.table[i]);
         k = rows::place_from(x, k, &last.table[..last.count]);
-        let c = carry(scene, &last, x, k, &course.ids, &mut course.logs);
-        course.costs[i] = c.cost;
+        let c = carry(scene, &last, x, k, &state.ids, &mut state.logs);
+        state.costs[i] = c.cost;
         list.due[i] = c.due;
     }
-    course.moved = [Mark::Resting; DETECTIONS];
+    state.moved = [Mark::Resting; DETECTIONS];
 }

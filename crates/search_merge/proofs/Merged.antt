@@ -1,5 +1,5 @@
 -- The row of a merged track, and how two rows lie to each other. Assumes nothing.
-use Rattle.std.proofs.Common.{◌≡◌, ℕ, zero, suc, ◌+◌, ◌<◌, ◌≤◌, Bool, true, false, cond, eqb, List, [], ◌∷◌, length, get_or, drop, refl, ap, ◌∙◌, add-one, arith, drop_of_length-le, drop-cons, eqb-true}
+use Rattle.std.proofs.Common.{◌≡◌, ℕ, zero, suc, ◌+◌, ◌<◌, ◌≤◌, Bool, true, false, cond, eqb, List, [], ◌∷◌, length, get_or, ◌⊎◌, inl, inr, refl, ap, ◌∙◌, arith, eqb-true}
 use native.Mathlib.Decide.{dec_lt}
 use lib.ListN.{get_or-eq_default}
 use Rattle.bounds.specs.Bounds.{SCANS}
@@ -45,20 +45,29 @@ only_le x y = go (eqb x 0) (eqb y 0)
     go false true = omega arith
     go false false = omega arith
 
--- a loop over the scans before k has counted n
-pub record Counting (f : ℕ → ℕ → ℕ) (a b : List ℕ) (n k : ℕ) : Type 0 where
-  pub few : n ≤ k
-  pub rest : n + count_rows f (drop k a) (drop k b) ≡ count_rows f a b
+-- a loop over two rows has counted n, and has r and t of them left
+pub record Counting (f : ℕ → ℕ → ℕ) (a b r t : List ℕ) (n : ℕ) : Type 0 where
+  pub few : n + length r ≤ SCANS
+  pub rest : n + count_rows f r t ≡ count_rows f a b
 
-module _ {f : ℕ → ℕ → ℕ} {a b : List ℕ} {n k : ℕ} (s : Counting f a b n k) where
-  pub counts : k < length a → k < length b → (m : ℕ) → m ≡ f (get_or a k 0) (get_or b k 0) → f (get_or a k 0) (get_or b k 0) ≤ 1 → Counting f a b (n + m) (k + 1)
-  counts h g m e l = record { few = omega (arith, s.few); rest = let t = step in omega (arith, s.rest) }
+pub count-start : {f : ℕ → ℕ → ℕ} {a b r t : List ℕ} → length a ≡ SCANS → r ≡ a → t ≡ b → Counting f a b r t 0
+count-start {f} {a} {b} {r} {t} h p q = record { few = omega (arith, h, ap length p); rest = let z : count_rows f r t ≡ count_rows f a b = (λ i. count_rows f (p i) (q i)) in omega arith }
+
+module _ {f : ℕ → ℕ → ℕ} {a b r t : List ℕ} {n : ℕ} (s : Counting f a b r t n) where
+  pub counts : {x y : ℕ} {r' t' : List ℕ} → r ≡ x ∷ r' → t ≡ y ∷ t' → (m : ℕ) → m ≡ f x y → f x y ≤ 1 → Counting f a b r' t' (n + m)
+  counts {x} {y} {r'} {t'} p q m e l =
+      let step : count_rows f r t ≡ f x y + count_rows f r' t' = (unfold count_rows in rw (p, q)) in
+      record { few = omega (arith, s.few, ap length p); rest = omega (arith, s.rest) }
+
+  pub counted : (length r ≡ 0) ⊎ (length t ≡ 0) → n ≡ count_rows f a b
+  unfolding count_rows
+  counted e = let z = ends r t e in omega (arith, s.rest)
     where
-      step : count_rows f (drop k a) (drop k b) ≡ f (get_or a k 0) (get_or b k 0) + count_rows f (drop (k + 1) a) (drop (k + 1) b)
-      step = unfold count_rows in rw (drop-cons a k 0 h, drop-cons b k 0 g, add-one)
-
-  pub counted : length a ≤ k → n ≡ count_rows f a b
-  counted h = let t : count_rows f (drop k a) (drop k b) ≡ 0 = (unfold count_rows in rw (drop_of_length-le a {i = k} h)) in omega (arith, s.rest)
+      ends : (r t : List ℕ) → (length r ≡ 0) ⊎ (length t ≡ 0) → count_rows f r t ≡ 0
+      ends [] t e = refl
+      ends (x ∷ r) [] e = refl
+      ends (x ∷ r) (y ∷ t) (inl e) = absurd (omega arith)
+      ends (x ∷ r) (y ∷ t) (inr e) = absurd (omega arith)
 
 -- which of two rows comes first does not matter to the scans that both have
 both_turned : (x y : ℕ) → both_have x y ≡ both_have y x

@@ -10,4 +10,4 @@ abbrev pub merged_cost : Merging → Bool → Float
 merged_cost m own =
     let p = m.prices.now in
     let k = m.keeper.now in
-    row_cost p.config (view_in p) k.from (merged_row own k.row.now m.other.now.row.now)
+    row_cost p.config (view_in p) k.from (merged_row own k.row.slots.now m.other.now.slots.now)

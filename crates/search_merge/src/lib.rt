@@ -9,6 +9,7 @@ ghost use Rattle.search_merge.specs.Merge.{kept_slot, merged_row, both_have, onl
 use bounds::SCANS;
 use cost::logs::Logs;
 use cost::prices::Prices;
+use cost_row::ended::EndedRow;
 use cost_row::window::Window;
 use fgo_spec::moves::PairMove;
 use search_rows::moves::better;
@@ -44,6 +45,8 @@ fn only_has(x: usize, y: usize) -> u64
 }
 
 // How two rows lie to each other: in how many scans both have a detection, in how many only the first, and in how many only the second.
+// As it is: `mine` and `theirs` are counts, though only whether they are 0 is asked. As flags they would be no plainer: the three are counted alike, by one
+// definition over both rows, beside which flags would want a second one.
 #[derive(Clone, Copy)]
 pub struct Overlap {
     pub shared: u64,
@@ -65,19 +68,16 @@ impl Overlap {
 }
 
 // How two rows lie to each other.
-// As it is: three counts in one pass over both rows, where a count by `zip` and `filter` each would go over them three times, for each pair of a pass.
 pub fn overlap_of(a: &[usize; SCANS], b: &[usize; SCANS]) -> Overlap
     ensures { result ≡ overlap_of a.now b.now }
 {
     let mut shared: u64 = 0;
     let mut mine: u64 = 0;
     let mut theirs: u64 = 0;
-    for k in 0..SCANS {
-        let x = a[k];
-        let y = b[k];
-        shared += both_have(x, y);
-        mine += only_has(x, y);
-        theirs += only_has(y, x);
+    for (x, y) in a.iter().zip(b) {
+        shared += both_have(*x, *y);
+        mine += only_has(*x, *y);
+        theirs += only_has(*y, *x);
     }
     Overlap {
         shared,
@@ -86,18 +86,18 @@ pub fn overlap_of(a: &[usize; SCANS], b: &[usize; SCANS]) -> Overlap
     }
 }
 
-// Two windows, of which the keeper may take the detections of the other: how their rows lie to each other, and what the keeper would cost with the other's row,
+// A window, the keeper's, that may take the detections of another row: how the two rows lie to each other, and what the keeper would cost with the other's,
 // which is right at least where there is no scan in which only the keeper has a detection.
 #[derive(Drop)]
 pub struct Merging<'a> {
     pub prices: &'a Prices<'a>,
     pub keeper: &'a Window<'a>,
-    pub other: &'a Window<'a>,
+    pub other: &'a EndedRow<'a>,
     pub overlap: Overlap,
     pub exchanged: f64,
-    pub ghost lie: { overlap ≡ overlap_of keeper.now.row.now other.now.row.now },
-    pub ghost paid: { keeper.now.cost ≡ row_cost prices.now.config (view_in prices.now) keeper.now.from keeper.now.row.now },
-    pub ghost priced: { overlap.mine ≡ 0 → exchanged ≡ row_cost prices.now.config (view_in prices.now) keeper.now.from other.now.row.now },
+    pub ghost lie: { overlap ≡ overlap_of keeper.now.row.slots.now other.now.slots.now },
+    pub ghost paid: { keeper.now.cost ≡ row_cost prices.now.config (view_in prices.now) keeper.now.from keeper.now.row.slots.now },
+    pub ghost priced: { overlap.mine ≡ 0 → exchanged ≡ row_cost prices.now.config (view_in prices.now) keeper.now.from other.now.slots.now },
 }
 
 impl Merging<'_> {
@@ -107,9 +107,14 @@ impl Merging<'_> {
     fn merged_cost(&self, own: bool, logs: &mut Logs) -> f64
         ensures { result ≡ merged_cost self.now own }
     {
-        let row = merged_row(own, self.keeper.row, self.other.row);
-        let end = self.keeper.end.max(self.other.end);
-        cost_row::row_cost(self.prices, &self.keeper.from, &row, end, logs)
+        let mine = &self.keeper.row;
+        let theirs = self.other;
+        let slots = merged_row(own, mine.slots, theirs.slots);
+        let row = EndedRow {
+            slots: &slots,
+            end: mine.end.max(theirs.end),
+        };
+        cost_row::row_cost(self.prices, &self.keeper.from, &row, logs)
     }
 
     // The cost of the merged row that keeps the keeper's own detections: what the keeper costs now, if there is no scan in which only the other has one.
@@ -154,7 +159,7 @@ impl Merging<'_> {
         logs: &mut Logs,
     ) -> Option<PairMove>
         ensures { let p = self.now.prices.now in let k = self.now.keeper.now in
-            result ≡ better_merge p.config (view_in p) k.id k.from k.row.now self.now.other.now.row.now base best }
+            result ≡ better_merge p.config (view_in p) k.id k.from k.row.slots.now self.now.other.now.slots.now base best }
     {
         let own_row_cost = self.own_cost(logs);
         let first = better(best, self.merge_of(true, own_row_cost, base));

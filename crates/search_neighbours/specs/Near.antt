@@ -1,10 +1,11 @@
 -- Which pairs of rows come close, and in which scans: document 01's list of pairs. Definitions only.
-use Rattle.std.specs.Prelude.{ℕ, ◌+◌, ◌-◌, ◌≤◌, ◌<◌, ◌≡◌, Bool, true, false, cond, ◌&&◌, List, map, get_or, eqb, leb, Float}
+use Rattle.std.specs.Prelude.{ℕ, ◌+◌, ◌-◌, ◌≤◌, ◌<◌, ◌≡◌, Bool, true, false, cond, ◌&&◌, List, map, get_or, eqb, leb, Float, Option}
+use Rattle.std.specs.Bool.{then_some}
 use Rattle.std.specs.Float.{nan}
 use Rattle.std.specs.Float.Ieee.{lt}
 use Rattle.bounds.specs.Bounds.{SCANS}
 use Rattle.cost.specs.Cost.{dot_at}
-use Rattle.cost.specs.declared.Dot.{Dot}
+use Rattle.kf.specs.declared.filter.Dot.{Dot}
 use Rattle.fgo_spec.specs.Lists.{any, up_from}
 use Rattle.fgo_spec.specs.Searching.{◌⊕◌, ◌⊖◌, square}
 use Rattle.search_neighbours.specs.declared.Point.{Point}
@@ -66,7 +67,6 @@ pub record Entered (r : Row) : Type 0 where
   pub first : r.first ≡ first_in r.slots
   pub end : r.end ≡ end_from 0 0 r.slots
 
--- whether two rows are close in any scan, and if so in which
-pub record CloseRows (q : Float) (dots : List Dot) (a b : Row) (r : Bool) (close : List Bool) : Type 0 where
-  pub found : r ≡ (meets a b && any_close (close_scans q dots a.slots b.slots))
-  pub scans : r ≡ true → close ≡ close_scans q dots a.slots b.slots
+-- the scans in which two rows are close, if there is one
+abbrev pub close_rows : Float → List Dot → Row → Row → Option (List Bool)
+close_rows q dots a b = let close = close_scans q dots a.slots b.slots in then_some (meets a b && any_close close) close

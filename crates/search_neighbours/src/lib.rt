@@ -1,12 +1,13 @@
 // Which rows come close to each other, and in which scans.
 #![tactic(auto)]
 
-ghost use Rattle.std.specs.Prelude.{◌≡◌, false, get_or, replicate};
-ghost use Rattle.bounds.specs.Bounds.{SCANS};
+ghost use Rattle.std.specs.Prelude.{◌≡◌};
+ghost use Rattle.std.specs.Bool.{then_some};
 ghost use Rattle.search_neighbours.specs.Near.{point_at, near_points, close_points, close_scans, any_close, meets, CloseWithin};
 
 use bounds::{DETECTIONS, SCANS};
-use cost::Dot;
+use engine::little::byte_at;
+use kf::filter::Dot;
 use search_rows::rows::Row;
 
 // Where a detection lies. One that is not there lies at NaN, which is near nothing.
@@ -40,13 +41,6 @@ fn near_points(q: f64, d: Point, e: Point) -> bool
     dx * dx + dy * dy < q
 }
 
-// Entry k of a row, 0 past its end.
-fn slot(row: &[u8], k: usize) -> usize
-    ensures { result ≡ get_or row.now k 0 }
-{
-    row.get(k).map_or(0, |x| usize::from(*x))
-}
-
 // Two rows have a detection each that are near, in one scan or in it and the next: at x and y in the scan, at nx and ny in the next.
 fn close_points(q: f64, x: Point, y: Point, nx: Point, ny: Point) -> bool
     ensures { result ≡ close_points q x y nx ny }
@@ -54,9 +48,7 @@ fn close_points(q: f64, x: Point, y: Point, nx: Point, ny: Point) -> bool
     near_points(q, x, y) || near_points(q, x, ny) || near_points(q, nx, y)
 }
 
-// For each scan whether the rows are close in it; and whether they are close in any. It asks for scans outside of which they are not, and that no scan is
-// noted yet.
-// As it is: what is lent is filled in place, and the answer comes of the same pass; `any` over what was filled would be a second one for each pair.
+// For each scan whether the rows are close in it, if they are close in any. It asks for scans outside of which they are not.
 pub fn close_scans(
     q: f64,
     a: &[u8],
@@ -64,18 +56,17 @@ pub fn close_scans(
     from: usize,
     to: usize,
     dots: &[Dot; DETECTIONS],
-    close: &mut [bool; SCANS],
-) -> bool
-    requires { CloseWithin q dots.now a.now b.now from to × (close.old ≡ replicate SCANS false) }
-    ensures scans { close.new ≡ close_scans q dots.now a.now b.now }
-    ensures any { result ≡ any_close close.new }
+) -> Option<[bool; SCANS]>
+    requires { CloseWithin q dots.now a.now b.now from to }
+    ensures { let close = close_scans q dots.now a.now b.now in result ≡ then_some (any_close close) close }
 {
+    let mut close = [false; SCANS];
     let mut found = false;
-    let mut x = point_at(slot(a, from), dots);
-    let mut y = point_at(slot(b, from), dots);
+    let mut x = point_at(byte_at(a, from), dots);
+    let mut y = point_at(byte_at(b, from), dots);
     for k in from..to {
-        let nx = point_at(slot(a, k + 1), dots);
-        let ny = point_at(slot(b, k + 1), dots);
+        let nx = point_at(byte_at(a, k + 1), dots);
+        let ny = point_at(byte_at(b, k + 1), dots);
         if close_points(q, x, y, nx, ny) {
             close[k] = true;
             found = true;
@@ -83,7 +74,7 @@ pub fn close_scans(
         x = nx;
         y = ny;
     }
-    found
+    found.then_some(close)
 }
 
 // The ranges of scans of two rows, each from its first detection to its last, overlap or touch. In no scan, and in no two consecutive ones, need both have

@@ -48,7 +48,7 @@ best_pair_row c v x y pa pb close a b base =
 
 -- what both windows cost now, and what they cost with their rows exchanged if there is a cut before all scans
 pub record Exchanged (p : Prices) (close : List Bool) (a b : Window) (xa xb : Float) : Type 0 where
-  pub paid_a : a.cost ≡ row_cost p.config (view_in p) a.from a.row.now
-  pub paid_b : b.cost ≡ row_cost p.config (view_in p) b.from b.row.now
-  pub exchanged_a : cut_at close 0 ≡ true → xa ≡ row_cost p.config (view_in p) a.from b.row.now
-  pub exchanged_b : cut_at close 0 ≡ true → xb ≡ row_cost p.config (view_in p) b.from a.row.now
+  pub paid_a : a.cost ≡ row_cost p.config (view_in p) a.from a.row.slots.now
+  pub paid_b : b.cost ≡ row_cost p.config (view_in p) b.from b.row.slots.now
+  pub exchanged_a : cut_at close 0 ≡ true → xa ≡ row_cost p.config (view_in p) a.from b.row.slots.now
+  pub exchanged_b : cut_at close 0 ≡ true → xb ≡ row_cost p.config (view_in p) b.from a.row.slots.now

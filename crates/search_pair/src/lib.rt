@@ -13,7 +13,6 @@ use cost::Fold;
 use cost::logs::Logs;
 use cost::prices::Prices;
 use cost_row::window::Window;
-use engine::types::ScanIndex;
 use fgo_spec::moves::PairMove;
 use search_merge::Merging;
 use search_rows::moves::better;
@@ -58,35 +57,35 @@ impl Pair<'_> {
     fn swap_gain(&self, fa: &Fold, fb: &Fold, cut: usize, logs: &mut Logs) -> f64
         requires { (misses_of fa.now < 2 ^ 58) × (misses_of fb.now < 2 ^ 58) }
         ensures { let p = self.now.prices.now in result
-            ≡ cost p.config fa.now (measurements (view_in p) cut (drop cut self.now.b.now.row.now))
-            ⊕ cost p.config fb.now (measurements (view_in p) cut (drop cut self.now.a.now.row.now))
+            ≡ cost p.config fa.now (measurements (view_in p) cut (drop cut self.now.b.now.row.slots.now))
+            ⊕ cost p.config fb.now (measurements (view_in p) cut (drop cut self.now.a.now.row.slots.now))
             ⊖ self.now.base }
     {
-        let x = cost_row::rest_cost(self.prices, fa, self.b.row, cut, self.b.end, logs);
-        let y = cost_row::rest_cost(self.prices, fb, self.a.row, cut, self.a.end, logs);
+        let x = cost_row::rest_cost(self.prices, fa, &self.b.row, cut, logs);
+        let y = cost_row::rest_cost(self.prices, fb, &self.a.row, cut, logs);
         x + y - self.base
     }
 
     // The best swap, at each cut: the folds over both rows go on from cut to cut. A swap at or past the end of both would change nothing.
     fn best_swap(&self, logs: &mut Logs) -> Option<PairMove>
         ensures { let p = self.now.prices.now in let a = self.now.a.now in let b = self.now.b.now in
-            result ≡ best_swap_row p.config (view_in p) a.from b.from self.now.close.now a.row.now b.row.now self.now.base }
+            result ≡ best_swap_row p.config (view_in p) a.from b.from self.now.close.now a.row.slots.now b.row.slots.now self.now.base }
     {
         let prices = self.prices;
         let a = self.a;
         let b = self.b;
-        let end = a.end.max(b.end);
+        let end = a.row.end.max(b.row.end);
         let mut best = self.first_swap();
         let mut fa = a.from;
         let mut fb = b.from;
         let mut done: usize = 0;
         for k in 1..end {
             if is_cut(self.close, k) {
-                fa = cost_row::fold_to(prices, &fa, a.row, done, k, logs);
-                fb = cost_row::fold_to(prices, &fb, b.row, done, k, logs);
+                fa = cost_row::fold_to(prices, &fa, a.row.slots, done, k, logs);
+                fb = cost_row::fold_to(prices, &fb, b.row.slots, done, k, logs);
                 done = k;
                 let gain = self.swap_gain(&fa, &fb, k, logs);
-                let cut = ScanIndex(prices.first.0 + k as u64);
+                let cut = prices.first.later(k);
                 best = better(best, PairMove::Swap { cut, gain });
             }
         }
@@ -105,11 +104,11 @@ fn exchanged_cost(
     alone: u64,
     logs: &mut Logs,
 ) -> f64
-    ensures by_cut { cut ≡ true → result ≡ row_cost prices.now.config (view_in prices.now) mine.now.from other.now.row.now }
-    ensures by_merge { alone ≡ 0 → result ≡ row_cost prices.now.config (view_in prices.now) mine.now.from other.now.row.now }
+    ensures by_cut { cut ≡ true → result ≡ row_cost prices.now.config (view_in prices.now) mine.now.from other.now.row.slots.now }
+    ensures by_merge { alone ≡ 0 → result ≡ row_cost prices.now.config (view_in prices.now) mine.now.from other.now.row.slots.now }
 {
     if cut || alone == 0 {
-        return cost_row::row_cost(prices, &mine.from, other.row, other.end, logs);
+        return cost_row::row_cost(prices, &mine.from, &other.row, logs);
     }
     0.0
 }
@@ -122,13 +121,13 @@ pub fn best_of_pair(
     b: &Window<'_>,
     logs: &mut Logs,
 ) -> Option<PairMove>
-    requires { (a.now.cost ≡ row_cost prices.now.config (view_in prices.now) a.now.from a.now.row.now)
-        × (b.now.cost ≡ row_cost prices.now.config (view_in prices.now) b.now.from b.now.row.now) }
+    requires { (a.now.cost ≡ row_cost prices.now.config (view_in prices.now) a.now.from a.now.row.slots.now)
+        × (b.now.cost ≡ row_cost prices.now.config (view_in prices.now) b.now.from b.now.row.slots.now) }
     ensures { result
         ≡ best_pair_row prices.now.config (view_in prices.now) a.now.id b.now.id a.now.from b.now.from close.now
-        a.now.row.now b.now.row.now (a.now.cost ⊕ b.now.cost) }
+        a.now.row.slots.now b.now.row.slots.now (a.now.cost ⊕ b.now.cost) }
 {
-    let overlap = search_merge::overlap_of(a.row, b.row);
+    let overlap = search_merge::overlap_of(a.row.slots, b.row.slots);
     let cut = is_cut(close, 0);
     let exchanged_a = exchanged_cost(prices, a, b, cut, overlap.mine, logs);
     let exchanged_b = exchanged_cost(prices, b, a, cut, overlap.theirs, logs);
@@ -144,14 +143,14 @@ pub fn best_of_pair(
     let into_a = Merging {
         prices,
         keeper: a,
-        other: b,
+        other: &b.row,
         overlap,
         exchanged: exchanged_a,
     };
     let into_b = Merging {
         prices,
         keeper: b,
-        other: a,
+        other: &a.row,
         overlap: overlap.turned(),
         exchanged: exchanged_b,
     };

@@ -3,3 +3,4 @@
 
 pub mod moves;
 pub mod rows;
+pub mod starts;

@@ -1,12 +1,12 @@
 // What a move does to the gathered ids, and what it counts.
-ghost use Rattle.std.specs.Prelude.{◌≡◌, ◌+◌, ◌^◌, ◌≤◌, ◌<◌, cond, leb, ℕ, Float};
-ghost use Rattle.bounds.specs.Bounds.{DETECTIONS, SCANS};
+ghost use Rattle.std.specs.Prelude.{◌≡◌, ◌+◌, ◌^◌, ◌<◌, cond, leb, get_or, ℕ, Float};
+ghost use Rattle.bounds.specs.Bounds.{SCANS};
 ghost use Rattle.fgo_spec.specs.Searching.{best_gain, better, pair_gain, track_gain};
-ghost use Rattle.search_rows.specs.Rows.{Starts};
 ghost use Rattle.search_rows.specs.Moves.{retarget, become, keeper_target, other_target, pair_targets, track_targets, map_over, has_slot, renamed_from};
 ghost use Rattle.search_rows.specs.Moves.{one_more, begun, pair_counters, track_counters, next_id_after, counted};
 
-use bounds::{DETECTIONS, SCANS, STARTS};
+use crate::starts::StartsRef;
+use bounds::{DETECTIONS, SCANS};
 use engine::types::{RefinedId, ScanIndex};
 use fgo_spec::moves::{FgoCounters, PairMove, TrackMove};
 
@@ -127,7 +127,7 @@ pub fn better<M: Candidate>(best: Option<M>, m: M) -> Option<M>
 }
 
 // What becomes of two ids in one scan; 0 is clutter.
-// As it is: the published id columns hold 0 for clutter, and an id is written into them as it stands here.
+// As it is: the gathered ids are numbers, of which 0 is clutter, as in the published columns that they are put back into.
 #[derive(Clone, Copy)]
 pub struct Targets {
     pub a: RefinedId,
@@ -144,19 +144,19 @@ pub struct Tally {
     pub moved: bool,
 }
 
-// The ids from one place up to another, with a and b renamed.
+// The ids of scan k, with a and b renamed.
 fn rename_scan(
-    from: usize,
-    to: usize,
+    starts: &StartsRef<'_>,
+    k: usize,
     a: RefinedId,
     b: RefinedId,
     t: Targets,
     ids: &mut [u64; DETECTIONS],
 )
-    requires { (from ≤ to) × (to ≤ DETECTIONS) }
-    ensures { ids.new ≡ map_over (retarget a.0 b.0 t) from to ids.old }
+    requires { k < SCANS }
+    ensures { ids.new ≡ map_over (retarget a.0 b.0 t) (get_or starts.now.places.now k 0) (get_or starts.now.places.now (k + 1) 0) ids.old }
 {
-    for x in &mut ids[from..to] {
+    for x in &mut ids[starts.places[k]..starts.places[k + 1]] {
         if *x == a.0 {
             *x = t.a.0;
         } else if *x == b.0 {
@@ -191,7 +191,7 @@ fn exchanged(cut: ScanIndex, n: ScanIndex, a: RefinedId, b: RefinedId) -> Target
 }
 
 // A move, by what becomes of two ids in each scan.
-pub trait Targeting {
+pub trait Renames {
     ghost use Rattle.search_rows.specs.declared.moves.Targets.{Targets};
 
     ghost targets_of: { Self → ℕ → ℕ → ℕ → ℕ → Targets };
@@ -210,7 +210,7 @@ pub struct PairWithRows<'a> {
     pub rb: &'a [usize; SCANS],
 }
 
-impl Targeting for PairWithRows<'_> {
+impl Renames for PairWithRows<'_> {
     ghost targets_of = { λ p a b k n. pair_targets p.m a b n (has_slot p.ra.now k) (has_slot p.rb.now k) };
 
     fn targets(&self, a: RefinedId, b: RefinedId, k: usize, n: ScanIndex) -> Targets {
@@ -236,7 +236,7 @@ impl Targeting for PairWithRows<'_> {
 }
 
 // A move of the track a; a new track would be b.
-impl Targeting for TrackMove {
+impl Renames for TrackMove {
     ghost targets_of = { λ m a b k n. track_targets m a b n };
 
     fn targets(&self, a: RefinedId, b: RefinedId, k: usize, n: ScanIndex) -> Targets {
@@ -250,21 +250,21 @@ impl Targeting for TrackMove {
     }
 }
 
-// A move of a and b, in every scan. It asks for scan numbers below 2^33, and starts that rise to DETECTIONS at most.
-pub fn apply<M: Targeting>(
+// A move of a and b, in every scan. It asks for scan numbers below 2^33.
+pub fn apply<M: Renames>(
     m: &M,
     first: ScanIndex,
     a: RefinedId,
     b: RefinedId,
-    starts: &[usize; STARTS],
+    starts: &StartsRef<'_>,
     ids: &mut [u64; DETECTIONS],
 )
-    requires { (first.0 < 2 ^ 33) × Starts starts.now }
-    ensures { ids.new ≡ renamed_from starts.now a.0 b.0 (λ k. M.targets_of m.now a.0 b.0 k (first.0 + k)) 0 SCANS ids.old }
+    requires { first.0 < 2 ^ 33 }
+    ensures { ids.new ≡ renamed_from starts.now.places.now a.0 b.0 (λ k. M.targets_of m.now a.0 b.0 k (first.0 + k)) 0 SCANS ids.old }
 {
     for k in 0..SCANS {
-        let t = m.targets(a, b, k, ScanIndex(first.0 + k as u64));
-        rename_scan(starts[k], starts[k + 1], a, b, t, ids);
+        let t = m.targets(a, b, k, first.later(k));
+        rename_scan(starts, k, a, b, t, ids);
     }
 }
 

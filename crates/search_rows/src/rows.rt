@@ -2,13 +2,16 @@
 ghost use Rattle.std.specs.Prelude.{◌≡◌, ℕ, ◌+◌, ◌^◌, ◌≤◌, ◌<◌, get_or, take, drop, length};
 ghost use Rattle.bounds.specs.Bounds.{DETECTIONS, SCANS};
 ghost use Rattle.fgo_spec.specs.Lists.{insert as inserted, segment, place_in};
-ghost use Rattle.search_rows.specs.Rows.{Starts, slot_in, row_of, present_in, first_in, end_from, entry_of, Tabled, Begins};
+ghost use Rattle.search_rows.specs.Rows.{row_entry, row_of, present_in, first_in, end_from, entry_of, Tabled, Begins};
 
-use bounds::{DETECTIONS, SCANS, STARTS};
+use crate::starts::StartsRef;
+use bounds::{DETECTIONS, SCANS};
 use engine::types::RefinedId;
 use std::array::from_fn;
 
 // The first place, from one on, whose id is not below x; the table's length where there is none.
+// As it is: `position`, here and so in `insert`, and no `partition_point` or `binary_search`: what it promises is of any table, and these would ask for an
+// ascending one; and a pass seeks in the table of the last one from the place found before, a few steps on.
 pub fn place_from(x: RefinedId, from: usize, table: &[u64]) -> usize
     requires { from ≤ length table.now }
     ensures { result ≡ from + place_in x.0 (drop from table.now) }
@@ -58,23 +61,23 @@ pub fn present(n: usize, ids: &[u64; DETECTIONS], table: &mut [u64; DETECTIONS])
     m
 }
 
-// One more than the first place of x from a up to b, 0 where there is none.
-fn slot_in(x: RefinedId, a: usize, b: usize, ids: &[u64; DETECTIONS]) -> usize
-    requires { (a ≤ b) × (b ≤ DETECTIONS) }
-    ensures { result ≡ slot_in x.0 a (segment a b ids.now) }
+// One more than the first place of x in scan k, 0 where it has none.
+fn slot_in(x: RefinedId, starts: &StartsRef<'_>, k: usize, ids: &[u64; DETECTIONS]) -> usize
+    requires { k < SCANS }
+    ensures { result ≡ row_entry starts.now.places.now ids.now x.0 k }
 {
-    ids[a..b]
+    let a = starts.places[k];
+    ids[a..starts.places[k + 1]]
         .iter()
         .position(|y| x.0 == *y)
         .map_or(0, |i| a + i + 1)
 }
 
-// The row of x. It asks for starts that rise to DETECTIONS at most.
-pub fn row_of(x: RefinedId, starts: &[usize; STARTS], ids: &[u64; DETECTIONS]) -> [usize; SCANS]
-    requires { Starts starts.now }
-    ensures { result ≡ row_of starts.now ids.now x.0 }
+// The row of x.
+pub fn row_of(x: RefinedId, starts: &StartsRef<'_>, ids: &[u64; DETECTIONS]) -> [usize; SCANS]
+    ensures { result ≡ row_of starts.now.places.now ids.now x.0 }
 {
-    from_fn(|k| slot_in(x, starts[k], starts[k + 1], ids))
+    from_fn(|k| slot_in(x, starts, k, ids))
 }
 
 // The first scan in which the row has a detection, SCANS where there is none.
@@ -115,19 +118,19 @@ impl Row {
     }
 }
 
-// The rows of the first n ids of a table, DETECTIONS at most. It asks what `row_of` asks.
+// The rows of the first n ids of a table, DETECTIONS at most.
 pub fn fill_rows(
     n: usize,
     table: &[u64; DETECTIONS],
-    starts: &[usize; STARTS],
+    starts: &StartsRef<'_>,
     ids: &[u64; DETECTIONS],
     rows: &mut [Row; DETECTIONS],
 )
-    requires { (n ≤ DETECTIONS) × Starts starts.now }
-    ensures { Tabled starts.now ids.now table.now n rows.new }
+    requires { n ≤ DETECTIONS }
+    ensures { Tabled starts.now.places.now ids.now table.now n rows.new }
 {
-    // As it is: of what is written through `rows.iter_mut().zip(&table[..n])` the proof learns nothing.
-    for (i, x) in table[..n].iter().enumerate() {
-        rows[i] = Row::new(&row_of(RefinedId(*x), starts, ids));
+    // As it is: the id is read by its place. Tried: of what is written through `table[..n].iter().zip(&mut rows[..n])` the proof learns nothing.
+    for (i, row) in rows[..n].iter_mut().enumerate() {
+        *row = Row::new(&row_of(RefinedId(table[i]), starts, ids));
     }
 }

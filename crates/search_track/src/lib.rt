@@ -25,20 +25,20 @@ fn better_split(
     logs: &mut Logs,
 ) -> Option<TrackMove>
     requires { k ≤ SCANS }
-    ensures { result ≡ better_split prices.now.config (view_in prices.now) best f.now w.now.row.now k w.now.cost }
+    ensures { result ≡ better_split prices.now.config (view_in prices.now) best f.now w.now.row.slots.now k w.now.cost }
 {
-    let tail = cost_row::rest_cost(prices, &Fold::Fresh, w.row, k, w.end, logs);
+    let tail = cost_row::rest_cost(prices, &Fold::Fresh, &w.row, k, logs);
     let gain = f.close(prices.config) + tail - w.cost;
-    let cut = ScanIndex(prices.first.0 + k as u64);
+    let cut = prices.first.later(k);
     better(best, TrackMove::Split { cut, gain })
 }
 
 // What the drop of the detection in scan k gains, by the fold f over the row before it.
 fn drop_gain(prices: &Prices<'_>, w: &Window<'_>, f: &Fold, k: usize, logs: &mut Logs) -> f64
     requires { (misses_of f.now < 2 ^ 58) × (k < SCANS) }
-    ensures { result ≡ drop_gain prices.now.config (view_in prices.now) f.now w.now.row.now k w.now.cost }
+    ensures { result ≡ drop_gain prices.now.config (view_in prices.now) f.now w.now.row.slots.now k w.now.cost }
 {
-    cost_row::rest_cost(prices, f, w.row, k + 1, w.end, logs) + prices.config.clutter_cost - w.cost
+    cost_row::rest_cost(prices, f, &w.row, k + 1, logs) + prices.config.clutter_cost - w.cost
 }
 
 // The best split, after the first detection, the second and so on, so before each detection but the first; and for each detection what its drop gains. The fold
@@ -51,16 +51,16 @@ fn best_split(
     gains: &mut [f64; SCANS],
     logs: &mut Logs,
 ) -> Option<TrackMove>
-    ensures best { result ≡ best_split_row prices.now.config (view_in prices.now) w.now.from w.now.row.now w.now.cost }
-    ensures drop_gains { DropGains prices.now.config (view_in prices.now) w.now.from w.now.row.now w.now.cost w.now.end gains.new }
+    ensures best { result ≡ best_split_row prices.now.config (view_in prices.now) w.now.from w.now.row.slots.now w.now.cost }
+    ensures drop_gains { DropGains prices.now.config (view_in prices.now) w.now.from w.now.row.slots.now w.now.cost w.now.row.end gains.new }
 {
     let mut best = None;
     let mut fold = w.from;
     let mut done: usize = 0;
     let mut seen = false;
-    for k in 0..w.end {
-        if 0 < w.row[k] {
-            fold = cost_row::fold_to(prices, &fold, w.row, done, k, logs);
+    for k in 0..w.row.end {
+        if 0 < w.row.slots[k] {
+            fold = cost_row::fold_to(prices, &fold, w.row.slots, done, k, logs);
             done = k;
             if seen {
                 best = better_split(prices, w, best, &fold, k, logs);
@@ -82,12 +82,12 @@ fn best_drop(
     gains: &[f64; SCANS],
 ) -> Option<TrackMove>
     requires { first.0 < 2 ^ 33 }
-    ensures { result ≡ best_drop_by first.0 gains.now w.now.row.now start }
+    ensures { result ≡ best_drop_by first.0 gains.now w.now.row.slots.now start }
 {
     let mut best = start;
-    for k in 0..w.end {
-        if 0 < w.row[k] {
-            let scan = ScanIndex(first.0 + k as u64);
+    for k in 0..w.row.end {
+        if 0 < w.row.slots[k] {
+            let scan = first.later(k);
             best = better(
                 best,
                 TrackMove::Drop {
@@ -116,11 +116,11 @@ fn frozen_one(p: Fold) -> usize
 
 // The best move of a track by its window, or none.
 pub fn best_of_track(prices: &Prices<'_>, w: &Window<'_>, logs: &mut Logs) -> Option<TrackMove>
-    ensures { result ≡ best_track_row prices.now.config (view_in prices.now) w.now.from w.now.row.now w.now.cost }
+    ensures { result ≡ best_track_row prices.now.config (view_in prices.now) w.now.from w.now.row.slots.now w.now.cost }
 {
     let mut gains = [0.0; SCANS];
     let best = best_split(prices, w, &mut gains, logs);
-    if 1 < length_of(w.row) + frozen_one(w.from) {
+    if 1 < length_of(w.row.slots) + frozen_one(w.from) {
         return best_drop(prices.first, w, best, &gains);
     }
     best

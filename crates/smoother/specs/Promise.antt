@@ -7,6 +7,7 @@ use Rattle.buffers.specs.Answer.{Opening, opened, unopened, Op, Reply, gives, Wr
 use Rattle.buffers.specs.Answer.{checked, answer_of, Small, Ends, answer_in, Answer, Refused, Frame}
 use Rattle.buffers.specs.Buffers.{over}
 use Rattle.smoother_window.specs.declared.FixedLagSmoother.{FixedLagSmoother}
+use Rattle.smoother_window.specs.declared.SmootherConfig.{SmootherConfig}
 use Rattle.smoother_window.specs.declared.size.WindowSize.{WindowSize}
 use Rattle.smoother_window.specs.Config.{lag, bounded}
 use Rattle.smoother_window.specs.Window.{frames_in, fewer, Fitting, AllCounted}
@@ -35,6 +36,10 @@ unfoldable pub state_in : FixedLagSmoother → Window → State
 state_in s w = record { config = s.config; frames = frames_in s w.words w.numbers }
 
 -- ---- opening
+
+-- a new smoother, as its struct: it holds no frame, and the next one goes to the first slot
+abbrev pub new_by : SmootherConfig → FixedLagSmoother
+new_by c = record { config = c; first = 0; held = 0 }
 
 -- document 01's number for an opening that is refused, or what the new state stands for with this window
 abbrev pub opening_of : Result FixedLagSmoother Refusal → Window → Opening State

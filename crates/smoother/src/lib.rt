@@ -1,7 +1,11 @@
 // Fixed-lag smoothing of refined frames, over window buffers that the caller lends: open, push and take, and what they refuse.
+//
+// As it is: words and numbers, and window and values, go to each function side by side. Of a struct of `&mut` slices it is not known what is written through
+// them, so with one the proofs do not close; fgo_emit's `put_frame` says the same. Window and values are `&mut` in push, so a struct of two `&` would serve
+// open and take alone.
 #![tactic(auto)]
 
-ghost use Rattle.std.specs.Prelude.{◌≡◌, ◌+◌, ◌<◌, ◌≤◌, length};
+ghost use Rattle.std.specs.Prelude.{◌≡◌, ◌≤◌, length};
 ghost use Rattle.bounds.specs.Bounds.{LAG, TRACKS, WORDS, NUMBERS, WINDOW, VALUES};
 ghost use Rattle.refusals.specs.Refusals.{refused};
 ghost use Rattle.buffers.specs.Answer.{pushed, taken};
@@ -10,7 +14,7 @@ ghost use Rattle.smoother_window.specs.Config as Config;
 ghost use Rattle.smoother_window.specs.Config.{lag, most};
 ghost use Rattle.smoother.specs.Smoother as Smoother;
 ghost use Rattle.smoother.specs.Promise as Promise;
-ghost use Rattle.smoother.specs.Promise.{state_in, opening_of, later_refusal, pushed_as, given_off, lent_of, rest_of, Promised, Ready, Emits};
+ghost use Rattle.smoother.specs.Promise.{state_in, opening_of, new_by, later_refusal, pushed_as, given_off, lent_of, rest_of, Promised, Ready, Emits};
 
 use bounds::{LAG, TRACKS, VALUES, WINDOW};
 use buffers::{Answer, FrameSize};
@@ -20,42 +24,42 @@ use smoother_frame::frame::Frame;
 use smoother_pass::emit::{emit_numbers, emit_words};
 use smoother_window::held::HeldFrames;
 use smoother_window::size::{WindowSize, window_size};
-use smoother_window::window::Window;
+use smoother_window::window::WindowRef;
 use smoother_window::{FixedLagSmoother, SmootherConfig};
 
 // ---- what is refused
 
 // Whether the lag is from 0 to 16, and C from 1 to 128.
-fn bounded(c: SmootherConfig) -> bool
+pub fn bounded(c: SmootherConfig) -> bool
     ensures { result ≡ Config.bounded c }
 {
     c.lag_frames <= LAG && (1..=TRACKS).contains(&c.max_tracks)
 }
 
-// Whether the window buffers have the lengths that lag and C ask for.
-fn window_fits(c: SmootherConfig, words: usize, numbers: usize) -> bool
+// Whether window buffers of this size have the lengths that lag and C ask for.
+fn window_fits(c: SmootherConfig, size: WindowSize) -> bool
     requires { (lag c ≤ LAG) × (most c ≤ TRACKS) }
-    ensures { result ≡ Smoother.window_fits c words numbers }
+    ensures { result ≡ Smoother.window_fits c size.words size.numbers }
 {
-    window_size(c.lag_frames, c.max_tracks) == WindowSize { words, numbers }
+    window_size(c.lag_frames, c.max_tracks) == size
 }
 
-// Whether a smoother may be opened. Refused are settings out of bounds or not finite (`Setting`), then buffers that are not as long as these settings ask
-// (`Window`).
-fn check_open(c: SmootherConfig, words: usize, numbers: usize) -> Result<(), Refusal>
-    ensures { refused result ≡ Smoother.open_refusal c words numbers }
+// Whether a smoother may be opened. Refused are settings out of bounds or not finite (`Setting`), then window buffers that are not as long as these settings
+// ask (`Window`).
+fn check_open(c: SmootherConfig, size: WindowSize) -> Result<(), Refusal>
+    ensures { refused result ≡ Smoother.open_refusal c size.words size.numbers }
 {
     if !bounded(c) || !bits::is_finite(c.accel_spectral_density) {
         return Err(Refusal::Setting);
     }
-    if !window_fits(c, words, numbers) {
+    if !window_fits(c, size) {
         return Err(Refusal::Window);
     }
     Ok(())
 }
 
 // Whether the state keeps its rule: density finite, at most lag frames held, each well formed.
-fn rule_ok(window: &Window<'_>) -> bool
+fn rule_ok(window: &WindowRef<'_>) -> bool
     ensures { result ≡ Smoother.rule_ok (state_in window.now.state (Promise.window window.now.words.now window.now.values.now)) }
 {
     bits::is_finite(window.state.config.accel_spectral_density)
@@ -74,10 +78,14 @@ fn check_call(
 ) -> Result<(), Refusal>
     ensures { refused result ≡ later_refusal s (Promise.window win.now nums.now) words numbers }
 {
-    if !bounded(s.config) || !window_fits(s.config, win.len(), nums.len()) {
+    let size = WindowSize {
+        words: win.len(),
+        numbers: nums.len(),
+    };
+    if !bounded(s.config) || !window_fits(s.config, size) {
         return Err(Refusal::Window);
     }
-    let window = Window {
+    let window = WindowRef {
         state: s,
         words: win,
         values: nums,
@@ -107,14 +115,14 @@ fn emit_oldest(
     ensures { Emits s.old (Promise.window window.now values.now) words.old numbers.old (given_off result s.new) words.new numbers.new }
 {
     let held = HeldFrames {
-        window: Window {
+        window: WindowRef {
             state: *s,
             words: window,
             values,
         },
     };
     let size = FrameSize {
-        words: emit_words(words, &held),
+        words: emit_words(words, *s, window),
         numbers: emit_numbers(numbers, &held),
     };
     s.drop_oldest();
@@ -127,9 +135,14 @@ pub fn open(
     window: &[u64],
     values: &[f64],
 ) -> Result<FixedLagSmoother, Refusal>
-    ensures { opening_of result (Promise.window window.now values.now) ≡ Smoother.opens config (length window.now) (length values.now) }
+    ensures opened { opening_of result (Promise.window window.now values.now) ≡ Smoother.opens config (length window.now) (length values.now) }
+    ensures new { (s : FixedLagSmoother) → result ≡ Ok s → s ≡ new_by config }
 {
-    check_open(config, window.len(), values.len())?;
+    let size = WindowSize {
+        words: window.len(),
+        numbers: values.len(),
+    };
+    check_open(config, size)?;
     Ok(FixedLagSmoother {
         config,
         first: 0,
@@ -169,6 +182,8 @@ pub fn push(
 // The next frame, over so much of the longest window; the rest of it stays.
 // As it is: a function of its own, to which a caller lends both arrays of its struct whole. It was tried to cut them where `push` is called, and the proof did
 // not close: of two fields of a struct of which parts are lent in one call, the check does not know what the call leaves there.
+// As it is: a size within WINDOW and VALUES is asked here and in calls_smoother's `LentWindow::lend`, and is a fact of those who keep one. It is no fact of
+// `WindowSize`, which is also made of the lengths that a caller lends, and these may be any: `window_fits` compares them.
 pub fn push_over(
     s: &mut FixedLagSmoother,
     size: WindowSize,

@@ -119,8 +119,7 @@ impl<'a> Frame<'a> {
         requires { i < track_count self.now.words }
         ensures { result.0 ≡ id_word self.now.words i }
     {
-        let words = self.words;
-        RefinedId(words[HEAD + TRACK * i])
+        Head { words: self.words }.track_id(i)
     }
 
     // Lifecycle, class and count of track i are in bounds.
@@ -141,6 +140,8 @@ impl<'a> Frame<'a> {
     }
 
     // Outcome, cost present and cost of association j.
+    // As it is, here and in `Head::is_ok`: the tests of engine_check's `code_ok` and `present_ok`, of a word where those are of a byte. One function for both
+    // is no plainer: each test is one line.
     #[tactic(auto, unfolding(crate::specs::Frame::association_ok, engine::specs::Body::code_ok, engine::specs::Body::present_ok))]
     fn association_ok(&self, j: usize) -> bool
         requires { j < association_count self.now.words }

@@ -1,15 +1,16 @@
 // The head of a frame's words.
 // As it is: the counts, codes and flag by their places and as numbers, since the words are the public format that a caller hands over.
-ghost use Rattle.std.specs.Prelude.{◌≡◌, ◌≤◌, cond, length};
-ghost use Rattle.bounds.specs.Bounds.{HEAD};
-ghost use Rattle.smoother_frame.specs.Frame.{time, track_count, association_count, sensor_count, smoothed_as, head_ok};
+ghost use Rattle.std.specs.Prelude.{◌≡◌, ◌+◌, ◌*◌, ◌≤◌, length};
+ghost use Rattle.bounds.specs.Bounds.{HEAD, TRACK};
+ghost use Rattle.smoother_frame.specs.Frame.{time, track_count, association_count, sensor_count, id_word, smoothed_as, head_ok};
 
-use bounds::{ASSOCIATIONS, HEAD, SENSORS};
+use bounds::{ASSOCIATIONS, HEAD, SENSORS, TRACK};
+use engine::types::RefinedId;
 use scalar::bits;
 
-// The words of a frame, which have a head.
+// The words of a frame, which have a head; of what comes after it nothing is asked.
 #[derive(Drop)]
-pub(crate) struct Head<'a> {
+pub struct Head<'a> {
     pub words: &'a [u64],
     pub ghost long: { HEAD ≤ length words.now },
 }
@@ -43,6 +44,15 @@ impl<'a> Head<'a> {
         self.words[4] as usize
     }
 
+    // The id of track i. It asks that the words go to the end of that track.
+    pub fn track_id(&self, i: usize) -> RefinedId
+        requires { HEAD + TRACK * (i + 1) ≤ length self.now.words.now }
+        ensures { result.0 ≡ id_word self.now.words.now i }
+    {
+        let words = self.words;
+        RefinedId(words[HEAD + TRACK * i])
+    }
+
     // The counts, the codes and the time are in bounds, with at most `most` tracks.
     #[tactic(auto, unfolding(crate::specs::Frame::head_ok, engine::specs::Body::code_ok))]
     fn is_ok(&self, most: usize) -> bool
@@ -57,18 +67,18 @@ impl<'a> Head<'a> {
     }
 }
 
-// There is a head, and it is in bounds.
+// Whether there is a head, and it is in bounds, with at most `most` tracks.
 #[tactic(auto, unfolding(crate::specs::Frame::head_ok))]
-pub(crate) fn head_ok(words: &[u64], most: usize) -> bool
+pub fn head_ok(words: &[u64], most: usize) -> bool
     ensures { result ≡ head_ok most words.now }
 {
     HEAD <= words.len() && Head { words }.is_ok(most)
 }
 
-// Whether a frame is smoothed is written into its words.
-pub fn put_smoothed(words: &mut [u64], smoothed: bool)
+// Whether a frame is smoothed is written into its words: 0 or 1.
+pub fn put_smoothed(words: &mut [u64], flag: u64)
     requires { HEAD ≤ length words.old }
-    ensures { words.new ≡ smoothed_as words.old (cond smoothed 1 0) }
+    ensures { words.new ≡ smoothed_as words.old flag }
 {
-    words[5] = u64::from(smoothed);
+    words[5] = flag;
 }

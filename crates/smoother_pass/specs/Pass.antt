@@ -8,11 +8,11 @@ use Rattle.bounds.specs.Bounds.{VECTOR, COVARIANCE, STATE}
 use Rattle.buffers.specs.Answer.{Written}
 use Rattle.scalar.specs.Scalar.{seconds_of}
 use Rattle.scalar.specs.F64.{f64}
-use Rattle.rts.specs.Smoothing.{Estimate, Later, estimate, back_over}
+use Rattle.rts.specs.declared.TrackState.{TrackState}
+use Rattle.rts.specs.Smoothing.{Estimate, Later, estimate, estimate_of, back_over}
 use Rattle.smoother_frame.specs.Frame.{time, track_count, id_word, costs_from, smoothed_as}
 use Rattle.smoother_window.specs.declared.SmootherConfig.{SmootherConfig}
 use Rattle.smoother_window.specs.Config.{lag, density}
-use Rattle.smoother_pass.specs.declared.pass.TrackState.{TrackState}
 
 -- ---- the state of a track
 
@@ -100,11 +100,7 @@ module _ (c : SmootherConfig) (fs : List Written) (f : Written) where
         numbers = states_to (track_count f.words) ++ drop (costs_from f.words) f.numbers;
       }
 
--- ---- what the code makes: a track's state, where an id stands, and what the pass gave
-
--- a track's state by value, as the estimate that it is
-abbrev pub estimate_of : TrackState → Estimate Float
-estimate_of t = estimate t.x t.p
+-- ---- what the code makes: what the pass gave, and where an id stands
 
 -- the state that running back gave; nothing where a Cholesky failed
 abbrev pub ran_back : Maybe TrackState → Option (Estimate Float)

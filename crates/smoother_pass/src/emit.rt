@@ -1,16 +1,24 @@
 // The oldest held frame, smoothed, into the output buffers.
-ghost use Rattle.std.specs.Prelude.{◌≡◌, ◌++◌, ◌+◌, ◌*◌, ◌<◌, ◌≤◌, length, drop};
-ghost use Rattle.bounds.specs.Bounds.{STATE, WORDS, NUMBERS};
+//
+// As it is: a function for the words and one for the numbers. Of a struct of both as `&mut` slices it is not known what is written through them, so with one
+// the proofs do not close; fgo_emit's `put_frame` says the same.
+ghost use Rattle.std.specs.Prelude.{◌≡◌, ◌++◌, ◌+◌, ◌*◌, ◌≤◌, length, drop};
+ghost use Rattle.bounds.specs.Bounds.{STATE, WORDS, NUMBERS, LAG, TRACKS, words_for};
 ghost use Rattle.buffers.specs.Buffers.{over};
-ghost use Rattle.smoother_frame.specs.Frame.{track_count, costs_from};
+ghost use Rattle.rts.specs.Smoothing.{estimate_of};
+ghost use Rattle.smoother_frame.specs.Frame.{track_count, costs_from, smoothed_as};
+ghost use Rattle.smoother_window.specs.Config.{lag, most};
+ghost use Rattle.smoother_window.specs.Window.{words_in, SlotCounts};
 ghost use Rattle.smoother_window.specs.Held.{state_of, frames_of, frame_of};
-ghost use Rattle.smoother_pass.specs.Pass.{flat, states_to, estimate_of};
+ghost use Rattle.smoother_pass.specs.Pass.{flat, states_to, smoothed_flag};
 ghost use Rattle.smoother_pass.specs.Oldest.{oldest};
 
-use crate::pass::{TrackState, smooth};
+use crate::pass::smooth;
 use bounds::{STATE, VECTOR};
 use buffers::put;
+use rts::TrackState;
 use smoother_frame::head::put_smoothed;
+use smoother_window::FixedLagSmoother;
 use smoother_window::held::HeldFrames;
 
 // The numbers of a track's state, from a place on.
@@ -35,17 +43,22 @@ fn put_states(out: &mut [f64], held: &HeldFrames<'_>)
     }
 }
 
-// The words of the oldest held frame, with the flag that it is smoothed where the lag is not 0; how many there are. It asks that words has room for any frame.
-pub fn emit_words(words: &mut [u64], held: &HeldFrames<'_>) -> usize
-    requires { WORDS ≤ length words.old }
-    ensures many { result ≡ length (oldest (state_of held.now) held.now.window.words.now held.now.window.values.now).words }
-    ensures written { words.new ≡ over 0 (oldest (state_of held.now) held.now.window.words.now held.now.window.values.now).words words.old }
+// The words of the oldest held frame, with the flag that it is smoothed where the lag is not 0; how many there are. It asks that the window's words have the
+// length that lag and C ask for, that the counts in the frame's slot are in bounds, and that words has room for any frame.
+pub fn emit_words(words: &mut [u64], s: FixedLagSmoother, window: &[u64]) -> usize
+    requires lags { lag s.config ≤ LAG }
+    requires tracks { most s.config ≤ TRACKS }
+    requires window { length window.now ≡ (lag s.config + 1) * words_for (most s.config) }
+    requires counted { SlotCounts s window.now 0 }
+    requires room { WORDS ≤ length words.old }
+    ensures many { result ≡ length (words_in s window.now 0) }
+    ensures written { words.new ≡ over 0 (smoothed_as (words_in s window.now 0) (smoothed_flag s.config)) words.old }
     ensures within { result ≤ WORDS }
 {
-    let frame = held.frame(0);
-    put(words, 0, frame.words());
-    put_smoothed(words, 0 < held.window.state.config.lag_frames);
-    frame.words().len()
+    let frame = s.frame_words(window, 0);
+    put(words, 0, frame);
+    put_smoothed(words, u64::from(0 < s.config.lag_frames));
+    frame.len()
 }
 
 // The numbers of the oldest held frame: its tracks smoothed, then its costs as they were; how many there are. It asks that numbers has room for any frame.

@@ -1,28 +1,20 @@
 // The backward pass over held frames.
-ghost use Rattle.std.specs.Prelude.{◌≡◌, ◌+◌, ◌-◌, ◌*◌, ◌<◌, ◌≤◌, length};
+ghost use Rattle.std.specs.Prelude.{◌≡◌, ◌-◌, ◌<◌};
 ghost use Rattle.std.proofs.Math.Option.{some};
-ghost use Rattle.bounds.specs.Bounds.{STATE};
 ghost use Rattle.scalar.specs.F64.{f64};
-ghost use Rattle.rts.specs.Smoothing.{back_from};
+ghost use Rattle.rts.specs.Smoothing.{estimate_of, back_from};
 ghost use Rattle.smoother_frame.specs.Frame.{track_count, id_word};
 ghost use Rattle.smoother_window.specs.Config.{density};
 ghost use Rattle.smoother_window.specs.Window.{frames_from};
 ghost use Rattle.smoother_window.specs.Held.{state_of, frames_of, frame_of};
-ghost use Rattle.smoother_pass.specs.Pass.{last_at, state_at, chain_in, run_back, smoothed_at, estimate_of, ran_back, found_at};
+ghost use Rattle.smoother_pass.specs.Pass.{last_at, state_at, chain_in, run_back, smoothed_at, ran_back, found_at};
 
-use bounds::{COVARIANCE, STATE, VECTOR};
+use bounds::{STATE, VECTOR};
 use buffers::array_at;
 use engine::types::RefinedId;
-use rts::Step;
+use rts::{Step, TrackState};
 use smoother_frame::frame::Frame;
 use smoother_window::held::HeldFrames;
-
-// Position and velocity, and their covariance by rows.
-#[derive(Clone, Copy)]
-pub struct TrackState {
-    pub x: [f64; VECTOR],
-    pub p: [f64; COVARIANCE],
-}
 
 // Where the last track with the id stands among a frame's tracks.
 fn find(frame: &Frame<'_>, id: RefinedId) -> Option<usize>
@@ -50,7 +42,7 @@ fn step_back(q: f64, dt: f64, a: &TrackState, later: Option<TrackState>) -> Opti
     ensures { ran_back result ≡ back_from f64 q dt (estimate_of a.now) (ran_back later) }
 {
     let mut s = later?;
-    match rts::back(q, dt, &a.x, &a.p, &mut s.x, &mut s.p) {
+    match rts::back(q, dt, a, &mut s) {
         Step::Smoothed | Step::Skipped => Some(s),
         Step::Failed => None,
     }

@@ -3,13 +3,13 @@ ghost use Rattle.std.specs.Prelude.{◌≡◌, ◌+◌, ◌<◌, ◌≤◌};
 ghost use Rattle.smoother_window.specs.Config.{lag};
 ghost use Rattle.smoother_window.specs.Window.{held_frame, AllCounted};
 
-use crate::window::Window;
+use crate::window::WindowRef;
 use smoother_frame::frame::Frame;
 
 // The frames that a window holds, at least one and no more than it has slots for: the counts of each are in bounds.
 #[derive(Drop)]
 pub struct HeldFrames<'a> {
-    pub window: Window<'a>,
+    pub window: WindowRef<'a>,
     pub ghost some: { 0 < window.state.held },
     pub ghost few: { window.state.held ≤ lag window.state.config + 1 },
     pub ghost counted: { AllCounted window.state window.words.now },

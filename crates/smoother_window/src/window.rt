@@ -1,9 +1,10 @@
 // The window: held frames in the slots of two lent buffers.
 ghost use Rattle.std.specs.Prelude.{◌≡◌, ◌+◌, ◌*◌, ◌<◌, ◌≤◌, length, take, drop};
-ghost use Rattle.bounds.specs.Bounds.{LAG, words_for, numbers_for};
-ghost use Rattle.smoother_frame.specs.Frame.{track_count, well_formed};
+ghost use Rattle.bounds.specs.Bounds.{LAG, TRACKS, words_for, numbers_for};
+ghost use Rattle.smoother_frame.specs.Frame.{track_count, words_long, well_formed};
 ghost use Rattle.smoother_window.specs.Config.{lag, most};
-ghost use Rattle.smoother_window.specs.Window.{slot_of, slot_words, slot_numbers, held_frame, frames_in, all_formed, fewer, Fitting, SlotCounts, Stored};
+ghost use Rattle.smoother_window.specs.Window.{slot_of, slot_words, slot_numbers, words_in, held_frame, frames_in, all_formed};
+ghost use Rattle.smoother_window.specs.Window.{fewer, Fitting, SlotCounts, Stored};
 
 use crate::FixedLagSmoother;
 use crate::size::slot_size;
@@ -13,6 +14,9 @@ use smoother_frame::frame::Frame;
 
 impl FixedLagSmoother {
     // The slot of the k-th held frame.
+    // As it is: lag ≤ LAG is asked here, of a window's words, in `drop_oldest`, in `store` as a part of `Fitting`, in `window_size`, in smoother's
+    // `window_fits` and in playback's `Sink::open`. A type that holds it is no plainer: this, `store` and `drop_oldest` are methods of the state, whose
+    // settings are fields to which a caller may write any number, so no fact can stand in it.
     #[tactic(auto, using(crate::proofs::Slots::turned_in))]
     pub(crate) fn slot(self, k: usize) -> usize
         requires { lag self.config ≤ LAG }
@@ -37,6 +41,34 @@ impl FixedLagSmoother {
         self.held += 1;
     }
 
+    // The words of the k-th held frame's slot.
+    #[tactic(auto, unfolding(crate::specs::Window::slot_words))]
+    fn slot_words(self, words: &[u64], k: usize) -> &[u64]
+        requires lags { lag self.config ≤ LAG }
+        requires tracks { most self.config ≤ TRACKS }
+        requires words { length words.now ≡ (lag self.config + 1) * words_for (most self.config) }
+        ensures value { result.now ≡ slot_words self words.now k }
+        ensures whole { length result.now ≡ words_for (most self.config) }
+    {
+        let at = self.slot(k);
+        let size = slot_size(self.config.max_tracks);
+        slot_at(words, at, size.words)
+    }
+
+    // The words of the k-th held frame, of a window's words alone. It asks that these have their length, and that the counts in the slot are in bounds.
+    #[tactic(auto, unfolding(crate::specs::Window::words_in))]
+    pub fn frame_words(self, words: &[u64], k: usize) -> &[u64]
+        requires lags { lag self.config ≤ LAG }
+        requires tracks { most self.config ≤ TRACKS }
+        requires words { length words.now ≡ (lag self.config + 1) * words_for (most self.config) }
+        requires counted { SlotCounts self words.now k }
+        ensures value { result.now ≡ words_in self words.now k }
+        ensures whole { length result.now ≡ words_long (slot_words self words.now k) }
+    {
+        let slot = self.slot_words(words, k);
+        &slot[..FrameCounts::of(slot).words_long()]
+    }
+
     // The oldest frame is given up: nothing moves, the next slot is the first. It asks that one is held.
     pub fn drop_oldest(&mut self)
         requires lags { lag self.old.config ≤ LAG }
@@ -49,9 +81,9 @@ impl FixedLagSmoother {
 }
 
 // A smoother's window, lent to be read: it has the length that lag and C ask for.
-// As it is: a buffer of words beside one of numbers, since both are lent, and `calls` writes and digests them cell by cell.
+// As it is: words and numbers are two buffers in the published form in which a caller lends a window.
 #[derive(Drop)]
-pub struct Window<'a> {
+pub struct WindowRef<'a> {
     pub state: FixedLagSmoother,
     pub words: &'a [u64],
     pub values: &'a [f64],
@@ -68,9 +100,9 @@ fn slot_at<T>(list: &[T], at: usize, wide: usize) -> &[T]
     &list[from..from + wide]
 }
 
-impl<'a> Window<'a> {
+impl<'a> WindowRef<'a> {
     // The words and the numbers of the k-th held frame's slot.
-    #[tactic(auto, unfolding(crate::specs::Window::slot_words, crate::specs::Window::slot_numbers))]
+    #[tactic(auto, unfolding(crate::specs::Window::slot_numbers))]
     fn slot(&self, k: usize) -> (&'a [u64], &'a [f64])
         ensures words { result.0.now ≡ slot_words self.now.state self.now.words.now k }
         ensures numbers { result.1.now ≡ slot_numbers self.now.state self.now.values.now k }
@@ -80,7 +112,7 @@ impl<'a> Window<'a> {
         let at = self.state.slot(k);
         let size = slot_size(self.state.config.max_tracks);
         (
-            slot_at(self.words, at, size.words),
+            self.state.slot_words(self.words, k),
             slot_at(self.values, at, size.numbers),
         )
     }

@@ -3,5 +3,5 @@ use Rattle.fgo_state.specs.Memory.{state_of}
 use Rattle.print.proofs.Showing.{shown}
 use Rattle.calls_refiner.proofs.take.Goals as goal
 
-pub tell-requires : goal.tell-requires
-tell-requires c = shown written state_of c.take-answer.ensures.promised.ends
+pub invariant_of-shown : goal.invariant_of-shown
+invariant_of-shown c = record { shown = shown written state_of c.take-answer.ensures.promised.ends }

@@ -10,7 +10,7 @@ loop-i-preserved c =
     let t = c.loop-i-test.true in
     let early = c.args.prices.now.early in
     elim c.if-code-gt0.branch [
-      | then-code-gt0 w ↦ rw (w.r-is, w.add-r.ensures, w.dot_at.ensures) (takes v t w.if-code-gt0.true (omega (arith, p.short, early)))
+      | then-code-gt0 w ↦ rw (w.r-is, w.add-r.ensures, w.later-scan.ensures, w.dot_at.ensures) (takes v t w.if-code-gt0.true (omega (arith, p.short, early)))
       | else-code-gt0 w ↦ rw w.r-is (skips v t w.if-code-gt0.false)
     ]
 

@@ -13,7 +13,7 @@ pub returns-in-Some : goal.returns-in-Some
 returns-in-Some c =
     let s = c.args in
     let p = s.prices.now in
-    rw (c.fold_on.ensures, take_rest, ← fold_going p.config, c.born_at-r.ensures, c.dot_at.ensures, c.in-Fresh.is) (leads_born p.config (view_in p) s.k _ _ c.in-Some.ensures)
+    rw (c.fold_on.ensures, take_rest, ← fold_going p.config, c.born_at-r.ensures, c.later-scan.ensures, c.dot_at.ensures, c.in-Fresh.is) (leads_born p.config (view_in p) s.k _ _ c.in-Some.ensures)
 
 pub returns-in-Some-first_detection : goal.returns-in-Some-first_detection
 returns-in-Some-first_detection c =

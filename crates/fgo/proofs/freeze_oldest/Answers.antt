@@ -1,4 +1,6 @@
+use Prim.Native.Nat.{ℕ, ◌+◌}
 use native.Mathlib.Omega.{arith}
+use mathlib.Core.Path.{◌≡◌, ap}
 use Rattle.fgo.proofs.Leaving.{freezes, puts, time-is, forgets, kept-few, leaving_ends}
 use Rattle.fgo.proofs.freeze_oldest.Goals as goal
 
@@ -12,8 +14,8 @@ put_frame-size-requires c =
     let pre = c.requires in
     puts _ _ pre.0 pre.2 _ _ _ c.freeze_scan-many.ensures pre.1
 
-pub overflow_add-r : goal.overflow_add-r
-overflow_add-r c = record { fits = omega (arith, c.requires.0.early) }
+pub later-r-requires : goal.later-r-requires
+later-r-requires c = omega (arith, c.requires.0.early)
 
 pub overflow_sub-r : goal.overflow_sub-r
 overflow_sub-r c = c.requires.2
@@ -27,7 +29,7 @@ pub live_in-live-requires : goal.live_in-live-requires
 live_in-live-requires c =
     let pre = c.requires in
     let h = c.held_in-held.ensures in
-    let forgot = rw (h.0, h.1, h.2) at c.forget-r.ensures in
+    let forgot = rw (h.0, h.1, h.2, c.later-r.ensures) at c.forget-r.ensures in
     (omega (arith, pre.0.early), kept-few _ _ pre.0 pre.2 c.freeze_scan-many.new.parts.tracks c.freeze_scan-many.new.parts.filters c.freeze_scan-many.result c.freeze_scan-many.ensures c.forget-r.new.parts.tracks c.forget-r.new.parts.filters c.forget-r.result (time-is _ _ pre.0 pre.2 c.body.ensures c.time-time.ensures.1) forgot)
 
 pub keep_owners-r-requires : goal.keep_owners-r-requires
@@ -39,6 +41,8 @@ returns-clause-promised c =
     let h = c.held_in-held.ensures in
     let l = c.live_in-live.ensures.held in
     let f = c.live_in-live.ensures.frozen in
-    let forgot = rw (h.0, h.1, h.2) at c.forget-r.ensures in
-    let kept = rw (l.0, l.1, l.2, f.0, f.1) at c.keep_owners-r.ensures in
-    leaving_ends _ _ pre.0 pre.2 c.freeze_scan-many.new.parts.tracks c.freeze_scan-many.new.parts.filters c.freeze_scan-many.result c.freeze_scan-many.ensures c.forget-r.new.parts.tracks c.forget-r.new.parts.filters c.forget-r.result (time-is _ _ pre.0 pre.2 c.body.ensures c.time-time.ensures.1) forgot _ _ kept c.put_frame-size.ensures
+    let forgot = rw (h.0, h.1, h.2, c.later-r.ensures) at c.forget-r.ensures in
+    let kept = rw (l.0, l.1, l.2, f.0, f.1, c.later-r.ensures) at c.keep_owners-r.ensures in
+    let next : c.later-r.result ≡ record { 0 = c.args.r.now.first.0 + 1 } = ap (λ (i : ℕ). record { 0 = i }) c.later-r.ensures in
+    rw next
+    (leaving_ends _ _ pre.0 pre.2 c.freeze_scan-many.new.parts.tracks c.freeze_scan-many.new.parts.filters c.freeze_scan-many.result c.freeze_scan-many.ensures c.forget-r.new.parts.tracks c.forget-r.new.parts.filters c.forget-r.result (time-is _ _ pre.0 pre.2 c.body.ensures c.time-time.ensures.1) forgot _ _ kept c.put_frame-size.ensures)

@@ -74,4 +74,4 @@ put-requires c =
 pub returns : goal.returns
 returns c = let f = c.args in
     held_by f.r.now (body_of f.b.now.body) f.scans.now.bodies f.scans.now.columns f.owners.now c.requires c.typed.ensures.bodies_long c.typed.ensures.columns_long c.place_all-p.result c.place_all-p.new.owners
-    c.place_all-p.new.ids c.place_all-p.ensures c.association_count.ensures.count c.put.ensures.bodies c.put.ensures.columns
+    c.place_all-p.new.ids c.place_all-p.ensures c.association_count.ensures.count (rw c.later.ensures at c.put.ensures.bodies) (rw c.later.ensures at c.put.ensures.columns)

@@ -4,7 +4,7 @@ use mathlib.Core.List.{List, map}
 use lib.ListN.{length, replicate, length-replicate}
 use lib.Ieee.{binary64, of_bits}
 use Rattle.bounds.specs.Bounds.{DETECTIONS}
-use Rattle.cost.specs.declared.Dot.{Dot}
+use Rattle.kf.specs.declared.filter.Dot.{Dot}
 use Rattle.engine.specs.Body.{body_refusal}
 use Rattle.fgo_spec.specs.Windows.{Scan}
 use Rattle.fgo_spec.specs.Owning.{or_else, latest}
@@ -21,7 +21,7 @@ use Rattle.fgo_state.specs.Gathering.{latest_of, GatheredAll, Scattered, held_la
 use Rattle.fgo_arrive.specs.Arriving.{SearchesHeld, SearchedHeld, improved_in}
 use Rattle.fgo_spec.proofs.Rows.{row_of}
 use Rattle.fgo_state.proofs.HeldGathered.{latest-held}
-use Rattle.fgo_arrive.proofs.SearchGathered.{able, search_gathered, scans_put_back}
+use Rattle.fgo_arrive.proofs.SearchGathered.{starts_gathered, search_gathered, scans_put_back}
 use Rattle.fgo_arrive.proofs.search_held.Goals as goal
 
 -- arrays as they are made
@@ -61,35 +61,29 @@ searched_by r m w n is es is' es' ts dots g es-long ids columns' owners' t long 
     same : (e y : ℕ) → or_else (latest_of e ids es' ts r.held) y ≡ latest e y (improved_in r m).search.scans
     same e y = sym (ap (latest e y) f.scans ∙ latest-held m.scans.bodies m.scans.columns r.first.0 r.held n is es is' es' ts w.held g tied es-long e y ids long)
 
-pub gather-gathered-requires : goal.gather-gathered-requires
-gather-gathered-requires c = let h = c.held_in-held.ensures in
+pub gather-requires : goal.gather-requires
+gather-requires c = let h = c.held_in-held.ensures in
     rw (h.0, h.1, h.2) c.requires.held
 
 pub gather_dots-requires : goal.gather_dots-requires
 gather_dots-requires c = let h = c.held_in-held.ensures in
     rw (h.0, h.1, h.2) c.requires.held
 
-pub invariant_of-scene : goal.invariant_of-scene
-invariant_of-scene c = let f = c.args in
-    let w = c.requires in
-    let h = c.held_in-held.ensures in
-    let g = rw (h.0, h.1, h.2) at c.gather-gathered.ensures.all in
-    record { able = able _ _ _ _ _ _ _ _ _ _ w.held g f.r.now.config f.r.now.frozen w.frozen _ _ _ }
-
-pub hold_latest-requires : goal.hold_latest-requires
-hold_latest-requires c = let w = c.requires in
-    w.owners
+pub invariant_of-starts : goal.invariant_of-starts
+invariant_of-starts c = let h = c.held_in-held.ensures in
+    let g = rw (h.0, h.1, h.2) at c.gather.ensures.all in
+    record { rise = starts_gathered _ _ _ _ _ _ _ _ _ _ c.requires.held g }
 
 pub returns-clause-found : goal.returns-clause-found
 returns-clause-found c = let f = c.args in
     let w = c.requires in
     let h = c.held_in-held.ensures in
-    let g = rw (h.0, h.1, h.2) at c.gather-gathered.ensures.all in
+    let g = rw (h.0, h.1, h.2) at c.gather.ensures.all in
     let d = rw (h.0, h.1, h.2) at c.gather_dots.ensures in
-    let k = c.gather-gathered.ensures.held ∙ h.2 in
+    let k = c.gather.ensures.held ∙ h.2 in
     let v = c.improve-t.ensures in
-    searched_by f.r.now f.m.now w _ _ _ _ _ _ _ g zeros_long _ _ _ _ c.improve-t.array_long
-    (v _ _
+    searched_by f.r.now f.m.now w _ _ _ _ _ _ _ g zeros_long _ _ _ _ v.long
+    (v.found _ _
     (search_gathered _ _ _ _ _ _ _ _ _ _ w.held g f.r.now.config _ _ none_long d f.r.now.next_id.0 f.r.now.counters f.m.now.parts.tracks f.m.now.parts.filters f.r.now.frozen w.settings
     zeros_long w.begun w.columns w.spare))
     (rw k at c.scatter.ensures.ids) (rw k at c.hold_latest.ensures)

@@ -46,17 +46,17 @@ unfolding associations_words
 loop-j-init c = (omega arith, written_none _ _)
 
 pub loop-j-preserved : goal.loop-j-preserved
-loop-j-preserved c = let s = body_of c.args.b.now.body in
+loop-j-preserved c = let s = body_of c.args.s.now.frame.body in
     let o = c.args.o in
     let j = c.loop-j.j in
     let words = c.loop-j.words in
     let said =
-    c.association_words.ensures
-    ∙ ap (λ (a : Association). association_words a c.id_at.result.0) (c.association-a.ensures)
-    ∙ ap (association_words (association_in s j)) c.id_at.ensures in
-    (omega (arith, c.association_count-j-end.ensures), next c.args.scans.now.columns c.args.n.0 s o (omega (arith, c.association_count-j-end.ensures)) c.requires c.loop-j.invariant.1 (c.put.ensures ∙ ap (λ (l : List ℕ). over (o + LINK * j) l words) said))
+    c.association_words-ws.ensures
+    ∙ ap (λ (a : Association). association_words a c.id.result.0) c.association.ensures
+    ∙ ap (association_words (association_in s j)) c.id.ensures in
+    (omega (arith, c.count-j-end.ensures.count), next c.args.s.now.scans.now.columns c.args.s.now.n.0 s o (omega (arith, c.count-j-end.ensures.count)) c.requires c.loop-j.invariant.1 (c.put.ensures ∙ ap (λ (l : List ℕ). over (o + LINK * j) l words) said))
 
 pub returns : goal.returns
 returns c = let o = c.args.o in
     c.loop-j.invariant.1.written
-    ∙ ap (λ (g : List ℕ). over o g c.args.words.now) (all c.args.scans.now.columns c.args.n.0 (body_of c.args.b.now.body) c.loop-j.j (omega (arith, c.association_count-j-end.ensures)))
+    ∙ ap (λ (g : List ℕ). over o g c.args.words.now) (all c.args.s.now.scans.now.columns c.args.s.now.n.0 (body_of c.args.s.now.frame.body) c.loop-j.j (omega (arith, c.count-j-end.ensures.count)))

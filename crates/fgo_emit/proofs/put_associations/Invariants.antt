@@ -10,4 +10,4 @@ abbrev pub first : List ℕ → ℕ → Body → ℕ → List ℕ
 first columns n s j = associations_words (take j (frame_in s).associations) (take j (ids_in columns n s))
 
 abbrev pub invariant-loop-j : goal.invariant-loop-j
-invariant-loop-j l = (l.j ≤ associations_in (body_of l.b.body)) × WrittenOver l.o (first l.scans.columns l.n.0 (body_of l.b.body) l.j) l.initial.words l.words
+invariant-loop-j l = (l.j ≤ associations_in (body_of l.s.frame.body)) × WrittenOver l.o (first l.s.scans.now.columns l.s.n.0 (body_of l.s.frame.body) l.j) l.initial.words l.words

@@ -9,8 +9,8 @@ use Rattle.fgo_emit.proofs.put_costs.Goals as goal
 
 pub returns : goal.returns
 returns c =
-    let s = body_of c.args.b.now.body in
+    let s = body_of c.args.s.now.frame.body in
     let o = c.args.o in
-    let n = c.association_count.result in
+    let n = c.count.result in
     let k : o + n - o ≡ n = omega arith in
-    filled o (o + n - o) c.args.numbers.now c.loop-j.x-items (costs_in s) (cost_number no_association.cost) (omega (arith, c.loop-j.auto.x-items)) (omega (arith, costs_long s, c.association_count.ensures.count)) (λ j h. c.loop-j.invariant j (omega (arith, c.loop-j-test.false)))
+    filled o (o + n - o) c.args.numbers.now c.loop-j.x-items (costs_in s) (cost_number no_association.cost) (omega (arith, c.loop-j.auto.x-items)) (omega (arith, costs_long s, c.count.ensures.count)) (λ j h. c.loop-j.invariant j (omega (arith, c.loop-j-test.false)))

@@ -6,4 +6,4 @@ use Rattle.fgo_emit.specs.Writing.{costs_in}
 use Rattle.fgo_emit.proofs.put_costs.Given as goal
 
 abbrev pub invariant-loop-j : goal.invariant-loop-j
-invariant-loop-j l = (k : ℕ) → k < l.j → get_or l.x-items k (cost_number no_association.cost) ≡ get_or (costs_in (body_of l.b.body)) k (cost_number no_association.cost)
+invariant-loop-j l = (k : ℕ) → k < l.j → get_or l.x-items k (cost_number no_association.cost) ≡ get_or (costs_in (body_of l.s.frame.body)) k (cost_number no_association.cost)

@@ -6,7 +6,7 @@ use Rattle.fgo_emit.proofs.put_sensors.Goals as goal
 
 pub returns : goal.returns
 returns c =
-    let s = body_of c.args.b.now.body in
+    let s = body_of c.args.s.now.frame.body in
     let o = c.args.o in
     let n = c.sensor_count.result in
     let k : o + n - o ≡ n = omega arith in

@@ -1,4 +1,4 @@
-use Rattle.std.proofs.Common.{sym, ◌∙◌, arith, to_z-of_z}
+use Rattle.std.proofs.Common.{sym, ◌∙◌, arith}
 use Rattle.fgo_part.specs.Parts.{prefix_in}
 use Rattle.fgo_emit.proofs.Listing.{puts_none, puts_more, puts_same}
 use Rattle.fgo_emit.proofs.put_tracks.Goals as goal
@@ -9,7 +9,7 @@ loop-k-init c = (omega arith, puts_none _ _ _ _ _ _)
 
 pub is_listed-requires : goal.is_listed-requires
 unfolding prefix_in
-is_listed-requires c = (omega (arith, c.requires.0.few), rw (to_z-of_z c.ranges.time) c.requires.0.timed, (c.requires.0.parts c.loop-k.k c.loop-k-test.true).timed)
+is_listed-requires c = (omega (arith, c.requires.0.few), (c.requires.0.parts c.loop-k.k c.loop-k-test.true).timed)
 
 pub loop-k-preserved : goal.loop-k-preserved
 loop-k-preserved c = let few = c.requires.0.few in

@@ -7,6 +7,5 @@ use Rattle.fgo_emit.proofs.track_words.Goals as goal
 pub returns : goal.returns
 unfolding report
 returns c = let called = c.age_of in
-    let now = to_z-of_z c.ranges.time in
     let last = to_z-of_z (time_fits c.args.p.last_ns c.requires.last) in
-    rw (c.class_word.ensures.0, c.to_word-2.ensures, c.to_word.ensures, c.lifecycle.ensures, passed_on called.result called.type_inv, called.ensures, now, last)
+    rw (c.class_word.ensures.0, c.to_word-2.ensures, c.to_word.ensures, c.lifecycle.ensures, passed_on called.result called.type_inv, called.ensures, last)

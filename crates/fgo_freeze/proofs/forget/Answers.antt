@@ -3,7 +3,6 @@ use mathlib.Core.Path.{◌≡◌, sym, ap, ◌∙◌}
 use native.Mathlib.Omega.{arith}
 use mir.Syntax.{w64}
 use mir.Val.{to_z, of_z}
-use mir.Facts.{to_z-of_z}
 use Rattle.fgo_spec.specs.Freezing.{kept}
 use Rattle.fgo_part.specs.Parts.{part_id, prefix_in, entry_in, part_last_ns}
 use Rattle.fgo_state.specs.Memory.{scans_in}
@@ -22,7 +21,7 @@ is_kept-requires c =
     let p = c.requires in
     let h : v.k < a.frozen = c.loop-k-test.true in
     let e : part_last_ns v.parts.tracks v.k ≡ part_last_ns a.parts.now.tracks v.k = ap (λ u. u.1.last_ns) (v.invariant.1.high v.k (omega arith)) in
-    (omega (arith, p.few), rw (to_z-of_z c.ranges.time) p.timed, rw e (p.parts v.k h).timed)
+    (omega (arith, p.few), rw e (p.parts v.k h).timed)
 
 pub loop-k-preserved : goal.loop-k-preserved
 loop-k-preserved c =

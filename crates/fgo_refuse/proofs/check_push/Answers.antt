@@ -27,13 +27,13 @@ returns-then-is_full c = grind (arith, nat_tests)
 
 pub overflow_add-r : goal.overflow_add-r
 overflow_add-r c =
-    let a = c.args in
-    record { fits = omega (arith, c.requires.frozen, c.requires.few, c.window_count.ensures, found_few a.scans.now.bodies a.scans.now.columns a.r.now.first.0 a.r.now.held) }
+    let h = c.held_in.result in
+    record { fits = omega (arith, c.requires.frozen, c.requires.few, c.window_count.ensures, c.held_in.ensures.2, found_few h.scans.now.bodies h.scans.now.columns h.first.0 h.count) }
 
 pub overflow_add-r-2 : goal.overflow_add-r-2
 overflow_add-r-2 c =
-    let a = c.args in
-    record { fits = omega (arith, c.requires.frozen, c.requires.few, c.window_count.ensures, found_few a.scans.now.bodies a.scans.now.columns a.r.now.first.0 a.r.now.held, c.id_count.ensures.1) }
+    let h = c.held_in.result in
+    record { fits = omega (arith, c.requires.frozen, c.requires.few, c.window_count.ensures, c.held_in.ensures.2, found_few h.scans.now.bodies h.scans.now.columns h.first.0 h.count, c.id_count.ensures.1) }
 
 pub returns-then-r-window_count-gt-DETECTIONS : goal.returns-then-r-window_count-gt-DETECTIONS
 unfolding push_refusal

@@ -6,7 +6,7 @@ use Rattle.fgo_rule.specs.Tests.{id_ok}
 use Rattle.fgo_rule.proofs.id_ok.Goals as goal
 
 pub overflow_add-j : goal.overflow_add-j
-overflow_add-j c = record { fits = omega (arith, associations_few (body_of c.args.b.now.body) c.args.b.now.passes, c.requires) }
+overflow_add-j c = record { fits = omega (arith, associations_few (body_of c.args.s.now.frame.body) c.args.s.now.frame.passes, c.requires) }
 
 pub returns-then-lt : goal.returns-then-lt
 unfolding id_ok

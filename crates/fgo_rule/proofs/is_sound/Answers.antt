@@ -10,13 +10,9 @@ pub returns-then-not-counts_ok : goal.returns-then-not-counts_ok
 unfolding sound_in
 returns-then-not-counts_ok c = grind (arith, nat_tests)
 
-pub invariant_of-held : goal.invariant_of-held
+pub live_in-live-requires : goal.live_in-live-requires
 unfolding counts_ok
-invariant_of-held c = record { early = grind (arith, nat_tests) }
-
-pub invariant_of-frozen : goal.invariant_of-frozen
-unfolding counts_ok
-invariant_of-frozen c = record { few = grind (arith, nat_tests) }
+live_in-live-requires c = (grind (arith, nat_tests), grind (arith, nat_tests))
 
 pub invariant_of-owners : goal.invariant_of-owners
 unfolding counts_ok
@@ -28,7 +24,7 @@ window_count-requires c = grind (arith, nat_tests, lag_few)
 
 pub overflow_add-r : goal.overflow_add-r
 unfolding counts_ok
-overflow_add-r c = let a = c.args in let h = found_few a.m.now.scans.bodies a.m.now.scans.columns a.r.now.first.0 a.r.now.held in record { fits = grind (arith, nat_tests, lag_few, h) }
+overflow_add-r c = let a = c.args in let h = found_few a.scans.now.bodies a.scans.now.columns a.r.now.first.0 a.r.now.held in record { fits = grind (arith, nat_tests, lag_few, h) }
 
 pub owned_ok-requires : goal.owned_ok-requires
 unfolding counts_ok

@@ -6,6 +6,7 @@ use native.Mathlib.Nat.{zero-add}
 use native.Mathlib.Decide.{dec_lt}
 use native.Mathlib.Omega.{arith}
 use lib.ListN.{length, get_or, set, replicate, length-set}
+use Rattle.std.specs.Bool.{then_some}
 use lib.Seq.{ext_get_or, get_or-set_same, get_or-set_other}
 use lib.Dec.{eqb-suc-zero}
 use lib.Ieee.{Float, nan, inf, fin, binary64, add, sub, mul, neg, lt}
@@ -14,7 +15,7 @@ use Rattle.bounds.specs.Bounds.{SCANS}
 use Rattle.cost.specs.Cost.{dot_at}
 use Rattle.fgo_spec.specs.Lists.{any}
 use Rattle.fgo_spec.specs.Searching.{square}
-use Rattle.cost.specs.declared.Dot.{Dot}
+use Rattle.kf.specs.declared.filter.Dot.{Dot}
 use Rattle.search_neighbours.specs.declared.Point.{Point}
 use Rattle.search_neighbours.specs.Near.{near_slots, close_slots, close_at, close_scans, any_close, point_at, near_points, close_points, CloseWithin}
 use Rattle.search_rows.proofs.Filled.{map_up_length, map_up_at}
@@ -51,11 +52,9 @@ any-set (b ∷ l) zero h = refl
 any-set (b ∷ l) (suc k) h = ap (λ (d : Bool). b || d) (any-set l k (omega arith)) ∙ or-true b
 
 module _ {q : Float} {dots : List Dot} {a b : List ℕ} {from to : ℕ} (w : CloseWithin q dots a b from to) where
-  noting-start : {close : List Bool} {x y : Point} → close ≡ replicate SCANS false → x ≡ point_at dots (get_or a from 0) → y ≡ point_at dots (get_or b from 0) → Noting q dots a b close false from x y
+  noting-start : {x y : Point} → x ≡ point_at dots (get_or a from 0) → y ≡ point_at dots (get_or b from 0) → Noting q dots a b (replicate SCANS false) false from x y
   unfolding any
-  noting-start {close} e x y =
-      let none : (m : ℕ) → get_or close m false ≡ false = λ m. ap (λ (l : List Bool). get_or l m false) e ∙ none_noted SCANS m in
-      record { long = ap length e; noted = λ m h. none m ∙ sym (w.before m h); left = λ m h. none m; any = sym (ap any_close e); mine = x; theirs = y }
+  noting-start x y = record { long = refl; noted = λ m h. none_noted SCANS m ∙ sym (w.before m h); left = λ m h. none_noted SCANS m; any = refl; mine = x; theirs = y }
 
   module _ {close : List Bool} {found : Bool} {k : ℕ} {x y nx ny : Point} (o : Noting q dots a b close found k x y) (h : k < to) (n : nx ≡ point_at dots (get_or a (k + 1) 0)) (m : ny ≡ point_at dots (get_or b (k + 1) 0)) {r : Bool} (e : r ≡ close_points q x y nx ny) where
     at-scan : r ≡ close_at q dots a b k
@@ -99,22 +98,22 @@ module _ {q : Float} {dots : List Dot} {a b : List ℕ} {from to : ℕ} (w : Clo
       each m (no l) = o.left m (omega arith) ∙ sym (w.after m (omega arith))
 
 pub loop-k-init : goal.loop-k-init
-loop-k-init c =
-    let p = c.requires in
-    noting-start p.0 p.1 (c.point_at-x.ensures ∙ ap (point_at _) c.slot.ensures) (c.point_at-y.ensures ∙ ap (point_at _) c.slot-2.ensures)
+loop-k-init c = noting-start c.requires (c.point_at-x.ensures ∙ ap (point_at _) c.byte_at.ensures.value) (c.point_at-y.ensures ∙ ap (point_at _) c.byte_at-2.ensures.value)
 
 pub loop-k-preserved : goal.loop-k-preserved
 loop-k-preserved c =
-    let p = c.requires in
     let o = c.loop-k in
     let t = c.loop-k-test.true in
     let r = c.close_points.ensures in
-    let n = c.point_at-nx.ensures ∙ ap (point_at _) c.slot-in-loop-k.ensures in
-    let m = c.point_at-ny.ensures ∙ ap (point_at _) c.slot-in-loop-k-2.ensures in
+    let n = c.point_at-nx.ensures ∙ ap (point_at _) c.byte_at-in-loop-k.ensures.value in
+    let m = c.point_at-ny.ensures ∙ ap (point_at _) c.byte_at-in-loop-k-2.ensures.value in
     elim c.if-close_points.branch [
-      | then-close_points w ↦ rw (w.close-is, w.found-is) (noting-close p.0 o.invariant t n m r w.if-close_points.true)
-      | else-close_points w ↦ rw (w.close-is, w.found-is) (noting-apart p.0 o.invariant t n m r w.if-close_points.false)
+      | then-close_points w ↦ rw (w.close-is, w.found-is) (noting-close c.requires o.invariant t n m r w.if-close_points.true)
+      | else-close_points w ↦ rw (w.close-is, w.found-is) (noting-apart c.requires o.invariant t n m r w.if-close_points.false)
     ]
 
-pub returns-clause-scans : goal.returns-clause-scans
-returns-clause-scans c = noting-done c.requires.0 c.loop-k.invariant c.loop-k-test.false
+pub returns : goal.returns
+returns c =
+    let o = c.loop-k.invariant in
+    let d = noting-done c.requires o c.loop-k-test.false in
+    c.then_some.ensures ∙ (λ i. then_some ((o.any ∙ ap any_close d) i) (d i))

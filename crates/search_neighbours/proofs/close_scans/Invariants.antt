@@ -5,7 +5,7 @@ use Prim.Native.Nat.{ℕ, ◌≤◌, ◌<◌}
 use lib.ListN.{length, get_or}
 use lib.Ieee.{Float}
 use Rattle.bounds.specs.Bounds.{SCANS}
-use Rattle.cost.specs.declared.Dot.{Dot}
+use Rattle.kf.specs.declared.filter.Dot.{Dot}
 use Rattle.search_neighbours.specs.declared.Point.{Point}
 use Rattle.search_neighbours.specs.Near.{close_at, any_close, point_at}
 use Rattle.search_neighbours.proofs.close_scans.Given as goal

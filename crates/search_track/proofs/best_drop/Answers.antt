@@ -14,6 +14,7 @@ use Rattle.search_rows.specs.Moves.{has_slot}
 use Rattle.search_track.specs.Track.{marks, best_drop_by}
 use Rattle.cost_row.specs.Price.{EndsBy}
 use Rattle.cost_row.proofs.Left.{best_yes, best_no, best_over}
+use Rattle.cost_row.proofs.Heads.{scan_by}
 use Rattle.search_track.proofs.best_drop.Invariants.{Drops, by}
 use Rattle.search_track.proofs.best_drop.Goals as goal
 use Rattle.search_track.proofs.best_drop.Goals.{else-w-k-gt0, then-w-k-gt0}
@@ -35,12 +36,12 @@ loop-k-init c = record { within = omega arith; left = refl }
 pub loop-k-preserved : goal.loop-k-preserved
 loop-k-preserved c =
     let i = c.loop-k.invariant in
-    let e = c.args.w.now.ends in
+    let e = c.args.w.now.row.ends in
     let g = c.loop-k-test.true in
     elim c.if-w-k-gt0.branch [
-      | then-w-k-gt0 w ↦ rw (w.best-is, w.better-best.ensures) (tries e i g (lt-ltb _ _ w.if-w-k-gt0.true))
+      | then-w-k-gt0 w ↦ rw (w.best-is, w.better-best.ensures, scan_by w.later-scan.ensures) (tries e i g (lt-ltb _ _ w.if-w-k-gt0.true))
       | else-w-k-gt0 w ↦ rw w.best-is (skips e i g (le-ltb _ _ w.if-w-k-gt0.false))
     ]
 
 pub returns : goal.returns
-returns c = ends c.args.w.now.ends c.loop-k.invariant c.loop-k-test.false
+returns c = ends c.args.w.now.row.ends c.loop-k.invariant c.loop-k-test.false

@@ -22,4 +22,4 @@ pub record Drops (first : ℕ) (gains : List Float) (r : List ℕ) (end : ℕ) (
   pub left : best_from better_track (by first gains) (has_slot r) SCANS k best ≡ best_drop_by first gains r start
 
 abbrev pub invariant-loop-k : goal.invariant-loop-k
-invariant-loop-k l = Drops l.first.0 l.gains l.w.row.now l.w.end l.initial.best l.best l.k
+invariant-loop-k l = Drops l.first.0 l.gains l.w.row.slots.now l.w.row.end l.initial.best l.best l.k

@@ -55,7 +55,7 @@ module _ {c : FgoConfig} {v : View} {p : Fold} {r : List ℕ} {base : Float} {en
 pub overflow_add-length_of : goal.overflow_add-length_of
 overflow_add-length_of c =
     let w = c.args.w.now in
-    omega (arith, c.length_of.ensures, c.frozen_one.ensures, marks_few w.row.now, one_at_most w.from)
+    omega (arith, c.length_of.ensures, c.frozen_one.ensures, marks_few w.row.slots.now, one_at_most w.from)
 
 pub returns-then-length_of-frozen_one-gt1 : goal.returns-then-length_of-frozen_one-gt1
 unfolding best_track_row
@@ -63,13 +63,13 @@ returns-then-length_of-frozen_one-gt1 c =
     let p = c.args.prices.now in
     let w = c.args.w.now in
     let v = view_in p in
-    let best = best_split_row p.config v w.from w.row.now w.cost in
+    let best = best_split_row p.config v w.from w.row.slots.now w.cost in
     let split = c.best_split-best.ensures in
-    let many : 1 < length (marks w.row.now) + frozen_one w.from = omega (arith, c.length_of.ensures, c.frozen_one.ensures, c.if-length_of-frozen_one-gt1.true) in
+    let many : 1 < length (marks w.row.slots.now) + frozen_one w.from = omega (arith, c.length_of.ensures, c.frozen_one.ensures, c.if-length_of-frozen_one-gt1.true) in
     c.best_drop.ensures
-    ∙ drops-by w.ends split.drop_gains _
-    ∙ ap (best_drop_row p.config v w.from w.row.now w.cost) split.best
-    ∙ sym (ap (λ (t : Bool). cond t (best_drop_row p.config v w.from w.row.now w.cost best) best) (lt-ltb _ _ many))
+    ∙ drops-by w.row.ends split.drop_gains _
+    ∙ ap (best_drop_row p.config v w.from w.row.slots.now w.cost) split.best
+    ∙ sym (ap (λ (t : Bool). cond t (best_drop_row p.config v w.from w.row.slots.now w.cost best) best) (lt-ltb _ _ many))
 
 pub returns : goal.returns
 unfolding best_track_row
@@ -77,6 +77,6 @@ returns c =
     let p = c.args.prices.now in
     let w = c.args.w.now in
     let v = view_in p in
-    let best = best_split_row p.config v w.from w.row.now w.cost in
-    let few : length (marks w.row.now) + frozen_one w.from ≤ 1 = omega (arith, c.length_of.ensures, c.frozen_one.ensures, c.if-length_of-frozen_one-gt1.false) in
-    c.best_split-best.ensures.best ∙ sym (ap (λ (t : Bool). cond t (best_drop_row p.config v w.from w.row.now w.cost best) best) (le-ltb _ _ few))
+    let best = best_split_row p.config v w.from w.row.slots.now w.cost in
+    let few : length (marks w.row.slots.now) + frozen_one w.from ≤ 1 = omega (arith, c.length_of.ensures, c.frozen_one.ensures, c.if-length_of-frozen_one-gt1.false) in
+    c.best_split-best.ensures.best ∙ sym (ap (λ (t : Bool). cond t (best_drop_row p.config v w.from w.row.slots.now w.cost best) best) (le-ltb _ _ few))

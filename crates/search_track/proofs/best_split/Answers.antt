@@ -94,7 +94,7 @@ loop-k-init c =
     let w = c.args.w.now in
     record {
       within = omega arith;
-      along = begins p.config (view_in p) w.from w.row.now;
+      along = begins p.config (view_in p) w.from w.row.slots.now;
       rest = refl;
       drops = record { long = c.told-gains; each = λ j h. absurd (omega arith) };
     }
@@ -102,17 +102,17 @@ loop-k-init c =
 pub fold_to-fold-requires : goal.fold_to-fold-requires
 fold_to-fold-requires c =
     let w = c.args.w.now in
-    (omega (arith, w.ends.within), until c.loop-k.invariant.along c.args.prices.now.early w.fit)
+    (omega (arith, w.row.ends.within), until c.loop-k.invariant.along c.args.prices.now.early w.fit)
 
 pub drop_gain-requires : goal.drop_gain-requires
 drop_gain-requires c =
     let w = c.args.w.now in
-    (few_on c.loop-k.invariant.along (omega (arith, w.ends.within, w.ends.long)) c.args.prices.now.early w.fit c.fold_to-fold.ensures, omega (arith, w.ends.within))
+    (few_on c.loop-k.invariant.along (omega (arith, w.row.ends.within, w.row.ends.long)) c.args.prices.now.early w.fit c.fold_to-fold.ensures, omega (arith, w.row.ends.within))
 
 pub loop-k-preserved : goal.loop-k-preserved
 loop-k-preserved c =
     let i = c.loop-k.invariant in
-    let e = c.args.w.now.ends in
+    let e = c.args.w.now.row.ends in
     let g = c.loop-k-test.true in
     elim c.if-w-k-gt0.branch [
       | then-w-k-gt0 w ↦ rw (w.gains-is, w.best-is, w.fold-is, w.done-is, w.seen-is) (tries e i g (lt-ltb _ _ w.if-w-k-gt0.true) w.fold_to-fold.ensures (elim w.if-seen.branch [ then-seen v ↦ rw v.if-seen.true (v.best-is ∙ v.better_split-best.ensures) | else-seen v ↦ rw (v.if-seen.false, v.best-is) refl ]) w.drop_gain.ensures)
@@ -120,4 +120,4 @@ loop-k-preserved c =
     ]
 
 pub returns-clause-best : goal.returns-clause-best
-returns-clause-best c = ends c.args.w.now.ends c.loop-k.invariant c.loop-k-test.false
+returns-clause-best c = ends c.args.w.now.row.ends c.loop-k.invariant c.loop-k-test.false

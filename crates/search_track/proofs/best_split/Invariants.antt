@@ -34,4 +34,4 @@ pub record Splits (c : FgoConfig) (v : View) (p : Fold) (r : List ℕ) (base : F
 
 abbrev pub invariant-loop-k : goal.invariant-loop-k
 invariant-loop-k l =
-    Splits l.prices.config (view_in l.prices) l.w.from l.w.row.now l.w.cost l.w.end l.gains l.best l.fold l.done l.seen l.k
+    Splits l.prices.config (view_in l.prices) l.w.from l.w.row.slots.now l.w.cost l.w.row.end l.gains l.best l.fold l.done l.seen l.k

@@ -1,10 +1,16 @@
-use Rattle.std.proofs.Common.{arith}
+use Rattle.std.proofs.Common.{sym, ◌∙◌, arith}
+use lib.ListN.{length-set}
 use Rattle.buffers.specs.Answer.{Frame}
+use Rattle.smoother_window.specs.Window.{words_in}
+use Rattle.smoother_pass.specs.Pass.{smoothed_flag, emitted}
+use Rattle.smoother_pass.specs.Oldest.{oldest}
 use Rattle.smoother.proofs.emit_oldest.Goals as goal
 
 pub returns : goal.returns
+unfolding oldest emitted
 returns c =
-    let a = c.emit_words.ensures.many in
+    let s = c.args.s.now in
+    let a = c.emit_words.ensures.many ∙ sym (length-set (words_in s c.args.window.now 0) 5 (smoothed_flag s.config)) in
     let b = c.emit_numbers.ensures.many in
     record {
       answer = λ i. Frame (a i) (b i);

@@ -1,10 +1,11 @@
 use Prim.Native.Nat.{◌<◌}
 use native.Mathlib.Omega.{arith}
-use mathlib.Core.Path.{◌∙◌}
+use mathlib.Core.Path.{sym, ◌∙◌}
 use Rattle.bounds.specs.Bounds.{OWNED}
+use Rattle.fgo_state.proofs.Tracks.{from_some, from_none}
 use Rattle.fgo_place.proofs.Telling.{kept, changed, all_told}
 use Rattle.fgo_place.proofs.own.hold_latest.Goals as goal
-use Rattle.fgo_place.proofs.own.hold_latest.Goals.{then-x-gt0, else-x-gt0}
+use Rattle.fgo_place.proofs.own.hold_latest.Goals.{in-Some, in_default}
 
 pub loop-k-preserved : goal.loop-k-preserved
 loop-k-preserved c = let f = c.args in
@@ -13,9 +14,9 @@ loop-k-preserved c = let f = c.args in
     let few : l.k < OWNED = omega (arith, v.1) in (
       omega arith,
       v.1,
-      elim c.if-x-gt0.branch [
-        | then-x-gt0 w ↦ changed f.gathered.now.ids f.gathered.now.engines f.gathered.now.starts f.gathered.now.held f.owners.now l.k l.owners v.2 c.engine_at-e.ensures c.latest-x.ensures few w.if-x-gt0.true (w.owners-is ∙ w.put_owner.ensures)
-        | else-x-gt0 w ↦ rw w.owners-is (kept f.gathered.now.ids f.gathered.now.engines f.gathered.now.starts f.gathered.now.held f.owners.now l.k l.owners v.2 c.engine_at-e.ensures c.latest-x.ensures w.if-x-gt0.false)
+      elim c.match-latest.branch [
+        | in-Some w ↦ (let s = from_some _ w.in-Some.x (sym c.latest.ensures ∙ w.in-Some.is) in changed f.gathered.now.ids f.gathered.now.engines f.gathered.now.starts f.gathered.now.held f.owners.now l.k l.owners v.2 c.engine_at-e.ensures (sym s.0) few s.1 (w.owners-is ∙ w.put_owner.ensures))
+        | in_default w ↦ (let s = from_none _ (sym c.latest.ensures ∙ w.in_default.is) in rw w.owners-is (kept f.gathered.now.ids f.gathered.now.engines f.gathered.now.starts f.gathered.now.held f.owners.now l.k l.owners v.2 c.engine_at-e.ensures (sym s) (omega arith)))
       ],
     )
 

@@ -14,7 +14,7 @@ pub returns : goal.returns
 unfolding detection_of
 returns c =
     let a = c.args in
-    let b = body_of a.b.now.body in
+    let b = body_of a.s.now.frame.body in
     let f = frame_in b in
     let o : c.observation-d.result ≡ get_or f.observations (association_in b a.j).index.0 no_observation =
     c.observation-d.ensures ∙ ap (λ (x : Association). get_or f.observations x.index.0 no_observation) c.association.ensures in

@@ -11,9 +11,9 @@ loop-j-init c = gathers_none _ _ _ _ _ _
 pub offset_bounds-ids-p : goal.offset_bounds-ids-p
 offset_bounds-ids-p c =
     let v = c.loop-j in
-    let e = c.association_count-j-end.ensures in
+    let e = c.count-j-end.ensures in
     let l = c.loop-j-test.true in
-    let i = c.id_at-id.ensures in
+    let i = c.id-id.ensures in
     let h = c.if-id-gt0.true in
     let r = gathers_room _ _ _ _ _ _ c.requires v.invariant (omega arith) (omega arith) in
     omega (arith, v.invariant.ids.long)
@@ -21,9 +21,9 @@ offset_bounds-ids-p c =
 pub bounds-ids-p : goal.bounds-ids-p
 bounds-ids-p c =
     let v = c.loop-j in
-    let e = c.association_count-j-end.ensures in
+    let e = c.count-j-end.ensures in
     let l = c.loop-j-test.true in
-    let i = c.id_at-id.ensures in
+    let i = c.id-id.ensures in
     let h = c.if-id-gt0.true in
     let r = gathers_room _ _ _ _ _ _ c.requires v.invariant (omega arith) (omega arith) in
     r.0
@@ -31,9 +31,9 @@ bounds-ids-p c =
 pub offset_bounds-engines-p : goal.offset_bounds-engines-p
 offset_bounds-engines-p c =
     let v = c.loop-j in
-    let e = c.association_count-j-end.ensures in
+    let e = c.count-j-end.ensures in
     let l = c.loop-j-test.true in
-    let i = c.id_at-id.ensures in
+    let i = c.id-id.ensures in
     let h = c.if-id-gt0.true in
     let r = gathers_room _ _ _ _ _ _ c.requires v.invariant (omega arith) (omega arith) in
     omega (arith, v.invariant.ids.long)
@@ -41,9 +41,9 @@ offset_bounds-engines-p c =
 pub bounds-engines-p : goal.bounds-engines-p
 bounds-engines-p c =
     let v = c.loop-j in
-    let e = c.association_count-j-end.ensures in
+    let e = c.count-j-end.ensures in
     let l = c.loop-j-test.true in
-    let i = c.id_at-id.ensures in
+    let i = c.id-id.ensures in
     let h = c.if-id-gt0.true in
     let r = gathers_room _ _ _ _ _ _ c.requires v.invariant (omega arith) (omega arith) in
     r.1
@@ -51,9 +51,9 @@ bounds-engines-p c =
 pub overflow_add-p : goal.overflow_add-p
 overflow_add-p c =
     let v = c.loop-j in
-    let e = c.association_count-j-end.ensures in
+    let e = c.count-j-end.ensures in
     let l = c.loop-j-test.true in
-    let i = c.id_at-id.ensures in
+    let i = c.id-id.ensures in
     let h = c.if-id-gt0.true in
     let r = gathers_room _ _ _ _ _ _ c.requires v.invariant (omega arith) (omega arith) in
     omega (arith, v.invariant.ids.long)
@@ -62,14 +62,14 @@ pub loop-j-preserved : goal.loop-j-preserved
 loop-j-preserved c =
     let a = c.args in
     let v = c.loop-j in
-    let e = c.association_count-j-end.ensures in
+    let e = c.count-j-end.ensures in
     let l = c.loop-j-test.true in
-    let few : v.j < associations_in (body_of a.b.now.body) = omega arith in
-    let i = c.id_at-id.ensures in
+    let few : v.j < associations_in (body_of a.s.now.frame.body) = omega arith in
+    let i = c.id-id.ensures in
     elim c.if-id-gt0.branch [
       | then-id-gt0 w ↦ gathers_held _ _ _ _ _ _ c.requires v.invariant few i w.if-id-gt0.true w.engine_of.ensures w.ids-is w.engines-is w.p-is
       | else-id-gt0 w ↦ gathers_clutter _ _ _ _ _ _ c.requires v.invariant few i (omega (arith, w.if-id-gt0.false)) w.ids-is w.engines-is w.p-is
     ]
 
 pub returns : goal.returns
-returns c = let e = c.association_count-j-end.ensures in gathers_all _ _ _ _ _ _ c.requires c.loop-j.invariant (omega (arith, c.loop-j-test.false))
+returns c = let e = c.count-j-end.ensures in gathers_all _ _ _ _ _ _ c.requires c.loop-j.invariant (omega (arith, c.loop-j-test.false))

@@ -12,11 +12,13 @@ loop-k-init c = (omega arith, refl, scatters_held_none _ _ _ _ c.requires)
 pub scatter_scan-p-requires : goal.scatter_scan-p-requires
 scatter_scan-p-requires c =
     let v = c.loop-k in
-    let m = c.count_of-m.ensures ∙ ap (λ b. associations_in (body_at b v.scans.columns (c.args.first.0 + v.k))) v.invariant.1 in
-    scatters_held_fits _ _ _ _ c.requires v.invariant.2 c.loop-k-test.true m
+    let n = c.later-n.ensures in
+    let m = rw n at c.count_of-m.ensures ∙ ap (λ b. associations_in (body_at b v.scans.columns (c.args.first.0 + v.k))) v.invariant.1 in
+    rw n (scatters_held_fits _ _ _ _ c.requires v.invariant.2 c.loop-k-test.true m)
 
 pub loop-k-preserved : goal.loop-k-preserved
 loop-k-preserved c =
     let v = c.loop-k in
-    let m = c.count_of-m.ensures ∙ ap (λ b. associations_in (body_at b v.scans.columns (c.args.first.0 + v.k))) v.invariant.1 in
-    (omega (arith, c.loop-k-test.true), v.invariant.1, scatters_held_more _ _ _ _ c.requires v.invariant.2 c.loop-k-test.true m (c.scatter_scan-p.ensures.count, c.scatter_scan-p.ensures.ids))
+    let n = c.later-n.ensures in
+    let m = rw n at c.count_of-m.ensures ∙ ap (λ b. associations_in (body_at b v.scans.columns (c.args.first.0 + v.k))) v.invariant.1 in
+    (omega (arith, c.loop-k-test.true), v.invariant.1, scatters_held_more _ _ _ _ c.requires v.invariant.2 c.loop-k-test.true m (rw n at c.scatter_scan-p.ensures.count, rw n at c.scatter_scan-p.ensures.ids))

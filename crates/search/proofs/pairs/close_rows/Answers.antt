@@ -8,4 +8,4 @@ pub close_scans-requires : goal.close_scans-requires
 close_scans-requires c =
     let s = c.args in
     let p = c.requires in
-    (rows-within (square (radius s.prices.now.config)) s.prices.now.dots.now s.a.now s.b.now p.0 p.1 c.close_from.ensures c.close_to.ensures (omega arith), p.2)
+    rows-within (square (radius s.prices.now.config)) s.prices.now.dots.now s.a.now s.b.now p.0 p.1 c.close_from.ensures c.close_to.ensures (omega arith)

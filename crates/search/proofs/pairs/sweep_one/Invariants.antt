@@ -5,4 +5,4 @@ use Rattle.search.proofs.pairs.sweep_one.Given as goal
 abbrev pub invariant-loop-j : goal.invariant-loop-j
 invariant-loop-j l =
     let p = l.pass in
-    SweptOne (scene_under p) p.list.now.count l.i p.list.now.table p.list.now.rows l.initial.course.ids l.initial.course.moved l.initial.course.tally l.course.ids l.course.costs l.course.moved l.course.tally l.j
+    SweptOne (scene_under p) p.list.now.count l.i p.list.now.table p.list.now.rows l.initial.state.ids l.initial.state.moved l.initial.state.tally l.state.ids l.state.costs l.state.moved l.state.tally l.j

@@ -36,4 +36,4 @@ returns-clause-due c =
     let b = c.present-list.ensures in
     let q : c.loop-i.i ≡ c.present-list.result = omega arith in
     let k = rw (o.3, q) at o.0 in
-    rw (o.2, o.3, o.4) (due_is c.requires (present_listed s.scene.now.detections s.course.now.ids c.present-list.result _ b) c.fill_rows.ensures k)
+    rw (o.2, o.3, o.4) (due_is c.requires (present_listed s.scene.now.detections s.state.now.ids c.present-list.result _ b) c.fill_rows.ensures k)

@@ -10,15 +10,15 @@ use Rattle.search.proofs.Visits.{stepped_none}
 use Rattle.search.proofs.tracks.track_step.Goals as goal
 
 pub new-w-requires : goal.new-w-requires
-new-w-requires c = let s = c.args in (row_fit (scene_in s.scene.now) s.course.now.ids s.a.0 c.requires.1 c.fold_of.ensures).idle
+new-w-requires c = let s = c.args in (row_fit (scene_in s.scene.now) s.state.now.ids s.turn.id.0 c.requires.0 c.fold_of.ensures).idle
 
 pub returns-in_default-clause-step : goal.returns-in_default-clause-step
 returns-in_default-clause-step c =
     let s = c.args in
     let p = c.requires in
     let x = c.new-w.ensures in
-    track_stays_is (scene_in s.scene.now) s.a.0 s.course.now.ids s.course.now.tally
-    (track_best_is (scene_in s.scene.now) s.a.0 s.course.now.ids c.fold_of.ensures p.1 p.2 (rw (x.from, x.row, x.cost) at c.best_of_track.ensures)) c.in_default.is
+    track_stays_is (scene_in s.scene.now) s.turn.id.0 s.state.now.ids s.state.now.tally
+    (track_best_is (scene_in s.scene.now) s.turn.id.0 s.state.now.ids c.fold_of.ensures p.0 p.1 (rw (x.from, x.row, x.cost) at c.best_of_track.ensures)) c.in_default.is
 
 pub returns-in_default-clause-stepped : goal.returns-in_default-clause-stepped
 returns-in_default-clause-stepped c =
@@ -26,8 +26,8 @@ returns-in_default-clause-stepped c =
     let e = scene_in s.scene.now in
     let p = c.requires in
     let x = c.new-w.ensures in
-    let best = track_best_is e s.a.0 s.course.now.ids c.fold_of.ensures p.1 p.2 (rw (x.from, x.row, x.cost) at c.best_of_track.ensures) in
-    stepped_none (omega arith) (omega arith) (omega arith) p.2 (stay_track e s.a.0 s.course.now.ids (ap is_none (sym best ∙ c.in_default.is)))
+    let best = track_best_is e s.turn.id.0 s.state.now.ids c.fold_of.ensures p.0 p.1 (rw (x.from, x.row, x.cost) at c.best_of_track.ensures) in
+    stepped_none (omega arith) (omega arith) (omega arith) p.1 (stay_track e s.turn.id.0 s.state.now.ids (ap is_none (sym best ∙ c.in_default.is)))
 
 pub returns-in-Some-clause-step : goal.returns-in-Some-clause-step
 unfolding track_ids
@@ -36,5 +36,5 @@ returns-in-Some-clause-step c =
     let e = scene_in s.scene.now in
     let p = c.requires in
     let x = c.new-w.ensures in
-    let best = track_best_is e s.a.0 s.course.now.ids c.fold_of.ensures p.1 p.2 (rw (x.from, x.row, x.cost) at c.best_of_track.ensures) in
-    track_moves_is e s.a.0 s.course.now.ids s.course.now.tally best c.in-Some.is c.apply.ensures c.count-course.ensures
+    let best = track_best_is e s.turn.id.0 s.state.now.ids c.fold_of.ensures p.0 p.1 (rw (x.from, x.row, x.cost) at c.best_of_track.ensures) in
+    track_moves_is e s.turn.id.0 s.state.now.ids s.state.now.tally best c.in-Some.is c.apply.ensures c.count-state.ensures

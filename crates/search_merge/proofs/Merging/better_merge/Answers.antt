@@ -25,12 +25,12 @@ returns-then-self-eq0 c =
     let m = c.args.self.now in
     let p = m.prices.now in
     let a = m.keeper.now in
-    let b = m.other.now.row.now in
+    let b = m.other.now.slots.now in
     let l = ap (λ (o : Overlap). o.shared) m.lie in
     let none = sym l ∙ c.if-self-eq0.true in
     let x = c.own_cost-own_row_cost.ensures in
-    let y = x ∙ ap (row_cost p.config (view_in p) a.from) (merged_same a.row.now b none) in
-    tried p.config (view_in p) a.id a.from a.row.now b c.args.base c.args.best x y l c.merge_of.ensures c.merge_of-then-self-eq0.ensures c.better-first.ensures c.better.ensures
+    let y = x ∙ ap (row_cost p.config (view_in p) a.from) (merged_same a.row.slots.now b none) in
+    tried p.config (view_in p) a.id a.from a.row.slots.now b c.args.base c.args.best x y l c.merge_of.ensures c.merge_of-then-self-eq0.ensures c.better-first.ensures c.better.ensures
 
 pub returns : goal.returns
 returns c =
@@ -38,4 +38,4 @@ returns c =
     let p = m.prices.now in
     let a = m.keeper.now in
     let l = ap (λ (o : Overlap). o.shared) m.lie in
-    tried p.config (view_in p) a.id a.from a.row.now m.other.now.row.now c.args.base c.args.best c.own_cost-own_row_cost.ensures c.other_cost-other_row_cost.ensures l c.merge_of.ensures c.merge_of-2.ensures c.better-first.ensures c.better-2.ensures
+    tried p.config (view_in p) a.id a.from a.row.slots.now m.other.now.slots.now c.args.base c.args.best c.own_cost-own_row_cost.ensures c.other_cost-other_row_cost.ensures l c.merge_of.ensures c.merge_of-2.ensures c.better-first.ensures c.better-2.ensures

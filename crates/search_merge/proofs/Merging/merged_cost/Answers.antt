@@ -3,9 +3,9 @@ use Rattle.cost_row.proofs.Heads.{ends_later}
 use Rattle.search_merge.proofs.Merged.{merged_ends}
 use Rattle.search_merge.proofs.Merging.merged_cost.Goals as goal
 
-pub row_cost-requires : goal.row_cost-requires
-row_cost-requires c =
-    let a = c.args.self.now.keeper.now in
-    let b = c.args.self.now.other.now in
-    let e = c.max-end.ensures in
-    (rw c.merged_row-row.ensures (merged_ends c.args.own (ends_later (omega arith) (omega (arith, a.ends.within, b.ends.within)) a.ends) (ends_later (omega arith) (omega (arith, a.ends.within, b.ends.within)) b.ends)), a.fit.idle)
+pub invariant_of-row : goal.invariant_of-row
+invariant_of-row c =
+    let a = c.args.self.now.keeper.now.row.ends in
+    let b = c.args.self.now.other.now.ends in
+    let e = c.max.ensures in
+    record { ends = rw c.merged_row-slots.ensures (merged_ends c.args.own (ends_later (omega arith) (omega (arith, a.within, b.within)) a) (ends_later (omega arith) (omega (arith, a.within, b.within)) b)) }

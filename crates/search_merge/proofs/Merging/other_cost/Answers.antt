@@ -12,5 +12,5 @@ returns-then-self-eq0 c =
     let k = m.keeper.now in
     let b = m.other.now in
     let none = sym (ap (λ (o : Overlap). o.mine) m.lie) ∙ c.if-self-eq0.true in
-    let row = merged_other k.row.now b.row.now (k.fit.long ∙ sym b.fit.long) none in
+    let row = merged_other k.row.slots.now b.slots.now (k.fit.long ∙ sym b.ends.long) none in
     m.priced c.if-self-eq0.true ∙ sym (ap (row_cost p.config (view_in p) k.from) row)

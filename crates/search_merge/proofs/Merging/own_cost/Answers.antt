@@ -11,4 +11,4 @@ returns-then-self-eq0 c =
     let p = m.prices.now in
     let k = m.keeper.now in
     let none = sym (ap (λ (o : Overlap). o.theirs) m.lie) ∙ c.if-self-eq0.true in
-    m.paid ∙ sym (ap (row_cost p.config (view_in p) k.from) (merged_own k.row.now m.other.now.row.now none))
+    m.paid ∙ sym (ap (row_cost p.config (view_in p) k.from) (merged_own k.row.slots.now m.other.now.slots.now none))

@@ -19,7 +19,7 @@ use Rattle.fgo_spec.proofs.NoGain.{nothing_wins, best_below, start}
 use Rattle.search_pair.specs.Pair.{cut_at, cuts_of, try_swap_row, first_swap, best_swap_row}
 use Rattle.cost_row.specs.Price.{row_cost, on_to, scan_at, EndsBy}
 use Rattle.cost_row.proofs.Left.{best_from, best_yes, best_no, best_stays}
-use Rattle.cost_row.proofs.Heads.{begins, passes, on_to_lem, taken_on, until, crossed-cost, few_on, ends_same, ends_later}
+use Rattle.cost_row.proofs.Heads.{begins, passes, on_to_lem, taken_on, until, crossed-cost, few_on, ends_same, ends_later, scan_by}
 use Rattle.search_pair.proofs.Pair.best_swap.Invariants.{Tried}
 use Rattle.search_pair.proofs.Pair.best_swap.Goals as goal
 use Rattle.search_pair.proofs.Pair.best_swap.Goals.{else-is_cut, then-is_cut}
@@ -86,21 +86,21 @@ loop-k-init c =
     let v = view_in p in
     let first : p.first ≡ scan_at v 0 = λ i. record { 0 = sym (add-zero p.first.0) i } in
     rw c.first_swap-best.ensures
-    (first-tried p.config v a.from b.from s.close.now a.row.now b.row.now s.base _ refl first a.fit.long b.fit.long s.priced.exchanged_a s.priced.exchanged_b)
+    (first-tried p.config v a.from b.from s.close.now a.row.slots.now b.row.slots.now s.base _ refl first a.fit.long b.fit.long s.priced.exchanged_a s.priced.exchanged_b)
 
 pub fold_to-fa-requires : goal.fold_to-fa-requires
 fold_to-fa-requires c =
     let s = c.args.self.now in
     let a = s.a.now in
     let b = s.b.now in
-    (omega (arith, c.max-end.ensures, a.ends.within, b.ends.within), until c.loop-k.invariant.a s.prices.now.early a.fit)
+    (omega (arith, c.max-end.ensures, a.row.ends.within, b.row.ends.within), until c.loop-k.invariant.a s.prices.now.early a.fit)
 
 pub fold_to-fb-requires : goal.fold_to-fb-requires
 fold_to-fb-requires c =
     let s = c.args.self.now in
     let a = s.a.now in
     let b = s.b.now in
-    (omega (arith, c.max-end.ensures, a.ends.within, b.ends.within), until c.loop-k.invariant.b s.prices.now.early b.fit)
+    (omega (arith, c.max-end.ensures, a.row.ends.within, b.row.ends.within), until c.loop-k.invariant.b s.prices.now.early b.fit)
 
 pub swap_gain-gain-requires : goal.swap_gain-gain-requires
 swap_gain-gain-requires c =
@@ -109,7 +109,7 @@ swap_gain-gain-requires c =
     let b = s.b.now in
     let i = c.loop-k.invariant in
     let early = s.prices.now.early in
-    let t : c.loop-k.k ≤ SCANS = omega (arith, c.max-end.ensures, a.ends.within, b.ends.within) in (
+    let t : c.loop-k.k ≤ SCANS = omega (arith, c.max-end.ensures, a.row.ends.within, b.row.ends.within) in (
       few_on i.a (omega (arith, a.fit.long)) early a.fit c.fold_to-fa.ensures,
       few_on i.b (omega (arith, b.fit.long)) early b.fit c.fold_to-fb.ensures,
     )
@@ -121,9 +121,9 @@ loop-k-preserved c =
     let b = s.b.now in
     let i = c.loop-k.invariant in
     let e = c.is_cut.ensures in
-    let t : c.loop-k.k ≤ SCANS = omega (arith, c.max-end.ensures, a.ends.within, b.ends.within) in
+    let t : c.loop-k.k ≤ SCANS = omega (arith, c.max-end.ensures, a.row.ends.within, b.row.ends.within) in
     elim c.if-is_cut.branch [
-      | then-is_cut w ↦ rw (w.best-is, w.fa-is, w.fb-is, w.done-is, w.better-best.ensures) (tries i t a.fit.long b.fit.long (sym e ∙ w.if-is_cut.true) w.fold_to-fa.ensures w.fold_to-fb.ensures w.swap_gain-gain.ensures)
+      | then-is_cut w ↦ rw (w.best-is, w.fa-is, w.fb-is, w.done-is, w.better-best.ensures, scan_by w.later-cut.ensures) (tries i t a.fit.long b.fit.long (sym e ∙ w.if-is_cut.true) w.fold_to-fa.ensures w.fold_to-fb.ensures w.swap_gain-gain.ensures)
       | else-is_cut w ↦ rw (w.best-is, w.fa-is, w.fb-is, w.done-is) (skips i t (sym e ∙ w.if-is_cut.false))
     ]
 
@@ -133,5 +133,5 @@ returns c =
     let a = s.a.now in
     let b = s.b.now in
     let m = c.max-end.ensures in
-    let within : c.max-end.result ≤ SCANS = omega (arith, m, a.ends.within, b.ends.within) in
-    ends c.loop-k.invariant (ends_later (omega (arith, m)) within a.ends) (ends_later (omega (arith, m)) within b.ends) (s.summed ∙ (λ i. s.priced.paid_a i ⊕ s.priced.paid_b i)) c.loop-k-test.false
+    let within : c.max-end.result ≤ SCANS = omega (arith, m, a.row.ends.within, b.row.ends.within) in
+    ends c.loop-k.invariant (ends_later (omega (arith, m)) within a.row.ends) (ends_later (omega (arith, m)) within b.row.ends) (s.summed ∙ (λ i. s.priced.paid_a i ⊕ s.priced.paid_b i)) c.loop-k-test.false

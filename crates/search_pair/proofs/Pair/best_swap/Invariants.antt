@@ -29,4 +29,4 @@ invariant-loop-k l =
     let p = l.self in
     let a = p.a.now in
     let b = p.b.now in
-    Tried p.prices.now.config (view_in p.prices.now) a.from b.from p.close.now a.row.now b.row.now p.base l.best l.fa l.fb l.done l.k
+    Tried p.prices.now.config (view_in p.prices.now) a.from b.from p.close.now a.row.slots.now b.row.slots.now p.base l.best l.fa l.fb l.done l.k

@@ -1,6 +1,6 @@
 use mathlib.Core.Path.{◌≡◌, sym, ap, ◌∙◌}
 use mathlib.Core.List.{List, ◌++◌}
-use Prim.Native.Nat.{ℕ, ◌-◌}
+use Prim.Native.Nat.{ℕ, ◌+◌, ◌-◌}
 use native.Mathlib.Omega.{arith}
 use mathlib.Core.Bool.{false}
 use lib.Dec.{eqb}
@@ -9,6 +9,7 @@ use borrow.Author.Tests.{eq-eqb, ne_eqb}
 use Rattle.fgo_spec.specs.Lists.{segment}
 use Rattle.search_rows.specs.Moves.{retarget}
 use Rattle.search_rows.proofs.Segments.{over_turn, over_all, over_part}
+use Rattle.search_rows.proofs.Renamed.{starts_ordered}
 use Rattle.search_rows.proofs.moves.rename_scan.Goals as goal
 use Rattle.search_rows.proofs.moves.rename_scan.Goals.{then-x-a, else-x-a+then-x-b, else-x-a+else-x-b}
 
@@ -20,7 +21,7 @@ loop-x-preserved c =
     let b = s.b.0 in
     let x = get_or l.x-items l.x-index 0 in
     let f = retarget a b s.t in
-    let m = segment s.from s.to s.ids.now in
+    let m = segment (get_or s.starts.now.places.now s.k 0) (get_or s.starts.now.places.now (s.k + 1) 0) s.ids.now in
     let turn = over_turn f 0 l.x-index m (omega arith) c.loop-x-test.true l.x-items in
     let other : (x ≡ a → ⊥) → eqb a x ≡ false = λ n. ne_eqb a x (λ e. n (sym e)) in
     elim c.if-x-a.branch [
@@ -35,6 +36,8 @@ pub returns : goal.returns
 returns c =
     let s = c.args in
     let f = retarget s.a.0 s.b.0 s.t in
-    let m = segment s.from s.to s.ids.now in
-    ap (λ (x : List ℕ). take s.from s.ids.now ++ (x ++ drop (s.to - s.from) (drop s.from s.ids.now))) (c.loop-x.invariant ∙ over_all f c.loop-x.x-index m c.loop-x-test.false)
-    ∙ over_part f s.from s.to s.ids.now (omega arith)
+    let from = get_or s.starts.now.places.now s.k 0 in
+    let to = get_or s.starts.now.places.now (s.k + 1) 0 in
+    let m = segment from to s.ids.now in
+    ap (λ (x : List ℕ). take from s.ids.now ++ (x ++ drop (to - from) (drop from s.ids.now))) (c.loop-x.invariant ∙ over_all f c.loop-x.x-index m c.loop-x-test.false)
+    ∙ over_part f from to s.ids.now (starts_ordered s.starts.now.rise s.k (s.k + 1) (omega arith) (omega arith))

@@ -1,8 +1,9 @@
 use Rattle.std.proofs.Common.{◌≡◌, ◌+◌, ◌*◌, ◌≤◌, ◌∙◌, length, rules, arith, length-append}
 use Rattle.bounds.specs.Bounds.{VECTOR, COVARIANCE, STATE}
+use Rattle.rts.specs.Smoothing.{estimate_of}
 use Rattle.smoother_frame.specs.Frame.{track_count}
 use Rattle.smoother_window.specs.Held.{state_of, frames_of, frame_of}
-use Rattle.smoother_pass.specs.Pass.{flat, states_to, estimate_of}
+use Rattle.smoother_pass.specs.Pass.{flat, states_to}
 use Rattle.smoother_pass.proofs.Writing.{front, none_stated, one_stated}
 use Rattle.smoother_pass.proofs.emit.put_states.Goals as goal
 

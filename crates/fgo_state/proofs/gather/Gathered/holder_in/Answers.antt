@@ -16,6 +16,8 @@ use Rattle.std.proofs.lemmas.Iterator.{YieldsList-from_range, YieldsList-from_ma
 use Rattle.std.proofs.lemmas.Iterator.Consumers.{YieldsList-from_filter, reduce_from_yields_List}
 use Rattle.engine.specs.Body.{rows}
 use Rattle.fgo_state.specs.Gathering.{holder_of}
+use Rattle.fgo_state.specs.Owners.{id_from}
+use Rattle.fgo_state.proofs.Tracks.{kept, numbered}
 use Rattle.fgo_state.proofs.gather.Gathered.holder_in.Goals as goal
 
 module _ (p : ℕ → Bool) (g : ℕ → ℕ) where
@@ -46,10 +48,11 @@ returns c =
     let p : ℕ → Bool = λ i. eqb a.e.0 (get_or s.engines i 0) in
     let g : ℕ → ℕ = λ i. get_or s.ids i 0 in
     let l = range_with_len a.a (a.b - a.a) in
-    let found = reduce_from_yields_List (λ x z. max_by_ordering (nat_cmp x z) x z) _ c.max-most.result c.max-most.ensures.ran
+    let found = reduce_from_yields_List (λ x z. max_by_ordering (nat_cmp x z) x z) _ c.max.result c.max.ensures.ran
     (YieldsList-from_map _ g (YieldsList-from_filter _ p (YieldsList-from_range a.a a.b (a.b - a.a) (ap (λ s. s.iter) c.map.ensures.source ∙ c.filter.ensures.source) refl) (ap (λ s. s.p) c.map.ensures.source ∙ c.filter.ensures.closure) (λ j b q t. search (rules, tests))) c.map.ensures.closure (λ i t q k. search (rules, tests))) in
-    c.unwrap_or.ensures
-    ∙ ap (λ o. unwrap_or o 0) found
+    let most : unwrap_or c.max.result 0 ≡ holder_of a.e.0 s.ids s.engines a.a a.b =
+    ap (λ o. unwrap_or o 0) found
     ∙ max_of_map g (filter p l)
     ∙ greatest p g a.a (a.b - a.a) 0
-    ∙ omega arith
+    ∙ omega arith in
+    kept _ _ c.filter-2.ensures (λ x b q. search (rules, tests)) ∙ ap id_from (numbered c.max.result c.map-2.result c.map-2.ensures.cases (λ x y q. search (rules, tests)) ∙ most)

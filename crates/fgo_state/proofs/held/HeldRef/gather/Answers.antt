@@ -11,7 +11,7 @@ use Rattle.bounds.specs.Bounds.{DETECTIONS, STARTS}
 use Rattle.buffers.specs.Buffers.{over}
 use Rattle.fgo_state.specs.Gathering.{HeldScans, GatheredAll}
 use Rattle.fgo_state.proofs.HeldGathered.{found_few_enough, starts_within}
-use Rattle.fgo_state.proofs.GatheringHeld.{GathersHeld, held_none, held_fits, held_more, held_all}
+use Rattle.fgo_state.proofs.GatheringHeld.{lies_at, GathersHeld, held_none, held_fits, held_more, held_all}
 use Rattle.fgo_state.proofs.held.HeldRef.gather.Goals as goal
 
 pub loop-k-init : goal.loop-k-init
@@ -19,12 +19,12 @@ loop-k-init c = (omega arith, held_none _ _ _ _ _ _ (get_or-replicate STARTS 0 0
 
 pub gather_scan-p-requires : goal.gather_scan-p-requires
 gather_scan-p-requires c =
-    held_fits _ _ _ _ _ c.requires c.loop-k.invariant.1 c.loop-k-test.true (search rules) (search rules) c.body.ensures
+    held_fits _ _ _ _ _ c.requires c.loop-k.invariant.1 c.loop-k-test.true (search rules) (search rules) (lies_at c.held-s.result c.held-s.ensures c.later.ensures)
 
 pub loop-k-preserved : goal.loop-k-preserved
 loop-k-preserved c = (
   omega (arith, c.loop-k-test.true),
-  held_more _ _ _ _ _ c.requires c.loop-k.invariant.1 c.loop-k-test.true (search rules) (search rules) c.body.ensures c.gather_scan-p.ensures refl,
+  held_more _ _ _ _ _ c.requires c.loop-k.invariant.1 c.loop-k-test.true (search rules) (search rules) (lies_at c.held-s.result c.held-s.ensures c.later.ensures) c.gather_scan-p.ensures refl,
 )
 
 module _ (bodies columns : List ℕ) (first held : ℕ) (is es : List ℕ) where

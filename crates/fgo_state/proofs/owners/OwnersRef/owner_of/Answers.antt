@@ -9,7 +9,9 @@ use Rattle.std.specs.Option.{MatchOption}
 use Rattle.std.specs.Prelude.{Option, None, Some}
 use Rattle.engine.specs.Body.{rows}
 use Rattle.fgo_spec.specs.Lists.{find}
-use Rattle.fgo_state.specs.Memory.{owner_at, owner_entry, or_none}
+use Rattle.fgo_state.specs.Memory.{owner_of, owner_entry, or_none}
+use Rattle.fgo_state.specs.Owners.{id_from}
+use Rattle.fgo_state.proofs.Tracks.{number, kept, at_some}
 use Rattle.fgo_state.proofs.owners.OwnersRef.owner_of.Goals as goal
 
 module _ (g : ℕ → ℕ × ℕ) (e : ℕ) where
@@ -39,6 +41,8 @@ returns c =
     let a = c.args.self.now in
     let e = c.args.e.0 in
     let os = a.entries.now in
-    either c.place_of.result c.place_of.ensures c.map_or.ensures
-    (λ none r. ap (λ x. x.0) r ∙ sym (lacking (owner_entry os) e 0 a.owned (λ k h l. none k (omega arith))))
-    (λ i first r. let v : c.map_or.result.0 ≡ owner_at os i = search (rules, tests) in v ∙ sym (found (owner_entry os) e 0 a.owned i (omega arith) (omega arith) first.1 (λ k h l. first.2 k l)))
+    let owner : number c.map.result ≡ owner_of os a.owned e =
+    either c.place_of.result c.place_of.ensures c.map.ensures.cases
+    (λ none r. ap number r ∙ sym (lacking (owner_entry os) e 0 a.owned (λ k h l. none k (omega arith))))
+    (λ i first r. at_some c.map.result r (λ y q. search (rules, tests)) ∙ sym (found (owner_entry os) e 0 a.owned i (omega arith) (omega arith) first.1 (λ k h l. first.2 k l))) in
+    kept _ _ c.filter.ensures (λ x b q. search (rules, tests)) ∙ ap id_from owner

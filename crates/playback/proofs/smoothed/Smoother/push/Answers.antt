@@ -4,8 +4,8 @@ use Rattle.smoother.specs.Promise.{state_in}
 use Rattle.playback.proofs.Serving.{tells, served}
 use Rattle.playback.proofs.smoothed.Smoother.push.Goals as goal
 
-pub put_full-requires : goal.put_full-requires
-put_full-requires c = shown (λ f. f) state_in c.push_over-answer.ensures.promised.ends
+pub invariant_of-shown : goal.invariant_of-shown
+invariant_of-shown c = record { shown = shown (λ f. f) state_in c.push_over-answer.ensures.promised.ends }
 
 pub returns : goal.returns
 returns c = tells c.args.self.now _ c.new-smoothed.ensures c.push_over-answer.ensures.promised refl c.told-text c.put_full.ensures

@@ -11,5 +11,5 @@ pub invariant_of-result : goal.invariant_of-result
 invariant_of-result c =
     record {
       fits = (omega (arith, c.requires, c.window_size-size.ensures), omega (arith, c.requires, c.window_size-size.ensures));
-      led = ∣ opened_serves _ _ c.in_ok-state.was c.open.ensures ∣₁;
+      led = ∣ opened_serves _ _ c.in_ok-state.was c.open.ensures.opened ∣₁;
     }

@@ -1,4 +1,3 @@
-use Rattle.cost_row.proofs.Heads.{ends_at}
 use Rattle.search.specs.Lent.{scene_in}
 use Rattle.search.proofs.Costing.{row_fit}
 use Rattle.search.proofs.scene.SceneRef.track_cost.Goals as goal
@@ -7,4 +6,4 @@ pub row_cost-requires : goal.row_cost-requires
 row_cost-requires c =
     let s = c.args in
     let f = row_fit (scene_in s.self.now) s.ids.now s.x.0 c.row_of-row.ensures c.fold_of-from.ensures in
-    (ends_at f.long c.end_of-end.ensures, f.idle)
+    f.idle

@@ -2,7 +2,7 @@ use mathlib.Core.Path.{◌≡◌, refl, ap, ◌∙◌}
 use Rattle.std.proofs.Common.{rules, tests}
 use Rattle.engine.specs.Body.{all}
 use Rattle.smoother_frame.specs.Frame.{association_count, association_ok}
-use Rattle.smoother_frame.proofs.Ranges.{all_of_range}
+use Rattle.engine.proofs.Ranges.{all_of_range}
 use Rattle.smoother_frame.proofs.frame.Frame.associations_ok.Goals as goal
 
 pub returns : goal.returns
