@@ -1,5 +1,4 @@
 pub mod Times
-pub mod Held
 pub mod Classes
 pub mod Raising
 pub mod Table

@@ -1,5 +1,6 @@
 -- Document 01, "fgo.rs: freezing", on the lent memory. Definitions only.
-use Rattle.std.specs.Prelude.{ℕ, suc, ◌+◌, ◌^◌, ◌<◌, ◌≤◌, ◌≡◌, Bool, true, ◌||◌, List, [], ◌∷◌, length, ℤ, ◌-ℤ◌, Float}
+use Rattle.std.specs.Prelude.{ℕ, suc, ◌+◌, ◌^◌, ◌<◌, ◌≤◌, ◌≡◌, Bool, true, ◌||◌}
+use Rattle.std.specs.Prelude.{List, [], ◌∷◌, length, ℤ, ◌-ℤ◌, Float}
 use Rattle.std.specs.Int.Signed.{le_z}
 use Rattle.bounds.specs.Bounds.{ACCEPTED, FROZEN, HEIGHTS}
 use Rattle.engine.specs.declared.config.FgoConfig.{FgoConfig}

@@ -196,7 +196,8 @@ pub fn freeze_scan(
 // Whether frozen part k stays: its track has a window, or its age is at most forget_after_ns.
 fn is_kept(at: Moment, held: &HeldRef<'_>, tracks: &[u64; PARTS], k: usize) -> bool
     requires { (k < FROZEN) × (time_ok (part_last_ns tracks.now k) ≡ true) }
-    ensures { result ≡ kept_in at.config at.time (scans_in held.now.scans.now.bodies held.now.scans.now.columns held.now.first.0 held.now.count) tracks.now k }
+    ensures { result
+        ≡ kept_in at.config at.time (scans_in held.now.scans.now.bodies held.now.scans.now.columns held.now.first.0 held.now.count) tracks.now k }
 {
     held.windows_in(part_id(tracks, k)) || at.part_age(tracks, k) <= at.config.forget_after_ns
 }

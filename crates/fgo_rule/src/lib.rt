@@ -66,7 +66,10 @@ fn column_ok(next: RefinedId, s: &HeldScan<'_>) -> bool
 fn scan_ok(next: RefinedId, scans: &Scans, n: ScanIndex) -> bool
     ensures { result ≡ scan_ok next.0 scans.now.bodies scans.now.columns n.0 }
 {
-    engine_check::check_body(&scans.body(n)).is_ok() && column_ok(next, &scans.held(n))
+    let Ok(frame) = engine_check::check_body(&scans.body(n)) else {
+        return false;
+    };
+    column_ok(next, &HeldScan { scans, n, frame })
 }
 
 fn scans_ok(next: RefinedId, h: &HeldRef<'_>) -> bool

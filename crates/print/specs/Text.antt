@@ -1,6 +1,6 @@
 -- Document 01, "Recording and print": what the programs print, as bytes, in the words and numbers of a frame. Definitions only.
-use Rattle.std.specs.Prelude.{ℕ, zero, suc, ◌+◌, ◌-◌, ◌*◌, ◌^◌, ◌≤◌, ◌<◌, ◌≡◌, cond, List, [], ◌∷◌, ◌++◌, length, take, get_or, leb, ℤ, pos, negsuc, Float}
-use Rattle.std.specs.Prelude.{Result, Ok, Err}
+use Rattle.std.specs.Prelude.{ℕ, zero, suc, ◌+◌, ◌-◌, ◌*◌, ◌^◌, ◌≤◌, ◌<◌, ◌≡◌, cond, leb, ℤ, pos, negsuc}
+use Rattle.std.specs.Prelude.{List, [], ◌∷◌, ◌++◌, length, take, get_or, Float, Result, Ok, Err}
 use Prim.Native.String.{String}
 use Prim.Native.Char.{code}
 use Rattle.std.specs.Float.{nan}

@@ -1,5 +1,5 @@
 // A pass over the pairs of tracks that come close.
-ghost use Rattle.std.specs.Prelude.{◌≡◌, true, false, List, ℕ, ◌+◌, ◌-◌, ◌<◌, max, min, get_or, drop, replicate, is_none};
+ghost use Rattle.std.specs.Prelude.{◌≡◌, true, List, ℕ, ◌+◌, ◌-◌, ◌<◌, max, min, get_or, drop, is_none};
 ghost use Rattle.bounds.specs.Bounds.{DETECTIONS, SCANS};
 ghost use Rattle.engine.specs.Config.{radius};
 ghost use Rattle.fgo_spec.specs.Searching.{square};

@@ -1,5 +1,6 @@
 -- Which pairs of rows come close, and in which scans: document 01's list of pairs. Definitions only.
-use Rattle.std.specs.Prelude.{ℕ, ◌+◌, ◌-◌, ◌≤◌, ◌<◌, ◌≡◌, Bool, true, false, cond, ◌&&◌, List, map, get_or, eqb, leb, Float, Option}
+use Rattle.std.specs.Prelude.{ℕ, ◌+◌, ◌-◌, ◌≤◌, ◌<◌, ◌≡◌, Bool, true, false, cond, ◌&&◌, eqb, leb}
+use Rattle.std.specs.Prelude.{List, map, get_or, Float, Option}
 use Rattle.std.specs.Bool.{then_some}
 use Rattle.std.specs.Float.{nan}
 use Rattle.std.specs.Float.Ieee.{lt}

@@ -1,5 +1,5 @@
 use Prim.Native.Nat.{◌+◌, ◌<◌}
-use mathlib.Core.Path.{◌≡◌, sym, ap, ◌∙◌}
+use mathlib.Core.Path.{◌≡◌, refl, sym, ap, ◌∙◌}
 use native.Mathlib.Omega.{arith}
 use lib.ListN.{length, get_or}
 use Rattle.bounds.specs.Bounds.{ACCEPTED}
@@ -12,7 +12,7 @@ use Rattle.fgo_state.specs.Memory.{body_at, id_at, scan_in}
 use Rattle.fgo_freeze.specs.Frozen.{detection_by, seen_in}
 use Rattle.fgo_state.proofs.Columns.{scan_frame, associations_long, ids_long, id_here}
 use Rattle.fgo_state.proofs.Counts.{associations_few}
-use Rattle.fgo_freeze.proofs.Held.{read, named}
+use Rattle.fgo_state.proofs.GatheringHeld.{lies_at}
 use Rattle.fgo_freeze.proofs.FrozenScan.{going_none, going_skip, going_room, going_one, going_done}
 use Rattle.fgo_freeze.proofs.freeze_scan.Goals as goal
 use Rattle.fgo_freeze.proofs.freeze_scan.Goals.{then-id-gt0, else-id-gt0}
@@ -28,11 +28,12 @@ freeze_one-f-requires c =
     let a = c.args in
     let v = c.loop-j in
     let s = scan_in a.scans.now.bodies a.scans.now.columns a.n.0 in
-    let eb = read c.held-s.result.lies c.held-s.ensures in
+    let p = lies_at c.held-s.result c.held-s.ensures refl in
+    let eb = p.2 in
     let ec = c.count-j-end.ensures.count in
     let h : v.j < c.count-j-end.result = c.loop-j-test.true in
     let q : get_or s.ids v.j 0 ≡ id_at a.scans.now.columns a.n.0 v.j = id_here a.scans.now.bodies a.scans.now.columns a.n.0 eb v.j (omega arith) in
-    let x : 0 < get_or s.ids v.j 0 = omega (arith, named v.j c.id-id.ensures c.held-s.ensures, c.if-id-gt0.true) in
+    let x : 0 < get_or s.ids v.j 0 = omega (arith, (rw (p.0, p.1) at c.id-id.ensures), c.if-id-gt0.true) in
     let l : length (table_in v.parts.tracks v.parts.filters v.f) ≡ v.f = length-rows _ 0 v.f in
     let r = going_room a.c a.n.0 s (table_in a.parts.now.tracks a.parts.now.filters a.frozen) v.invariant.1 (omega (arith, associations_long a.scans.now.bodies a.scans.now.columns a.n.0 eb)) (omega (arith, ids_long a.scans.now.bodies a.scans.now.columns a.n.0 eb)) x in
     record {
@@ -49,10 +50,11 @@ loop-j-preserved c =
     let v = c.loop-j in
     let s = scan_in a.scans.now.bodies a.scans.now.columns a.n.0 in
     let t = table_in a.parts.now.tracks a.parts.now.filters a.frozen in
-    let eb = read c.held-s.result.lies c.held-s.ensures in
+    let p = lies_at c.held-s.result c.held-s.ensures refl in
+    let eb = p.2 in
     let ec = c.count-j-end.ensures.count in
     let h : v.j < c.count-j-end.result = c.loop-j-test.true in
-    let q : c.id-id.result.0 ≡ get_or s.ids v.j 0 = named v.j c.id-id.ensures c.held-s.ensures ∙ sym (id_here a.scans.now.bodies a.scans.now.columns a.n.0 eb v.j (omega arith)) in
+    let q : c.id-id.result.0 ≡ get_or s.ids v.j 0 = (rw (p.0, p.1) at c.id-id.ensures) ∙ sym (id_here a.scans.now.bodies a.scans.now.columns a.n.0 eb v.j (omega arith)) in
     let la : v.j < length s.frame.associations = omega (arith, associations_long a.scans.now.bodies a.scans.now.columns a.n.0 eb) in
     let li : v.j < length s.ids = omega (arith, ids_long a.scans.now.bodies a.scans.now.columns a.n.0 eb) in (
       omega arith,
@@ -69,6 +71,7 @@ pub returns : goal.returns
 returns c =
     let a = c.args in
     let v = c.loop-j in
-    let eb = read c.held-s.result.lies c.held-s.ensures in
+    let p = lies_at c.held-s.result c.held-s.ensures refl in
+    let eb = p.2 in
     let ec = c.count-j-end.ensures.count in
     going_done a.c a.n.0 (scan_in a.scans.now.bodies a.scans.now.columns a.n.0) (table_in a.parts.now.tracks a.parts.now.filters a.frozen) v.invariant.1 (omega (arith, associations_long a.scans.now.bodies a.scans.now.columns a.n.0 eb, ec))

@@ -1,16 +1,15 @@
 use Prim.Native.Nat.{ℕ}
-use mathlib.Core.Path.{◌≡◌, refl, sym, ◌∙◌}
-use mathlib.Core.Bool.{Bool, false, ◌&&◌, true≢false}
+use mathlib.Core.Path.{◌≡◌, refl, ap, ◌∙◌}
+use mathlib.Core.Bool.{Bool, false, ◌&&◌}
 use mathlib.Core.List.{List}
 use lib.Dec.{eqb}
 use Rattle.std.specs.Prelude.{Result, Ok, Err}
-use Rattle.std.specs.Result.{MatchResult, is_ok}
-use Rattle.engine.specs.Body.{Body, body_refusal}
+use Rattle.std.specs.Result.{MatchResult}
+use Rattle.engine.specs.Body.{Body, body_of, body_refusal}
 use Rattle.refusals.specs.declared.Refusal.{Refusal}
 use Rattle.refusals.specs.Refusals.{number_of}
 use Rattle.refusals.proofs.Refused.{numbered}
 use Rattle.fgo_rule.specs.Tests.{column_in, scan_ok}
-use Rattle.fgo_state.proofs.GatheringHeld.{lies_at}
 use Rattle.fgo_rule.proofs.scan_ok.Goals as goal
 
 module _ (next : ℕ) (columns : List ℕ) (n : ℕ) {a b : Body} (e : a ≡ b) {t : Bool} where
@@ -22,17 +21,14 @@ module _ (next : ℕ) (columns : List ℕ) (n : ℕ) {a b : Body} (e : a ≡ b) 
   other z h = rw (← e, z) h
 
 -- a body that is refused
-refused : {T : Type 0} (P : T → Type 0) (n : ℕ) (r : Result T Refusal) → MatchResult r P (λ e. number_of e ≡ n) → is_ok r ≡ false → eqb n 0 ≡ false
-refused P n (Ok x) h e = absurd (true≢false e)
+refused : {T : Type 0} (P : T → Type 0) (n : ℕ) (r : Result T Refusal) → MatchResult r P (λ e. number_of e ≡ n) → ((x : T) → r ≡ Ok x → ⊥) → eqb n 0 ≡ false
+refused P n (Ok x) h e = absurd (e x refl)
 refused P n (Err e) h q = rw (← h) (numbered e)
 
-pub returns-then-is_ok : goal.returns-then-is_ok
+pub returns-in_default : goal.returns-in_default
 unfolding scan_ok
-returns-then-is_ok c =
-    let a = lies_at c.held.result c.held.ensures refl in
-    column _ _ _ a.2 c.held.result.frame.passes (rw (a.0, a.1) at c.column_ok.ensures)
+returns-in_default c = other _ _ _ c.body.ensures (refused _ _ c.check_body.result c.check_body.ensures c.in_default.not-Ok) refl
 
-pub returns-else-is_ok : goal.returns-else-is_ok
+pub returns : goal.returns
 unfolding scan_ok
-returns-else-is_ok c =
-    other _ _ _ c.body.ensures (refused _ _ c.check_body.result c.check_body.ensures (sym c.is_ok.ensures.value ∙ c.if-is_ok.false)) c.if-is_ok.false
+returns c = column _ _ _ (ap body_of c.in-Ok.ensures ∙ c.body.ensures) c.in-Ok.frame.passes c.column_ok.ensures

@@ -10,53 +10,21 @@ loop-j-init c = gathers_none _ _ _ _ _ _
 
 pub offset_bounds-ids-p : goal.offset_bounds-ids-p
 offset_bounds-ids-p c =
-    let v = c.loop-j in
-    let e = c.count-j-end.ensures in
-    let l = c.loop-j-test.true in
-    let i = c.id-id.ensures in
-    let h = c.if-id-gt0.true in
-    let r = gathers_room _ _ _ _ _ _ c.requires v.invariant (omega arith) (omega arith) in
-    omega (arith, v.invariant.ids.long)
+    let r = gathers_room _ _ _ _ _ _ c.requires c.loop-j.invariant (omega (arith, c.loop-j-test.true, c.count-j-end.ensures.count)) (omega (arith, c.id-id.ensures, c.if-id-gt0.true)) in omega (arith, c.loop-j.invariant.ids.long, r.0)
 
 pub bounds-ids-p : goal.bounds-ids-p
-bounds-ids-p c =
-    let v = c.loop-j in
-    let e = c.count-j-end.ensures in
-    let l = c.loop-j-test.true in
-    let i = c.id-id.ensures in
-    let h = c.if-id-gt0.true in
-    let r = gathers_room _ _ _ _ _ _ c.requires v.invariant (omega arith) (omega arith) in
-    r.0
+bounds-ids-p c = (gathers_room _ _ _ _ _ _ c.requires c.loop-j.invariant (omega (arith, c.loop-j-test.true, c.count-j-end.ensures.count)) (omega (arith, c.id-id.ensures, c.if-id-gt0.true))).0
 
 pub offset_bounds-engines-p : goal.offset_bounds-engines-p
 offset_bounds-engines-p c =
-    let v = c.loop-j in
-    let e = c.count-j-end.ensures in
-    let l = c.loop-j-test.true in
-    let i = c.id-id.ensures in
-    let h = c.if-id-gt0.true in
-    let r = gathers_room _ _ _ _ _ _ c.requires v.invariant (omega arith) (omega arith) in
-    omega (arith, v.invariant.ids.long)
+    let r = gathers_room _ _ _ _ _ _ c.requires c.loop-j.invariant (omega (arith, c.loop-j-test.true, c.count-j-end.ensures.count)) (omega (arith, c.id-id.ensures, c.if-id-gt0.true)) in omega (arith, c.loop-j.invariant.ids.long, r.0)
 
 pub bounds-engines-p : goal.bounds-engines-p
-bounds-engines-p c =
-    let v = c.loop-j in
-    let e = c.count-j-end.ensures in
-    let l = c.loop-j-test.true in
-    let i = c.id-id.ensures in
-    let h = c.if-id-gt0.true in
-    let r = gathers_room _ _ _ _ _ _ c.requires v.invariant (omega arith) (omega arith) in
-    r.1
+bounds-engines-p c = (gathers_room _ _ _ _ _ _ c.requires c.loop-j.invariant (omega (arith, c.loop-j-test.true, c.count-j-end.ensures.count)) (omega (arith, c.id-id.ensures, c.if-id-gt0.true))).1
 
 pub overflow_add-p : goal.overflow_add-p
 overflow_add-p c =
-    let v = c.loop-j in
-    let e = c.count-j-end.ensures in
-    let l = c.loop-j-test.true in
-    let i = c.id-id.ensures in
-    let h = c.if-id-gt0.true in
-    let r = gathers_room _ _ _ _ _ _ c.requires v.invariant (omega arith) (omega arith) in
-    omega (arith, v.invariant.ids.long)
+    let r = gathers_room _ _ _ _ _ _ c.requires c.loop-j.invariant (omega (arith, c.loop-j-test.true, c.count-j-end.ensures.count)) (omega (arith, c.id-id.ensures, c.if-id-gt0.true)) in omega (arith, c.loop-j.invariant.ids.long, r.0)
 
 pub loop-j-preserved : goal.loop-j-preserved
 loop-j-preserved c =
