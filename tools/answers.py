@@ -1,18 +1,25 @@
 #!/usr/bin/env python3
 """Turns the proofs of an older Rattle to today's two files, function by function.
 
-usage: python3 tools/answers.py ROOT NAMES CRATE[:PATH] ..      once, after port.py and tools/respell.py; with PATH, functions that end so
+usage: python3 tools/answers.py ROOT NAMES CRATE[:PATH] ..      once, after port.py and tools/respell.py; with PATH,
+functions that end so
 
-ROOT is the top of the repository.  NAMES/CRATE/names.json is what `rt names NAMES/CRATE` writes in the crate's folder: of each function
+ROOT is the top of the repository.  NAMES/CRATE/names.json is what `rt names NAMES/CRATE` writes in the crate's folder:
+of each function
 the goals, places, steps and loops by their old and their new names.
 
-Before, proofs/F/Proof.antt answered each goal by a function of the place at which it was asked, and cited what held there by going back
-place by place (`c.before.before.if1.true`); an invariant had a loop's variables as parameters.  Now Answers.antt cites steps by their
-names (`c.if-NAME.true`), and Invariants.antt fields of the loop's state (`l.NAME`, `l.initial.NAME`).  An answer to several clauses,
-once a tuple, is a record.  An answer that only says `search rules`, or `tt`, goes: the check finds it.  Helpers of the file go with the
+Before, proofs/F/Proof.antt answered each goal by a function of the place at which it was asked, and cited what held
+there by going back
+place by place (`c.before.before.if1.true`); an invariant had a loop's variables as parameters.  Now Answers.antt cites
+steps by their
+names (`c.if-NAME.true`), and Invariants.antt fields of the loop's state (`l.NAME`, `l.initial.NAME`).  An answer to
+several clauses,
+once a tuple, is a record.  An answer that only says `search rules`, or `tt`, goes: the check finds it.  Helpers of the
+file go with the
 answers.  Proof.antt is removed.
 
-Lines `CRATE PATH NOTE ..` say what was left to be done by hand; `RAW` is a proof that walks the code and is not touched.
+Lines `CRATE PATH NOTE ..` say what was left to be done by hand; `RAW` is a proof that walks the code and is not
+touched.
 """
 import json
 import os
@@ -52,7 +59,8 @@ def signature(block):
 
 
 def parts_of(block, name):
-    """A definition's remarks, its line `unfolding`, its parameters and its right side; None where it goes by clauses."""
+    """A definition's remarks, its line `unfolding`, its parameters and its right side; None where it goes by
+    clauses."""
     remarks = [l for l in block if l.startswith("--")]
     lines = [l for l in block if not l.startswith("--")][1:]
     unfolding = [l for l in lines if l.startswith("unfolding")]
@@ -301,7 +309,8 @@ def answers(function, goals, notes):
 
 
 def loop_fields(function, loop, parameters, notes):
-    """What each parameter of an invariant is as a field: a loop's variables as they were at its beginning, then again those that it changes."""
+    """What each parameter of an invariant is as a field: a loop's variables as they were at its beginning, then again
+    those that it changes."""
     variables = function.said["loops"][loop][1]
     changed = [v for v, c in zip(variables, function.said["changed"][loop]) if c]
     if len(parameters) != len(variables) + len(changed):

@@ -3,8 +3,8 @@
 
     tools/places.py [-l] [TREE]
 
--l lists each place by file and line. What a count cannot judge (whether two functions are twins, whether an enum stands in for an Option) the page says itself.
-"""
+-l lists each place by file and line. What a count cannot judge (whether two functions are twins, whether an enum stands
+in for an Option) the page says itself. """
 import glob
 import os
 import re
@@ -56,7 +56,8 @@ def wide(limit):
 
 
 def same_shape():
-    """Functions of at least three lines whose bodies are equal but for types, numbers and the names of what they call."""
+    """Functions of at least three lines whose bodies are equal but for types, numbers and the names of what they
+    call."""
     seen = {}
     for f, n, name, ps, shape in functions():
         if len(shape) > 60:

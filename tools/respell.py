@@ -3,8 +3,10 @@
 
 usage: python3 tools/respell.py [--dry]      at the top of the repository, once, after port.py
 
-Definitions and fields are in snake case (`timeOf` is `time_of`, the field `few-sensors` is `few_sensors`).  In a lemma's name a dash
-joins two names of definitions (`fold-append`); a plain word is added with `_` (`run_law`).  Types and the names of constants of src/
+Definitions and fields are in snake case (`timeOf` is `time_of`, the field `few-sensors` is `few_sensors`).  In a
+lemma's name a dash
+joins two names of definitions (`fold-append`); a plain word is added with `_` (`run_law`).  Types and the names of
+constants of src/
 keep their capitals.  Names of functions of src/, strings, inputs and outputs are not touched.
 """
 import collections
@@ -120,7 +122,8 @@ LENT = re.compile(r"^(?:ghost )?use (?!Rattle\.(?!std\b|core\b))[^\n{]*\{([^}]*)
 
 
 def turned(text, turn, comment):
-    """The text with each whole name that the table has, turned; a line comment keeps its dashed words, and a name that the file has
+    """The text with each whole name that the table has, turned; a line comment keeps its dashed words, and a name that
+    the file has
     from the library is turned as a field alone."""
     lent = {n.split(" as ")[-1].strip() for names in LENT.findall(text) for n in names.split(",")} & set(turn)
     lines = []

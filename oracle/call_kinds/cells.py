@@ -1,4 +1,5 @@
-"""What the callers keep after a list of calls, as the oracle says: a refiner's and a smoother's fields and memory, cell by cell; and the calls that change one into another."""
+"""What the callers keep after a list of calls, as the oracle says: a refiner's and a smoother's fields and memory, cell
+by cell; and the calls that change one into another."""
 import struct
 
 from .writing import write, write_smoother
@@ -9,7 +10,8 @@ DENSITY, TRACKS_MOST, OLDEST, HELD_FRAMES = 1, 2, 3, 4
 
 
 class Link:
-    """An association of a held scan: its scan's place among those held, its own place, its engine id or None, its track or 0; where its cells are."""
+    """An association of a held scan: its scan's place among those held, its own place, its engine id or None, its track
+    or 0; where its cells are."""
 
     def __init__(self, scan, place, engine, id, column, at):
         self.scan, self.place, self.engine, self.id, self.column, self.at = scan, place, engine, id, column, at
@@ -33,7 +35,8 @@ class Image:
         return Image(out.ask("calls_cells"))
 
     def copy(self):
-        """A copy to be changed. It notes the cells that were put, since these may have lain past the counts, where the oracle does not know what there is."""
+        """A copy to be changed. It notes the cells that were put, since these may have lain past the counts, where the
+        oracle does not know what there is."""
         new = object.__new__(Image)
         new.refiner, new.smoother, new.window, new.room = [list(a) for a in self.refiner], [list(a) for a in self.smoother], self.window, self.room
         new.touched = set()
@@ -122,7 +125,8 @@ class Image:
         self.put(self.refiner, 3, old, cells[old:])
 
     def mend_owners(self):
-        """Makes the owner table fit the windows again: each engine id in one goes to the holder of its latest, entries without a live owner go."""
+        """Makes the owner table fit the windows again: each engine id in one goes to the holder of its latest, entries
+        without a live owner go."""
         latest, live = self.latest(), self.live()
         old = dict(self.entries())
         both = {**old, **latest}
@@ -161,7 +165,8 @@ class Image:
 
 
 def changes(old, new, changed=None):
-    """The calls that make one image of another: of the cells that differ, and of those that were put in the changed one of the two."""
+    """The calls that make one image of another: of the cells that differ, and of those that were put in the changed one
+    of the two."""
     touched, out = (changed or new).touched, []
     for which, make, a, b in ((False, write, old.refiner, new.refiner), (True, write_smoother, old.smoother, new.smoother)):
         for place, (x, y) in enumerate(zip(a, b)):

@@ -1,6 +1,7 @@
-"""The digests that the program calls prints, as far as they can be told. Those of the output buffers are known, since each frame is printed in full and the rest stays. Those of
-the refiner and of the smoother are known until a push or a take is carried out, which may leave anything past the counts; from then on they are held to each other: what was
-not written has the digest that it had, and what was written otherwise has another."""
+"""The digests that the program calls prints, as far as they can be told. Those of the output buffers are known, since
+each frame is printed in full and the rest stays. Those of the refiner and of the smoother are known until a push or a
+take is carried out, which may leave anything past the counts; from then on they are held to each other: what was not
+written has the digest that it had, and what was written otherwise has another."""
 import functools
 import re
 import struct
@@ -32,7 +33,8 @@ def is_nan(bits):
 
 
 class Store:
-    """Fields and arrays. sizes: how many cells each place has; bytes: the place that has cells of a byte; floats: of the places with floats, where."""
+    """Fields and arrays. sizes: how many cells each place has; bytes: the place that has cells of a byte; floats: of
+    the places with floats, where."""
 
     def __init__(self, name, sizes, bytes=None, floats={}):
         self.name, self.bytes, self.floats = name, bytes, floats
@@ -87,7 +89,8 @@ class Stores:
 
 
 def held_to_each_other(recording, printed):
-    """What the program printed, with `-` for the numbers of each digest that is as it should be; apart from these it is what it should print."""
+    """What the program printed, with `-` for the numbers of each digest that is as it should be; apart from these it is
+    what it should print."""
     stores, lines, out = Stores(), printed.split("\n"), []
     for call, told in answers(split(recording), lines):
         code = code_of(call) if len(call) >= 8 else None

@@ -1,5 +1,5 @@
-"""Changes of what is free in a refiner's state: each makes another sound state of a sound one, and gives False where there is nothing to change; and cells that no count
-reaches."""
+"""Changes of what is free in a refiner's state: each makes another sound state of a sound one, and gives False where
+there is nothing to change; and cells that no count reaches."""
 import struct
 
 from .cells import BODY, COAST, COLUMN, COUNTS, FILTER, FIRST, FORGET, FROZEN, HELD, LAG, NEXT, PART, PASSES, SLOTS
@@ -230,8 +230,8 @@ FREE = [
 
 
 def past_the_counts(r, s, each=2):
-    """Calls that write cells which no count reaches: past a body's length and a scan's associations, slots that are not held, past the owners, the frozen parts and the
-    heights of each."""
+    """Calls that write cells which no count reaches: past a body's length and a scan's associations, slots that are not
+    held, past the owners, the frozen parts and the heights of each."""
     held = {slot: s.body(slot) for slot in s.slots()}
     bytes_at, words_at = [], []
     for slot in range(SLOTS):

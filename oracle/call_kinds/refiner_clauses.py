@@ -1,5 +1,6 @@
-"""The refiner's state rule broken, clause by clause: a function for each, named as in the oracle's rule.rs. Each changes a sound image so that the clause does not hold, and
-gives False where the state has nothing to break; as far as it can it breaks no other clause."""
+"""The refiner's state rule broken, clause by clause: a function for each, named as in the oracle's rule.rs. Each
+changes a sound image so that the clause does not hold, and gives False where the state has nothing to break; as far as
+it can it breaks no other clause."""
 from .cells import BODY, COLUMN, FIRST, FROZEN, HELD, LAG, NEXT, OWNED, PART, PASSES, SLOTS
 from .writing import ALL, MOST, bits
 

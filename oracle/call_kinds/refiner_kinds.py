@@ -55,7 +55,8 @@ def played(out, settings, bodies, takes):
 
 
 def refiner(out):
-    """A refiner: a recording as calls, takes anywhere, counters now and then; at the end takes until none is held and once more."""
+    """A refiner: a recording as calls, takes anywhere, counters now and then; at the end takes until none is held and
+    once more."""
     r = out.r
     if r.random() < 0.1:
         out.refused(push(b""), TAKE, COUNTERS, opening(generate.settings(lag=17)), TAKE)
@@ -155,7 +156,8 @@ def buffers(out):
 
 
 def hall(r):
-    """Settings and bodies with which scans are held, parts frozen and ids owned, dots without an engine id, engine ids twice in a scan."""
+    """Settings and bodies with which scans are held, parts frozen and ids owned, dots without an engine id, engine ids
+    twice in a scan."""
     settings = generate.settings(lag=r.randint(2, 6), coast=r.choice((5 * 10**8, 10**18)), forget=r.choice((2 * 10**9, 10**18)))
     people = generate.Hall(r, r.randint(2, 4), r.choice((3.0, 6.0, 30.0)))
     return settings, generate.run(r, people, 60, swap=0.1, twice=0.25, lose=0.05, loose=0.25, extras=True)
@@ -187,7 +189,8 @@ def broken_once(out, image, s, bodies, seen=0.4):
 
 
 def broken(out):
-    """A refiner's state broken cell by cell in each clause of its rule and put back; cells that no count reaches changed and not noticed."""
+    """A refiner's state broken cell by cell in each clause of its rule and put back; cells that no count reaches
+    changed and not noticed."""
     r = out.r
     crowded = r.random() < 0.25
     settings, bodies = standing(r) if crowded else hall(r)

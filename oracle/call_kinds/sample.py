@@ -21,7 +21,8 @@ def scan(time, ids):
 
 
 def smoothed(out):
-    """A smoother: a little of each kind of covariance with lag 3, density 0.7 and C 3, and a frame malformed in each way."""
+    """A smoother: a little of each kind of covariance with lag 3, density 0.7 and C 3, and a frame malformed in each
+    way."""
     r = out.r
     out.add(TAKE_SMOOTHED, PUSH_LAST, smoother(17, bits(0.7), 3), smoother(3, bits(math.nan), 3), smoother(3, bits(0.7), 129), smoother(3, bits(0.7), 3), TAKE_SMOOTHED, PUSH_LAST)
     for covariance, room in ((refined, 3000), (dense, 3000), (broken, 3000), (wild, 3500), (whole, 5000)):
@@ -83,7 +84,8 @@ def refined_and_smoothed(out):
 
 
 def full(out):
-    """32 people whose engine ids change at every scan, and whose tracks are joined: 256 engine ids are owned and 10 refuses one more. Then 9; then 8, at the last scan's number."""
+    """32 people whose engine ids change at every scan, and whose tracks are joined: 256 engine ids are owned and 10
+    refuses one more. Then 9; then 8, at the last scan's number."""
     out.add(opening(generate.settings(lag=1, coast=-1, forget=10**18)))
     for k in range(8):
         out.add(push(scan(STEP * k, range(1 + 32 * k, 33 + 32 * k))))
@@ -115,7 +117,8 @@ def kept(out):
 
 
 def sample(out):
-    """What `rt ci` plays: a little of each kind, every code, every refusal but those of a recording, and a bad call at the end."""
+    """What `rt ci` plays: a little of each kind, every code, every refusal but those of a recording, and a bad call at
+    the end."""
     smoothed(out)
     refined_and_smoothed(out)
     full(out)

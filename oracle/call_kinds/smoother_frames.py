@@ -41,7 +41,8 @@ def wild(r):
 
 
 def whole(r):
-    """One of whole numbers and zeros of both signs: nothing but zeros; a diagonal; or m·mᵀ a second before, with m below the diagonal. A 0 on the diagonal makes it singular."""
+    """One of whole numbers and zeros of both signs: nothing but zeros; a diagonal; or m·mᵀ a second before, with m
+    below the diagonal. A 0 on the diagonal makes it singular."""
     zero = r.choice((lambda: 0.0, lambda: -0.0, lambda: r.choice((0.0, -0.0))))
     some = lambda: float(r.randint(1, 4)) if r.random() < 0.8 else zero()
     kind = r.randrange(3)

@@ -88,7 +88,8 @@ def malformed(out):
 
 
 def settings(out):
-    """A smoother: openings in bounds and out of them, one after the other, and lists that end early or in a bad call."""
+    """A smoother: openings in bounds and out of them, one after the other, and lists that end early or in a bad
+    call."""
     r = out.r
     for _ in range(r.randint(1, 4)):
         lag = r.choice((0, 16, 17, ALL, 1 << 63, r.randint(0, 16)))

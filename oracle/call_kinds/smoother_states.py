@@ -1,4 +1,5 @@
-"""A smoother's state changed cell by cell: broken in each clause of its rule, or to another sound one; and cells that no frame reaches."""
+"""A smoother's state changed cell by cell: broken in each clause of its rule, or to another sound one; and cells that
+no frame reaches."""
 from .cells import DENSITY, HELD_FRAMES, LAG, OLDEST, TRACKS_MOST, Image, changes
 from .refiner_changes import ANY
 from .refiner_clauses import NOT_FINITE
@@ -182,7 +183,8 @@ def small(out, lag, most):
 
 
 def smoother_broken(out):
-    """A smoother's state broken cell by cell in each clause of its rule and put back; cells that no frame reaches changed and not noticed."""
+    """A smoother's state broken cell by cell in each clause of its rule and put back; cells that no frame reaches
+    changed and not noticed."""
     r = out.r
     lag, most = r.choice((0, 1, 2, 3, 4, 16)), r.choice((1, 2, 3, 128))
     more = small(out, lag, most)

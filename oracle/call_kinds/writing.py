@@ -1,4 +1,5 @@
-"""Calls as the program `calls` reads them, and a list of them that can be played through the oracle while it is written."""
+"""Calls as the program `calls` reads them, and a list of them that can be played through the oracle while it is
+written."""
 import struct
 import subprocess
 

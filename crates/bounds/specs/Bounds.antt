@@ -1,7 +1,7 @@
 -- Every bound and every stride, by name, as the code has them in src/lib.rt. Definitions only.
 --
--- A name in the singular says how long one is (BODY), and that in the plural how long the array of all of them is (BODIES); how many there are at most has a
--- name of its own (SCANS).
+-- A name in the singular says how long one is (BODY), and that in the plural how long the array of all of them is
+-- (BODIES); how many there are at most has a name of its own (SCANS).
 use Rattle.std.specs.Prelude.{ℕ, ◌+◌, ◌-◌, ◌*◌, ◌^◌}
 
 -- ---- scans
@@ -156,10 +156,6 @@ PARTS = FROZEN * PART
 abbrev pub FILTERS : ℕ
 FILTERS = FROZEN * FILTER
 
--- Engine ids with an owner, joined with a frame's.
-abbrev pub JOINED : ℕ
-JOINED = OWNED + ASSOCIATIONS
-
 -- ---- the search
 
 -- Where each scan's detections begin, and where the last one's end.
@@ -238,7 +234,8 @@ DECIMAL = 21
 abbrev pub HEXADECIMAL : ℕ
 HEXADECIMAL = 17
 
--- The bytes of the longest text of a frame: in full, where its two lines have names of 5 and 7 bytes and an end. In short it is shorter.
+-- The bytes of the longest text of a frame: in full, where its two lines have names of 5 and 7 bytes and an end. In
+-- short it is shorter.
 abbrev pub TEXT : ℕ
 TEXT = 6 + DECIMAL * WORDS + (8 + HEXADECIMAL * NUMBERS)
 

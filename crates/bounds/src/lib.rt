@@ -1,8 +1,9 @@
-// Every bound and every stride, by name: what a frame, a scan, a recording and the lent memory have room for, and how many bytes, words or numbers a part of
-// each has. Most follow from a few. specs/Bounds.antt has the same names for the definitions.
+// Every bound and every stride, by name: what a frame, a scan, a recording and the lent memory have room for, and how
+// many bytes, words or numbers a part of each has. Most follow from a few. specs/Bounds.antt has the same names for the
+// definitions.
 //
-// A name in the singular says how long one is (BODY), and that in the plural how long the array of all of them is (BODIES); how many there are at most has a
-// name of its own (SCANS).
+// A name in the singular says how long one is (BODY), and that in the plural how long the array of all of them is
+// (BODIES); how many there are at most has a name of its own (SCANS).
 #![tactic(auto)]
 
 // ---- scans
@@ -125,9 +126,6 @@ pub const PARTS: usize = FROZEN * PART;
 // with their numbers.
 pub const FILTERS: usize = FROZEN * FILTER;
 
-// Engine ids with an owner, joined with a frame's.
-pub const JOINED: usize = OWNED + ASSOCIATIONS;
-
 // ---- the search
 
 // Where each scan's detections begin, and where the last one's end.
@@ -182,7 +180,8 @@ pub const DECIMAL: usize = 21;
 // The bytes of a number in hexadecimal: a space, and 16 digits.
 pub const HEXADECIMAL: usize = 17;
 
-// The bytes of the longest text of a frame: in full, where its two lines have names of 5 and 7 bytes and an end. In short it is shorter.
+// The bytes of the longest text of a frame: in full, where its two lines have names of 5 and 7 bytes and an end. In
+// short it is shorter.
 pub const TEXT: usize = 6 + DECIMAL * WORDS + (8 + HEXADECIMAL * NUMBERS);
 
 // ---- a list of calls

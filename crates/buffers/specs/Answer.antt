@@ -1,4 +1,5 @@
--- What refiner and smoother answer alike: an opening, and a push or a take, with the buffers that are lent for a frame. Definitions only.
+-- What refiner and smoother answer alike: an opening, and a push or a take, with the buffers that are lent for a frame.
+-- Definitions only.
 use Rattle.std.specs.Prelude.{ℕ, zero, suc, ◌≤◌, ◌≡◌, Bool, ◌&&◌, List, length, leb, Float, Result, Ok, Err, Some, None}
 use Rattle.std.specs.Prelude.{Option as Maybe}
 use Rattle.std.proofs.Math.Option.{Option, none, some}
@@ -102,13 +103,15 @@ module _ {E : Type 0} (written : E → Written) where
   Small waits = Unit {0}
   Small (gives e) = (length (written e).words ≤ WORDS) × (length (written e).numbers ≤ NUMBERS)
 
--- "After it the state and the lent buffers hold what they held before the call": of a value r that is handed on, and the memory m that goes with it
+-- "After it the state and the lent buffers hold what they held before the call": of a value r that is handed on, and
+-- the memory m that goes with it
 abbrev pub Unchanged : {E R M : Type 0} → Reply E → R → M → R → M → Type 0
 Unchanged (refused n) r m r' m' = (r' ≡ r) × (m' ≡ m)
 Unchanged waits r m r' m' = Unit {0}
 Unchanged (gives e) r m r' m' = Unit {0}
 
--- A call that is given the value r, the memory m and the buffers ws and ns, and is due the reply and the state a: what it answers, and what it leaves.
+-- A call that is given the value r, the memory m and the buffers ws and ns, and is due the reply and the state a: what
+-- it answers, and what it leaves.
 module _ {E S R M : Type 0} (written : E → Written) (state_of : R → M → S) where
   pub record Ends (a : Reply E × S) (r : R) (m : M) (ws : List ℕ) (ns : List Float)
       (answer : Answer) (r' : R) (m' : M) (ws' : List ℕ) (ns' : List Float) : Type 0 where

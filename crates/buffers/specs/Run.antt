@@ -1,4 +1,5 @@
--- What any list of pushes and takes leads to, refused ones included: of a refiner and of a smoother alike. Definitions only.
+-- What any list of pushes and takes leads to, refused ones included: of a refiner and of a smoother alike. Definitions
+-- only.
 use Rattle.std.specs.Prelude.{ℕ}
 use mathlib.Core.List.{List, [], ◌∷◌, ◌++◌, foldl}
 use Rattle.std.proofs.Math.Option.{Option, none, some}

@@ -1,5 +1,5 @@
-// The buffers that a caller lends for a frame: words and numbers put into one, when both are long enough, and the answer that says how much of them a frame
-// takes. Refiner and smoother answer alike. And an array read out of a list.
+// The buffers that a caller lends for a frame: words and numbers put into one, when both are long enough, and the
+// answer that says how much of them a frame takes. Refiner and smoother answer alike. And an array read out of a list.
 #![tactic(auto)]
 
 ghost use Rattle.std.specs.Prelude.{◌≡◌, ◌+◌, ◌≤◌, length, take, drop};

@@ -19,7 +19,8 @@ use Rattle.calls_smoother.specs.declared.window.Room.TheVariants.{Asked, Said}
 use Rattle.calls_smoother.specs.Smoothing.{window_in, Smooths}
 use Rattle.calls.specs.declared.calling.Desk.{Desk}
 
--- "Before an opening a refiner or smoother is all zeros": before the first call; no window is lent, and output buffers as long as a frame may be
+-- "Before an opening a refiner or smoother is all zeros": before the first call; no window is lent, and output buffers
+-- as long as a frame may be
 pub record First (d : Desk) : Type 0 where
   pub refiner : d.stages.refiner.state ≡ refiner_of (replicate REFINER 0)
   pub memory : d.stages.refiner.memory ≡ no_memory

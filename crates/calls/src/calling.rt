@@ -1,7 +1,7 @@
 // All that a caller keeps, and the calls one by one.
 //
-// As it is: words, numbers and out go to each function side by side. Of a struct of `&mut` slices it is not known what is written through them, so with one
-// the proofs do not close; fgo_emit's `put_frame` says the same.
+// As it is: words, numbers and out go to each function side by side. Of a struct of `&mut` slices it is not known what
+// is written through them, so with one the proofs do not close; fgo_emit's `put_frame` says the same.
 ghost use Rattle.std.specs.Prelude.{◌≡◌, ◌≤◌, length, IfSome};
 ghost use Rattle.bounds.specs.Bounds.{TEXT};
 ghost use Rattle.print.specs.Text.{Ready};
@@ -31,8 +31,8 @@ pub struct Stages {
     pub smoother: LentSmoother,
 }
 
-// All that the program keeps from one call to the next: refiner and smoother, each with the memory that is lent to it, and the output buffers, which are lent
-// to both.
+// All that the program keeps from one call to the next: refiner and smoother, each with the memory that is lent to it,
+// and the output buffers, which are lent to both.
 #[derive(Drop)]
 pub struct Desk {
     pub stages: Stages,
@@ -61,8 +61,9 @@ impl Desk {
 }
 
 // A call of the refiner, to which so much of the output buffers is lent.
-// As it is: a function of its own cuts the buffers. Cut where the call stands, the proof did not close: of a field it is known what a call leaves there where
-// it is lent whole, and not where a part of it is lent beside a part of another.
+// As it is: a function of its own cuts the buffers. Cut where the call stands, the proof did not close: of a field it
+// is known what a call leaves there where it is lent whole, and not where a part of it is lent beside a part of
+// another.
 fn call_refiner(
     refiner: &mut LentRefiner,
     call: RefinerCall,
@@ -138,8 +139,10 @@ fn tell_digest(d: &Desk, out: &mut [u8; TEXT]) -> usize
     lines::put_digest(out, a, b, c)
 }
 
-// A call, none for a bad one, with what follows it: what it prints is put at the start of out, and it gives where that ends.
-// As it is: that `out` has at least TEXT bytes is a clause. A caller may lend a longer buffer; a type of exactly TEXT bytes would ask more of it.
+// A call, none for a bad one, with what follows it: what it prints is put at the start of out, and it gives where that
+// ends.
+// As it is: that `out` has at least TEXT bytes is a clause. A caller may lend a longer buffer; a type of exactly TEXT
+// bytes would ask more of it.
 pub fn call(d: &mut Desk, call: Option<Call>, s: &[u8], out: &mut [u8]) -> usize
     requires { IfSome call (λ c. Sane c s.now) × (TEXT ≤ length out.old) }
     ensures { Does d.old d.new result out.new call s.now }

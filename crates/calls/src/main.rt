@@ -1,4 +1,5 @@
-// Plays a list of calls of a refiner and of a smoother from standard input and prints each answer: README, "Calls by hand".
+// Plays a list of calls of a refiner and of a smoother from standard input and prints each answer: README, "Calls by
+// hand".
 #![tactic(auto)]
 
 mod calling;

@@ -1,9 +1,11 @@
--- A refiner and a smoother as cells: "Fields, refiner: 0 to 10 the settings, 11 first scan, 12 held, 13 frozen, 14 owned, 15 next id, 16 to 19 counters;
--- smoother: 0 lag, 1 density, 2 C, 3 slot of the oldest, 4 held". Definitions only.
-use Rattle.std.specs.Prelude.{ℕ, List, [], ◌∷◌, get_or, Float, ℤ}
+-- A refiner and a smoother as cells: "Fields, refiner: 0 to 10 the settings, 11 first scan, 12 held, 13 frozen, 14
+-- owned, 15 next id, 16 to 19 counters; smoother: 0 lag, 1 density, 2 C, 3 slot of the oldest, 4 held". Definitions
+-- only.
+use Rattle.std.specs.Prelude.{ℕ, List, [], ◌∷◌, get_or}
 use Rattle.std.specs.Float.{binary64}
 use Rattle.std.specs.Float.Ieee.{of_bits}
-use Rattle.scalar.specs.Scalar.{bits_of, word, signed}
+use Rattle.scalar.specs.Scalar.{bits_of, word}
+use Rattle.engine.specs.Config.{config_by}
 use Rattle.engine.specs.declared.config.FgoConfig.{FgoConfig}
 use Rattle.fgo_state.specs.declared.state.FixedLagRefiner.{FixedLagRefiner}
 use Rattle.smoother_window.specs.declared.FixedLagSmoother.{FixedLagSmoother}
@@ -34,33 +36,14 @@ refiner_fields r =
     ∷ r.counters.drops
     ∷ []
 
--- field i of a list of words, as a number, as an f64 and as an i64
 module _ (f : List ℕ) where
+  -- field i of a list of words
   abbrev field : ℕ → ℕ
   field i = get_or f i 0
 
-  abbrev real : ℕ → Float
-  real i = of_bits binary64 (field i)
-
-  abbrev nanoseconds : ℕ → ℤ
-  nanoseconds i = signed (field i)
-
   -- the settings of such fields
   unfoldable pub config_of : FgoConfig
-  config_of =
-      record {
-        lag_frames = field 0;
-        radius_m = real 1;
-        birth_cost = real 2;
-        miss_cost = real 3;
-        clutter_cost = real 4;
-        accel_spectral_density = real 5;
-        position_sigma_m = real 6;
-        initial_velocity_variance = real 7;
-        coast_ns = nanoseconds 8;
-        forget_after_ns = nanoseconds 9;
-        max_passes = field 10;
-      }
+  config_of = config_by field
 
   -- the refiner of such fields
   unfoldable pub refiner_of : FixedLagRefiner
@@ -79,7 +62,7 @@ module _ (f : List ℕ) where
   unfoldable pub smoother_of : FixedLagSmoother
   smoother_of =
       record {
-        config = record { lag_frames = field 0; accel_spectral_density = real 1; max_tracks = field 2 };
+        config = record { lag_frames = field 0; accel_spectral_density = of_bits binary64 (field 1); max_tracks = field 2 };
         first = field 3;
         held = field 4;
       }

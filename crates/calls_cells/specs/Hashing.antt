@@ -1,4 +1,5 @@
--- What a digest goes over: "each the 64-bit FNV-1a hash over the whole store, fields first, then the arrays in the tables' order". Definitions only.
+-- What a digest goes over: "each the 64-bit FNV-1a hash over the whole store, fields first, then the arrays in the
+-- tables' order". Definitions only.
 use Rattle.std.specs.Prelude.{ℕ, List, ◌++◌, Float}
 use Rattle.digest.specs.Digest.{BASIS, fnv1a, words_bytes, numbers_bytes}
 use Rattle.fgo_state.specs.declared.state.FixedLagRefiner.{FixedLagRefiner}

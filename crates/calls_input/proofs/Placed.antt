@@ -1,4 +1,5 @@
--- What is known of the call at a place of a list: it lies within the list, the next is further on, and it is sane. Assumes nothing.
+-- What is known of the call at a place of a list: it lies within the list, the next is further on, and it is sane.
+-- Assumes nothing.
 use Prim.Native.Nat.{ℕ, ◌+◌, ◌-◌, ◌*◌, ◌≤◌, ◌<◌}
 use native.Mathlib.Omega.{arith}
 use mathlib.Core.Path.{◌≡◌, refl, ◌∙◌}

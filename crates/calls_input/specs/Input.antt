@@ -87,7 +87,8 @@ module _ (f : List ℕ) where
   abbrev pub cell_in : {P : Type 0} → P → Cell P
   cell_in place = record { place = place; index = number 1; value = number 2 }
 
-  -- the cell that it writes, "u64 place, u64 index, u64 value", by what place a number is and which cells the caller has
+  -- the cell that it writes, "u64 place, u64 index, u64 value", by what place a number is and which cells the caller
+  -- has
   abbrev pub cell_by : {P : Type 0} → (Cell P → Bool) → Result P NoPlace → Option (Cell P)
   cell_by has (Ok p) = then_some (has (cell_in p)) (cell_in p)
   cell_by has (Err e) = None
@@ -139,7 +140,8 @@ call_in code f =
 abbrev pub bad_at : List ℕ → Next
 bad_at s = record { call = None; from = length s; end = length s }
 
--- "u32 code, u32 length of what follows, then that many bytes": the call at a place, and where what follows it begins and ends
+-- "u32 code, u32 length of what follows, then that many bytes": the call at a place, and where what follows it begins
+-- and ends
 unfoldable pub next_at : List ℕ → ℕ → Next
 next_at s at =
     let size = little 4 s (at + 4) in

@@ -52,7 +52,8 @@ pub trait Place: TryFrom<u64, Error = NoPlace> + Copy {
         ensures { result ≡ cells self };
 
     // The caller has this cell.
-    // As it is: in each impl. By default it would need a second function, of what a cell can hold, which asks something of one place of nine.
+    // As it is: in each impl. By default it would need a second function, of what a cell can hold, which asks something
+    // of one place of nine.
     fn has(cell: Cell<Self>) -> bool
         ensures { result ≡ has cell };
 

@@ -1,5 +1,5 @@
-// The list of calls on standard input: each has a code and the length of what follows it, four bytes each, then that many bytes; all numbers are little-endian.
-// A call that is not as README's table has it is a bad one.
+// The list of calls on standard input: each has a code and the length of what follows it, four bytes each, then that
+// many bytes; all numbers are little-endian. A call that is not as README's table has it is a bad one.
 #![tactic(auto)]
 
 pub mod cells;
@@ -45,8 +45,8 @@ pub enum Call {
 }
 
 // A call, none where it is a bad one, and where what follows it begins and ends.
-// As it is: a call that may be none, with its places, and no Option of all three: by its definition, `next_at`, a bad call ends the list and nothing follows
-// it, so it too has an end, which is the list's.
+// As it is: a call that may be none, with its places, and no Option of all three: by its definition, `next_at`, a bad
+// call ends the list and nothing follows it, so it too has an end, which is the list's.
 #[derive(Clone, Copy)]
 pub struct Next {
     pub call: Option<Call>,

@@ -1,4 +1,5 @@
--- What each call of the refiner does: to the refiner, its memory, the output buffers and the frame that it gave last, and what it prints. Definitions only.
+-- What each call of the refiner does: to the refiner, its memory, the output buffers and the frame that it gave last,
+-- and what it prints. Definitions only.
 use Rattle.std.specs.Prelude.{ℕ, zero, suc, ◌≡◌, List, [], take, set, Float}
 use Rattle.std.specs.Float.{binary64}
 use Rattle.std.specs.Float.Ieee.{of_bits}

@@ -1,7 +1,7 @@
 // The calls of a refiner. What a call prints is put at the start of out, and a call gives where that ends.
 //
-// As it is: words, numbers and out go to each function side by side. Of a struct of `&mut` slices it is not known what is written through them, so with one
-// the proofs do not close; fgo_emit's `put_frame` says the same.
+// As it is: words, numbers and out go to each function side by side. Of a struct of `&mut` slices it is not known what
+// is written through them, so with one the proofs do not close; fgo_emit's `put_frame` says the same.
 #![tactic(auto)]
 
 ghost use Rattle.std.specs.Prelude.{◌≡◌, true, ◌≤◌, length};
@@ -31,7 +31,8 @@ use print::answer_ref::AnswerRef;
 use print::{answers, lines};
 use scalar::bits;
 
-// The refiner as one caller has it: its fields, the memory that the caller lends it at every call, and the frame that it gave last.
+// The refiner as one caller has it: its fields, the memory that the caller lends it at every call, and the frame that
+// it gave last.
 #[derive(Drop)]
 pub struct LentRefiner {
     pub state: FixedLagRefiner,
@@ -155,7 +156,8 @@ fn write(r: &mut FixedLagRefiner, cell: Cell<RefinerPlace>, memory: &mut Memory)
 }
 
 // A call, with what follows it.
-// As it is: that `out` has at least TEXT bytes is a clause. A caller may lend a longer buffer; a type of exactly TEXT bytes would ask more of it.
+// As it is: that `out` has at least TEXT bytes is a clause. A caller may lend a longer buffer; a type of exactly TEXT
+// bytes would ask more of it.
 pub fn call(
     refiner: &mut LentRefiner,
     call: RefinerCall,

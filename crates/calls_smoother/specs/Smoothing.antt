@@ -1,4 +1,5 @@
--- What each call of the smoother does: to the smoother, its window and the output buffers, and what it prints. Definitions only.
+-- What each call of the smoother does: to the smoother, its window and the output buffers, and what it prints.
+-- Definitions only.
 use Rattle.std.specs.Prelude.{ℕ, ◌+◌, ◌*◌, ◌≡◌, cond, List, [], length, set, Float}
 use Rattle.std.specs.Float.{binary64}
 use Rattle.std.specs.Float.Ieee.{of_bits}

@@ -1,10 +1,10 @@
 // The calls of a smoother.
 //
-// Of its window as much is lent to it as the window says; words and numbers are the output buffers that are lent to it. What a call prints is put at the start
-// of out, and a call gives where that ends.
+// Of its window as much is lent to it as the window says; words and numbers are the output buffers that are lent to it.
+// What a call prints is put at the start of out, and a call gives where that ends.
 //
-// As it is: words, numbers and out go to each function side by side. Of a struct of `&mut` slices it is not known what is written through them, so with one
-// the proofs do not close; fgo_emit's `put_frame` says the same.
+// As it is: words, numbers and out go to each function side by side. Of a struct of `&mut` slices it is not known what
+// is written through them, so with one the proofs do not close; fgo_emit's `put_frame` says the same.
 #![tactic(auto)]
 
 pub mod window;
@@ -60,7 +60,8 @@ fn settings_in(s: &[u8]) -> SmootherConfig
 }
 
 // The size of the window that lag and C ask for.
-// As it is: no words and no numbers, and not None, where they are out of bounds: by README the window is empty then, and lent like any other.
+// As it is: no words and no numbers, and not None, where they are out of bounds: by README the window is empty then,
+// and lent like any other.
 #[tactic(auto, unfolding(smoother_window::specs::Config::bounded))]
 fn asked_size(c: SmootherConfig) -> WindowSize
     ensures { (result ≡ asked_by c) × Fits (Asked result) }
@@ -255,7 +256,8 @@ fn write(smoother: &mut LentSmoother, cell: Cell<SmootherPlace>)
 }
 
 // A call, with what follows it, the frame that the refiner gave last, and what is lent of the output buffers.
-// As it is: that `out` has at least TEXT bytes is a clause. A caller may lend a longer buffer; a type of exactly TEXT bytes would ask more of it.
+// As it is: that `out` has at least TEXT bytes is a clause. A caller may lend a longer buffer; a type of exactly TEXT
+// bytes would ask more of it.
 pub fn call(
     smoother: &mut LentSmoother,
     call: SmootherCall,

@@ -28,8 +28,8 @@ impl Room {
 }
 
 // The longest window, and how much of it is lent.
-// As it is: not one struct with playback's `Smoother`. This one keeps also whether a call has said the size, and that one also where pushes and takes have led,
-// so a struct for both would be no plainer.
+// As it is: not one struct with playback's `Smoother`. This one keeps also whether a call has said the size, and that
+// one also where pushes and takes have led, so a struct for both would be no plainer.
 #[derive(Drop)]
 pub struct LentWindow {
     pub room: Room,

@@ -17,10 +17,12 @@ fn above6(d0: f64, d1: f64, d2: f64, d3: f64, d4: f64, d5: f64) -> bool
     0.0 < d0 && 0.0 < d1 && 0.0 < d2 && 0.0 < d3 && 0.0 < d4 && 0.0 < d5
 }
 
-// Cholesky's factor, by columns of the lower triangle: column j subtracts L(j,k)·column k, k rising, and the root of the pivot divides it.
+// Cholesky's factor, by columns of the lower triangle: column j subtracts L(j,k)·column k, k rising, and the root of
+// the pivot divides it.
 // A pivot that is not above 0 fails; what the definition gives then, which nobody should use, is the error.
-// As it is, 41 lines: each makes one number of the factor, and a split would hand some twenty of them on. The error holds the factor, since the
-// function promised the definition's factor of any matrix before it had a Result, and may promise no less.
+// As it is, 41 lines: each makes one number of the factor, and a split would hand some twenty of them on. The error
+// holds the factor, since the function promised the definition's factor of any matrix before it had a Result, and may
+// promise no less.
 #[rattlefmt::skip]
 pub fn cholesky6(a: &[f64; 36]) -> Result<[f64; 36], [f64; 36]>
     ensures { MatchResult result (λ l. (Cholesky.positive f64 a.now ≡ true) × (l ≡ Cholesky.cholesky f64 a.now))
@@ -81,8 +83,9 @@ fn divide_row(r: &[f64; 6], d: f64) -> [f64; 6]
 }
 
 // Row i of w less l's number at p times row q, the one at p + s times row q + 1, .., n of them.
-// As it is: i, p, s, q and n are five arguments, here and in `solve_row`. Each call of `forward6` and `backward6` has other numbers, so a struct of them would
-// be made at each: `solve_row(l, w, Steps { i, p: i * 6, s: 1, q: 0, n: i })` for `solve_row(l, w, i, i * 6, 1, 0, i)`.
+// As it is: i, p, s, q and n are five arguments, here and in `solve_row`. Each call of `forward6` and `backward6` has
+// other numbers, so a struct of them would be made at each: `solve_row(l, w, Steps { i, p: i * 6, s: 1, q: 0, n: i })`
+// for `solve_row(l, w, i, i * 6, 1, 0, i)`.
 #[tactic(auto, unfolding(linalg::specs::Cholesky::less, linalg::specs::Rows::less_rows))]
 fn less_rows(
     l: &[f64; 36],
@@ -96,7 +99,8 @@ fn less_rows(
     requires { (i < 6) × (p + n * s < 36 + s) × (q + n ≤ 6) }
     ensures { result ≡ Rows.less_rows f64 l.now w.now i p s q n }
 {
-    // As it is: tried as a fold over 0..n. Its closure has to say again what `less_row` asks and promises, of the numbers here: nine lines for these five.
+    // As it is: tried as a fold over 0..n. Its closure has to say again what `less_row` asks and promises, of the
+    // numbers here: nine lines for these five.
     let mut r = row(w, i);
     for k in 0..n {
         r = less_row(&r, l[p + k * s], w, q + k);
@@ -104,7 +108,8 @@ fn less_rows(
     r
 }
 
-// Row i of w is solved: less l's number at p times row q, the one at p + s times row q + 1, .., n of them, then divided by the diagonal.
+// Row i of w is solved: less l's number at p times row q, the one at p + s times row q + 1, .., n of them, then divided
+// by the diagonal.
 #[tactic(auto, unfolding(linalg::specs::Rows::solved_row))]
 fn solve_row(l: &[f64; 36], w: &mut [f64; 36], i: usize, p: usize, s: usize, q: usize, n: usize)
     requires { (i < 6) × (p + n * s < 36 + s) × (q + n ≤ 6) }
@@ -146,8 +151,8 @@ fn backward6(l: &[f64; 36], w: &mut [f64; 36])
 }
 
 // The inverse of the matrix that has the factor l: per unit column, forward then backward substitution.
-// As it is: written where it is wanted. Tried by value, the matrix is copied: in bench/run's hall with lag 16, smooth takes 1,024,139 instructions a frame in
-// place of 1,012,152, which is 12 in 1,000 more. The bar is 10 in 1,000.
+// As it is: written where it is wanted. Tried by value, the matrix is copied: in bench/run's hall with lag 16, smooth
+// takes 1,024,139 instructions a frame in place of 1,012,152, which is 12 in 1,000 more. The bar is 10 in 1,000.
 pub fn inverse6(l: &[f64; 36], w: &mut [f64; 36])
     ensures { w.new ≡ Cholesky.inverse f64 l.now }
 {

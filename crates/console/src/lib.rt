@@ -1,4 +1,5 @@
-// Standard input, read to its end, and text written to standard output. What cannot be read or written is said on standard error.
+// Standard input, read to its end, and text written to standard output. What cannot be read or written is said on
+// standard error.
 #![tactic(auto)]
 
 ghost use Rattle.std.specs.Prelude.{IsTrue, Some, OnOk};
@@ -23,8 +24,8 @@ fn fail(rt: &impl Eprint, what: &str, error: io::Error) {
     let _ = eprintln!(rt; "{what}: {reason}");
 }
 
-// What is read until the input ends, cannot be read or fills the buffer, which may then be longer: so many bytes at the front of the buffer, and whether it
-// could be read.
+// What is read until the input ends, cannot be read or fills the buffer, which may then be longer: so many bytes at the
+// front of the buffer, and whether it could be read.
 pub fn read_full<R: Read>(input: &mut R, buf: &mut [u8]) -> (usize, io::Result<()>)
     ensures within { Within (Some result.0) buf.new }
     ensures exhausts { OnOk result.1 (Exhausts (R.remaining input.old) (R.remaining input.new) (Some result.0) buf.new) }
@@ -83,6 +84,7 @@ pub struct Console {
 }
 
 impl Console {
+    // Standard output, open: nothing has failed yet.
     pub fn new() -> Console
         ensures { IsTrue result.open }
     {

@@ -15,7 +15,8 @@ use Rattle.cost.specs.declared.Fold.{Fold}
 use Rattle.cost.specs.declared.Fold.TheVariants.{Fresh, Frozen, Going}
 use Rattle.kf.specs.Filter.{started, worked}
 
--- a detection of a window: the number of its scan, that scan's time in seconds, where it lies, and the variance of its position
+-- a detection of a window: the number of its scan, that scan's time in seconds, where it lies, and the variance of its
+-- position
 pub record Measurement : Type 0 where
   pub scan : ℕ
   pub t : Float
@@ -27,7 +28,8 @@ pub record Measurement : Type 0 where
 abbrev pub gap : ℕ → ℕ → ℕ
 gap scan last = scan - last - 1
 
--- "Each further one predicts and adds its NLL; scans skipped since the last (or frozen last) are misses"; q is the acceleration spectral density
+-- "Each further one predicts and adds its NLL; scans skipped since the last (or frozen last) are misses"; q is the
+-- acceleration spectral density
 unfoldable pub added : Float → Sums → Measurement → Sums
 added q s d =
     let u = worked s.kf d.t q d.x d.y d.r in

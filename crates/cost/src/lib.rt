@@ -73,8 +73,8 @@ pub fn resume(kf: Kf, last: ScanIndex) -> Sums
 }
 
 impl Sums {
-    // Predict to the detection's time, update with its position, and add its NLL; the scans skipped since the last are misses. q is the acceleration spectral
-    // density. It asks for a count of misses that stays below 2^64.
+    // Predict to the detection's time, update with its position, and add its NLL; the scans skipped since the last are
+    // misses. q is the acceleration spectral density. It asks for a count of misses that stays below 2^64.
     pub fn add(self, q: f64, scan: ScanIndex, d: Dot, logs: &mut Logs) -> Sums
         requires { self.misses + scan.0 < 2 ^ 64 }
         ensures { result ≡ added q self (measurement_of scan d) }

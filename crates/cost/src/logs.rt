@@ -8,8 +8,9 @@ use bounds::KEPT;
 use kf::filter::log_term;
 
 // A variance, and the logarithm that an update with it adds; 0.0 and anything where there is none yet.
-// As it is: a variance of 0.0 stands for no entry. A table of `Option<Logged>` was tried, and proved: the best moves of tracks and pairs with rows of 17 scans
-// then took 162.4 million instructions and not 158.4 million, 2.6 in 100 more; such work is three quarters of what a recording of a crossing hall takes.
+// As it is: a variance of 0.0 stands for no entry. A table of `Option<Logged>` was tried, and proved: the best moves of
+// tracks and pairs with rows of 17 scans then took 162.4 million instructions and not 158.4 million, 2.6 in 100 more;
+// such work is three quarters of what a recording of a crossing hall takes.
 #[derive(Clone, Copy)]
 pub struct Logged {
     pub variance: f64,

@@ -1,8 +1,9 @@
 // The fold over the row of a window.
 //
 // A row has for each scan held one more than the place of its detection among the dots, 0 where it has none.
-// As it is: a slot is a number and no Option, which is no plainer: the definition of a window's measurements reads a row as numbers, so that each clause over a
-// row of Options would first have to say which numbers they stand for; and a row, which is copied and compared for each pair of a pass, would be twice as wide.
+// As it is: a slot is a number and no Option, which is no plainer: the definition of a window's measurements reads a
+// row as numbers, so that each clause over a row of Options would first have to say which numbers they stand for; and a
+// row, which is copied for each pair of a pass that comes close, would be twice as wide.
 #![tactic(auto)]
 
 ghost use Rattle.std.specs.Prelude.{◌≡◌, MatchOption};
@@ -24,8 +25,9 @@ fn first_detection(slots: &[usize]) -> Option<usize>
 }
 
 // The fold over the slots of a row after a detection or a frozen part: the row begins at the held scan k.
-// As it is: prices and logs are two arguments, here and in all that comes to a cost by it. In one struct, lent as `&mut`, each clause would say too that the
-// prices stay as they were; given by value, it would be made at each call.
+// As it is: prices and logs are two arguments, here and in all that comes to a cost by it. In one struct, lent as
+// `&mut`, each clause would say too that the prices stay as they were; given by value, it would be made at each call.
+#[inline(always)]
 fn fold_on(prices: &Prices<'_>, from: &Sums, slots: &[usize], k: usize, logs: &mut Logs) -> Sums
     requires { Asks slots.now k (Going from.now) }
     ensures { result ≡ foldl (added (density prices.now.config)) from.now (measurements (view_in prices.now) k slots.now) }
@@ -41,10 +43,11 @@ fn fold_on(prices: &Prices<'_>, from: &Sums, slots: &[usize], k: usize, logs: &m
     r
 }
 
-// The fold over a part of a row that begins at the held scan k, going on from where it stands. It asks that the part ends by scan SCANS, and for few misses so
-// far.
-// As it is: the part and the scan that it begins at are two arguments here, in `fold_on` and in `cost_of`. A struct of both would be no plainer: of the calls
-// all but two, `fold_on` of a whole part and `fold_window` in `cost_of`, cut a new part and would make it there; and few misses would still be asked for.
+// The fold over a part of a row that begins at the held scan k, going on from where it stands. It asks that the part
+// ends by scan SCANS, and for few misses so far.
+// As it is: the part and the scan that it begins at are two arguments here, in `fold_on` and in `cost_of`. A struct of
+// both would be no plainer: of the calls all but two, `fold_on` of a whole part and `fold_window` in `cost_of`, cut a
+// new part and would make it there; and few misses would still be asked for.
 #[inline(always)]
 pub fn fold_window(
     prices: &Prices<'_>,
@@ -76,7 +79,8 @@ pub fn fold_window(
     }
 }
 
-// The cost of a window, of which `from` is the fold so far and the slots from the held scan k on are the rest. It asks what `fold_window` asks.
+// The cost of a window, of which `from` is the fold so far and the slots from the held scan k on are the rest. It asks
+// what `fold_window` asks.
 #[inline(always)]
 pub fn cost_of(prices: &Prices<'_>, from: &Fold, slots: &[usize], k: usize, logs: &mut Logs) -> f64
     requires { Asks slots.now k from.now }

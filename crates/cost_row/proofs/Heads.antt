@@ -1,4 +1,5 @@
--- The fold over the scans of a row before a cut, kept and taken on: what it gives with the rest, and that its misses stay few. Assumes nothing.
+-- The fold over the scans of a row before a cut, kept and taken on: what it gives with the rest, and that its misses
+-- stay few. Assumes nothing.
 use mathlib.Core.Path.{◌≡◌, refl, sym, ap, ◌∙◌}
 use mathlib.Core.List.{List, ◌++◌, append-nil}
 use Prim.Native.Nat.{ℕ, ◌+◌, ◌-◌, ◌^◌, ◌≤◌, ◌<◌}

@@ -32,8 +32,8 @@ fn frozen_at(n: usize, tracks: &[u64; PARTS], filters: &[f64; FILTERS]) -> Fold
 pub fn fold_from(x: RefinedId, frozen: &FrozenTracks<'_>, filters: &[f64; FILTERS]) -> Fold
     ensures { let f = frozen.now in result ≡ fold_among f.tracks.now filters.now f.count x.0 }
 {
-    (0..frozen.count)
-        .find(|n| x == fgo_part::part_id(frozen.tracks, *n))
+    frozen
+        .find(x)
         .map_or(Fold::Fresh, |n| frozen_at(n, frozen.tracks, filters))
 }
 
@@ -53,9 +53,10 @@ pub fn fold_to(
     cost_fold::fold_window(prices, f, &row[k..g], k, logs)
 }
 
-// What a window costs: f is the fold over its scans before k, the rest is the row from k on. It asks for few misses so far.
-// As it is: few misses are asked for here, in `fold_to`, and in `swap_gain` and `drop_gain` of the searches. As a fact of the fold it would not be kept: one
-// that goes on may have more misses than before.
+// What a window costs: f is the fold over its scans before k, the rest is the row from k on. It asks for few misses so
+// far.
+// As it is: few misses are asked for here, in `fold_to`, and in `swap_gain` and `drop_gain` of the searches. As a fact
+// of the fold it would not be kept: one that goes on may have more misses than before.
 #[inline(always)]
 pub fn rest_cost(
     prices: &Prices<'_>,

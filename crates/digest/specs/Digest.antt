@@ -1,4 +1,5 @@
--- The 64-bit FNV-1a hash, and the bytes that it goes over: a word is eight bytes, least first, and a number is the word of its bits. Definitions only.
+-- The 64-bit FNV-1a hash, and the bytes that it goes over: a word is eight bytes, least first, and a number is the word
+-- of its bits. Definitions only.
 use Rattle.std.specs.Prelude.{ℕ, ◌*◌, ◌/◌, ◌%◌, ◌^◌, List, [], ◌∷◌, bit_xor, Float}
 use Rattle.std.specs.List.{flat_map, fold}
 use Rattle.scalar.specs.Scalar.{bits_of}

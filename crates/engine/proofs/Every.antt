@@ -1,4 +1,5 @@
--- Facts of tests: of a conjunction, of a disjunction, of a refusal that is 0 or 5, and of a test over all numbers below a bound. Assumes nothing.
+-- Facts of tests: of a conjunction, of a disjunction, of a refusal that is 0 or 5, and of a test over all numbers below
+-- a bound. Assumes nothing.
 use Prim.Native.Nat.{ℕ, zero, suc, ◌+◌, ◌<◌}
 use mathlib.Core.Path.{◌≡◌, refl, sym, ap, ◌∙◌}
 use mathlib.Core.Bool.{Bool, true, false, ◌&&◌, ◌||◌, and-false, and-true, and_assoc}

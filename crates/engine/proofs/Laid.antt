@@ -1,5 +1,5 @@
--- Fields and rows laid out in a list are read there: one law for a number's bytes, one for fields one after the other, one for rows of one size.
--- Assumes nothing.
+-- Fields and rows laid out in a list are read there: one law for a number's bytes, one for fields one after the other,
+-- one for rows of one size. Assumes nothing.
 use Prim.Native.Nat.{ℕ, zero, suc, ◌+◌, ◌*◌, ◌/◌, ◌%◌, ◌^◌, ◌<◌}
 use mathlib.Core.Path.{◌≡◌, refl, ap, ◌∙◌}
 use mathlib.Core.List.{List, [], ◌∷◌, ◌++◌, flat_map}

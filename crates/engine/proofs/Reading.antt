@@ -1,4 +1,5 @@
--- What the readers answer: row by row on any bytes, and what that is for a body that passes, for any layout. Assumes nothing.
+-- What the readers answer: row by row on any bytes, and what that is for a body that passes, for any layout. Assumes
+-- nothing.
 use Prim.Native.Nat.{ℕ, ◌+◌, ◌*◌, ◌<◌, ◌≤◌}
 use mathlib.Core.Path.{◌≡◌, refl, sym, ap, ◌∙◌}
 use mathlib.Core.List.{List}

@@ -98,7 +98,8 @@ zeros_ok (z ∷ zs) s = zero_bytes z.0 s z.1 && zeros_ok zs s
 unfoldable pub track_ok : List ℕ → ℕ → Bool
 track_ok s o = present_ok (get_or s (o + 12) 0) (little 4 s (o + 8)) && zero_bytes 3 s (o + 13)
 
--- "Associations: bytes index, id present, outcome, cost present, four zeros, u64 id, f64 cost (any bits)", with an index of w bytes
+-- "Associations: bytes index, id present, outcome, cost present, four zeros, u64 id, f64 cost (any bits)", with an
+-- index of w bytes
 unfoldable pub association_ok : ℕ → List ℕ → ℕ → Bool
 association_ok w s o =
     present_ok (get_or s (o + w) 0) (little 8 s (o + 8))
@@ -207,7 +208,8 @@ observation_at s o =
       z = of_bits binary64 (little 8 s (o + 16));
     }
 
--- "Associations: bytes index, id present, outcome, cost present, four zeros, u64 id, f64 cost": the one at place o, with an index of w bytes
+-- "Associations: bytes index, id present, outcome, cost present, four zeros, u64 id, f64 cost": the one at place o,
+-- with an index of w bytes
 unfoldable pub association_at : ℕ → List ℕ → ℕ → Association
 association_at w s o =
     record {
@@ -268,7 +270,8 @@ pub record NamedOnce (f : Frame) : Type 0 where
 
 -- the law, in proofs/: named_once : (b : Body) → body_refusal b ≡ 0 → NamedOnce (frame_in b)
 
--- ---- what the readers answer on any bytes: the field where its bytes are all there, and else a value that stands for none
+-- ---- what the readers answer on any bytes: the field where its bytes are all there, and else a value that stands for
+-- none
 
 -- row i of n rows of w bytes each from place o on: none past the last row, and where the bytes end before the row does
 unfoldable pub row_read : {A : Type 0} → A → (ℕ → A) → List ℕ → ℕ → ℕ → ℕ → ℕ → A

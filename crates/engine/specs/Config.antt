@@ -3,7 +3,7 @@ use Rattle.std.specs.Prelude.{ℕ, Bool, ◌&&◌, leb, ℤ, pos, Float}
 use Rattle.std.specs.Float.{binary64}
 use Rattle.std.specs.Float.Ieee.{of_bits, mul}
 use Rattle.bounds.specs.Bounds.{LAG, PASSES}
-use Rattle.scalar.specs.Scalar.{finite}
+use Rattle.scalar.specs.Scalar.{finite, signed}
 use Rattle.engine.specs.declared.config.FgoConfig.{FgoConfig}
 
 -- "lag_frames"; the fields stand in the order of `FgoConfig`
@@ -79,3 +79,29 @@ defaults =
       forget_after_ns = pos 2000000000;
       max_passes = 20;
     }
+
+module _ (field : ℕ → ℕ) where
+  -- field i as an f64
+  abbrev real : ℕ → Float
+  real i = of_bits binary64 (field i)
+
+  -- field i as an i64
+  abbrev nanoseconds : ℕ → ℤ
+  nanoseconds i = signed (field i)
+
+  -- the settings of eleven fields, each of eight bytes and given as a word, in the order of `FgoConfig`
+  abbrev pub config_by : FgoConfig
+  config_by =
+      record {
+        lag_frames = field 0;
+        radius_m = real 1;
+        birth_cost = real 2;
+        miss_cost = real 3;
+        clutter_cost = real 4;
+        accel_spectral_density = real 5;
+        position_sigma_m = real 6;
+        initial_velocity_variance = real 7;
+        coast_ns = nanoseconds 8;
+        forget_after_ns = nanoseconds 9;
+        max_passes = field 10;
+      }

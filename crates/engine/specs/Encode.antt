@@ -1,4 +1,5 @@
--- The body that says a frame: its bytes, what a frame must be so that a body can say it, and the law that reading gives it back. Definitions only.
+-- The body that says a frame: its bytes, what a frame must be so that a body can say it, and the law that reading gives
+-- it back. Definitions only.
 use Rattle.std.specs.Prelude.{ℕ, zero, suc, ◌-◌, ◌/◌, ◌%◌, ◌^◌, ◌<◌, ◌≤◌, ◌≡◌, true, cond, length, get_or, eqb, Float, None, Some}
 use mathlib.Core.List.{List, [], ◌∷◌, ◌++◌, flat_map}
 use Rattle.std.specs.Float.{binary64}
@@ -65,7 +66,8 @@ sensor_fields v = (SENSOR, v) ∷ []
 abbrev pub observation_fields : Observation → List (ℕ × ℕ)
 observation_fields p = (8, bits_of p.x) ∷ (8, bits_of p.y) ∷ (8, bits_of p.z) ∷ []
 
--- "Associations: bytes index, id present, outcome, cost present, four zeros, u64 id, f64 cost", with an index of w bytes
+-- "Associations: bytes index, id present, outcome, cost present, four zeros, u64 id, f64 cost", with an index of w
+-- bytes
 abbrev pub association_fields : ℕ → Association → List (ℕ × ℕ)
 association_fields w a =
     (w, a.index.0)

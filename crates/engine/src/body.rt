@@ -93,8 +93,9 @@ impl<'a> Body<'a> {
     }
 
     // How many engine tracks the header says that the frame has.
-    // As it is, here and in the three counts below: four fields at four places. All four are public, so a function of the place, with the match in it,
-    // would stand beside them, each with its own definition as now: `self.count_at(1)` for the match of one arm, which is no plainer.
+    // As it is, here and in the three counts below: four fields at four places. All four are public, so a function of
+    // the place, with the match in it, would stand beside them, each with its own definition as now: `self.count_at(1)`
+    // for the match of one arm, which is no plainer.
     pub fn track_count(&self) -> usize
         ensures count { result ≡ tracks_in (body_of self.now) }
         ensures small { result < 2 ^ 8 }
@@ -158,7 +159,8 @@ impl<'a> Body<'a> {
         self.observations_from() + OBSERVATION * self.observation_count()
     }
 
-    // Where the bytes of row i begin, of n rows of a size each from a place on; none past the last row, and where the bytes end before the row does.
+    // Where the bytes of row i begin, of n rows of a size each from a place on; none past the last row, and where the
+    // bytes end before the row does.
     #[tactic(auto, unfolding(crate::specs::Body::row_read))]
     fn row_from(&self, from: usize, size: usize, n: usize, i: usize) -> Option<usize>
         requires { from + size * n < 2 ^ 64 }
@@ -170,8 +172,8 @@ impl<'a> Body<'a> {
             .filter(|at| at + size <= self.bytes.len())
     }
 
-    // ---- the fields: each reader answers, on any bytes, the field where its bytes are all there, and else 0 or the value for none; for a body that passes
-    // this is what the frame says
+    // ---- the fields: each reader answers, on any bytes, the field where its bytes are all there, and else 0 or the
+    // value for none; for a body that passes this is what the frame says
 
     // How much of the camera the engine used.
     #[tactic(auto, unfolding(crate::specs::Body::frame_of))]
@@ -253,7 +255,8 @@ impl<'a> Body<'a> {
             × (body_refusal (body_of self.now) ≡ 0 → result ≡ get_or (frame_in (body_of self.now)).associations j no_association) }
     {
         let from = self.associations_from();
-        // As it is: tried as a `map_or`, as in the three above. The proof did not close: of an association, the check finds no clause for the closure itself.
+        // As it is: tried as a `map_or`, as in the three above. The proof did not close: of an association, the check
+        // finds no clause for the closure itself.
         match self.row_from(from, ASSOCIATION, self.association_count(), j) {
             None => no_association(),
             Some(o) => self.association_at(o),

@@ -5,7 +5,8 @@ ghost use Rattle.engine.specs.Config.{legal, defaults, position_variance};
 use bounds::{LAG, PASSES};
 use scalar::bits;
 
-// What the refiner is opened with: how long it holds scans back, what its costs are, how tracks move, and when they are forgotten.
+// What the refiner is opened with: how long it holds scans back, what its costs are, how tracks move, and when they are
+// forgotten.
 #[derive(Clone, Copy)]
 pub struct FgoConfig {
     // Scans held back; a scan is emitted this many scans late.

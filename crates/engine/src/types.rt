@@ -29,28 +29,28 @@ impl ScanIndex {
 pub struct ObservationIndex(pub usize);
 
 // How a frame's body is laid out.
-// As it is, here and in each match of it: one variant. That a body goes with its kind is a rule of the project (docs/DECISIONS.md, "A kind of body"), and
-// `Body` and its kind are public.
+// As it is, here and in each match of it: one variant. That a body goes with its kind is a rule of the project
+// (docs/DECISIONS.md, "A kind of body"), and `Body` and its kind are public.
 #[derive(Clone, Copy)]
 pub enum BodyKind {
     // Counts and indices have a byte each.
     Narrow,
 }
 
-// How much of the camera the engine used.
+// How much of the camera the engine used. The numbers are the codes of a body's bytes and of an emitted frame's words.
 #[derive(Clone, Copy)]
 pub enum TrackingMode {
-    LidarOnly,
-    CameraAssociated,
-    CameraAssisted,
+    LidarOnly = 0,
+    CameraAssociated = 1,
+    CameraAssisted = 2,
 }
 
-// What the engine did with an observation.
+// What the engine did with an observation. The numbers are codes, as those of a mode.
 #[derive(Clone, Copy)]
 pub enum Outcome {
-    Updated,
-    Spawned,
-    Unmatched,
+    Updated = 0,
+    Spawned = 1,
+    Unmatched = 2,
 }
 
 // A track of the engine, as a frame lists it.
@@ -81,7 +81,9 @@ pub struct Association {
 }
 
 // The mode of a byte; every byte above 1 is read as the last.
-// As it is, here and in the three below: numbers, which are the codes of a body's bytes and of an emitted frame's words.
+// As it is, here and for an outcome: the codes once more, since no cast goes from a number to an enum. And each of the
+// two enums has both its impls: one text for two types would be a macro's, which takes no ghost line, so that nothing
+// would say what `from` gives.
 impl From<u8> for TrackingMode {
     ghost from_gives = { λ b r. r ≡ mode_of b };
 
@@ -99,11 +101,7 @@ impl From<TrackingMode> for u64 {
     ghost from_gives = { λ m r. r ≡ mode_number m };
 
     fn from(m: TrackingMode) -> u64 {
-        match m {
-            TrackingMode::LidarOnly => 0,
-            TrackingMode::CameraAssociated => 1,
-            TrackingMode::CameraAssisted => 2,
-        }
+        m as u64
     }
 }
 
@@ -125,10 +123,6 @@ impl From<Outcome> for u64 {
     ghost from_gives = { λ o r. r ≡ outcome_number o };
 
     fn from(o: Outcome) -> u64 {
-        match o {
-            Outcome::Updated => 0,
-            Outcome::Spawned => 1,
-            Outcome::Unmatched => 2,
-        }
+        o as u64
     }
 }

@@ -1,4 +1,5 @@
--- A table of the indices seen, of any length, says of each number below that length whether an association before j has it. Assumes nothing.
+-- A table of the indices seen, of any length, says of each number below that length whether an association before j has
+-- it. Assumes nothing.
 use Prim.Native.Nat.{ℕ, ◌+◌, ◌<◌, ◌≤◌}
 use mathlib.Core.Path.{◌≡◌, refl, sym, ◌∙◌}
 use mathlib.Core.List.{List}

@@ -1,4 +1,5 @@
--- `all` over a range by a closure that keeps a state: what is asked of each call, and what is answered. Assumes nothing.
+-- `all` over a range by a closure that keeps a state: what is asked of each call, and what is answered. Assumes
+-- nothing.
 use Prim.Native.Nat.{ℕ, ◌+◌, ◌<◌}
 use mathlib.Core.Path.{◌≡◌, sym, ◌∙◌}
 use mathlib.Core.Bool.{Bool, true, false}

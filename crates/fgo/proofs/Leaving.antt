@@ -14,7 +14,7 @@ use lib.Ieee.{Float}
 use mir.Syntax.{w64}
 use mir.Val.{to_z, of_z}
 use mir.Facts.{to_z-of_z}
-use Rattle.bounds.specs.Bounds.{DETECTIONS, FROZEN}
+use Rattle.bounds.specs.Bounds.{ACCEPTED, DETECTIONS, FROZEN}
 use Rattle.engine.specs.declared.config.FgoConfig.{FgoConfig}
 use Rattle.engine.specs.declared.types.Association.{Association}
 use Rattle.engine.specs.Frame.{Frame}
@@ -32,11 +32,12 @@ use Rattle.fgo_spec.specs.Rule.{All}
 use Rattle.fgo_spec.proofs.All.{mem_All}
 use Rattle.fgo_spec.proofs.Counting.{count-le, keep_same}
 use Rattle.fgo_spec.proofs.Windows.{detections_cons}
-use Rattle.fgo_spec.proofs.Growing.{freeze-length}
+use Rattle.fgo_spec.proofs.Growing.{freeze_up, freeze-length}
+use Rattle.fgo_spec.proofs.Tables.{Up, up_keep}
 use Rattle.fgo_state.specs.declared.state.FixedLagRefiner.{FixedLagRefiner}
 use Rattle.buffers.specs.declared.FrameSize.{FrameSize}
 use Rattle.buffers.specs.Answer.{Reply, gives, Frame as Gives}
-use Rattle.fgo_part.specs.Parts.{entry_in, table_in}
+use Rattle.fgo_part.specs.Parts.{entry_in, table_in, Rises}
 use Rattle.fgo_state.specs.declared.state.Memory.{Memory}
 use Rattle.fgo_state.specs.Memory.{memory, body_at, scan_in, scans_in, live_in, owners_in, state_of}
 use Rattle.fgo_freeze.specs.Frozen.{FreezesScan, PartOk, PartsOk}
@@ -50,7 +51,7 @@ use Rattle.fgo_spec.proofs.Rows.{rows_all, row_of, rows-first}
 use Rattle.engine.proofs.ReadBack.{time_fits}
 use Rattle.fgo_state.proofs.Counts.{sensors_long, sensors_few, associations_long, associations_few}
 use Rattle.fgo_state.proofs.Columns.{scan_complete}
-use Rattle.fgo_freeze.proofs.Order.{frozen_fits}
+use Rattle.fgo_freeze.proofs.Order.{ordered_up, up_rises, frozen_fits}
 use Rattle.fgo_state.proofs.Live.{live_rule}
 
 -- ---- frozen parts of which ages can be told
@@ -175,9 +176,15 @@ module _ (r : FixedLagRefiner) (m : Memory) (ready : Ready r m) (some : 1 ≤ r.
       left : table_in tracks' filters' kept ≡ remember r.config s.frame.time ss fs
       left = forgot ∙ ap (λ t. remember r.config t ss (table_in tracks filters frozen)) e ∙ ap (remember r.config s.frame.time ss) froze
 
-      pub kept-few : kept ≤ FROZEN
+      -- they are few, and lie by rising ids
+      pub kept-parts : (kept ≤ FROZEN) × Rises tracks' kept
       unfolding remember
-      kept-few = omega (arith, frozen-few, ap length left, table_long tracks' filters' kept, count-le (freezing.kept r.config s.frame.time ss) fs)
+      kept-parts =
+          let keeps = freezing.kept r.config s.frame.time ss in
+          let up : Up 0 fs = freeze_up r.config n s.frame s.frame.associations s.ids ps (ordered_up ACCEPTED 0 ps ready.ordered) in (
+            omega (arith, frozen-few, ap length left, table_long tracks' filters' kept, count-le keeps fs),
+            up_rises 0 tracks' filters' kept (subst (Up 0) (sym left) (up_keep 0 keeps fs up)),
+          )
 
       -- ---- the owners
 

@@ -1,4 +1,5 @@
--- A push, by what its steps answer: a refusal, a frame that is held, or a frame that is held while the oldest leaves. Assumes nothing.
+-- A push, by what its steps answer: a refusal, a frame that is held, or a frame that is held while the oldest leaves.
+-- Assumes nothing.
 use Prim.Native.Nat.{ℕ, zero, suc, ◌≤◌, ◌<◌}
 use native.Mathlib.Omega.{arith}
 use mathlib.Core.Path.{◌≡◌, refl, sym, ap, subst, ◌∙◌}

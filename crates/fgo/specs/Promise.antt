@@ -1,4 +1,5 @@
--- What open, push, take and counters promise, for any refiner value, any bytes, any buffers and any contents of the lent memory. Definitions only.
+-- What open, push, take and counters promise, for any refiner value, any bytes, any buffers and any contents of the
+-- lent memory. Definitions only.
 use Rattle.std.specs.Prelude.{ℕ, zero, suc, ◌≤◌, ◌≡◌, true, cond, List, length, Float, Result, Ok, Err}
 use Rattle.bounds.specs.Bounds.{ASSOCIATIONS, SENSORS, TRACKS}
 use Rattle.refusals.specs.declared.Refusal.{Refusal}
@@ -57,8 +58,9 @@ GivenSized (refused n) = Unit {0}
 GivenSized waits = Unit {0}
 GivenSized (gives e) = Sized e
 
--- A call that is due a, and is given the refiner r, the memory m and the output buffers ws and ns, answers o and leaves u, m', ws' and ns': state,
--- memory and output. Settings stay, bodies that pass stay the only ones held, and a frame that is given is sized so.
+-- A call that is due a, and is given the refiner r, the memory m and the output buffers ws and ns, answers o and leaves
+-- u, m', ws' and ns': state, memory and output. Settings stay, bodies that pass stay the only ones held, and a frame
+-- that is given is sized so.
 pub record Promised (a : Reply Emitted × State) (r : FixedLagRefiner) (m : Memory) (ws : List ℕ) (ns : List Float)
     (o : Answer) (u : FixedLagRefiner) (m' : Memory) (ws' : List ℕ) (ns' : List Float) : Type 0 where
   pub ends : Ends written state_of a r m ws ns o u m' ws' ns'

@@ -1,26 +1,28 @@
 // The refiner: open, push, take and counters.
 //
-// As it is: words and numbers go to each function side by side. Of a struct of `&mut` slices it is not known what is written through them, so with one the
-// proofs do not close; fgo_emit's `put_frame` says the same.
+// As it is: words and numbers go to each function side by side. Of a struct of `&mut` slices it is not known what is
+// written through them, so with one the proofs do not close; fgo_emit's `put_frame` says the same.
 #![tactic(auto)]
 
-ghost use Rattle.std.specs.Prelude.{◌≡◌, ◌≤◌, List, Float};
+ghost use Rattle.std.specs.Prelude.{◌≡◌, ◌≤◌, List, Float, IfOk};
 ghost use Rattle.buffers.specs.Answer.{answer_in, opening_of, opened_by, pushed, taken};
 ghost use Rattle.refusals.specs.Refusals.{refused};
 ghost use Rattle.engine.specs.Body.{body_of};
 ghost use Rattle.fgo_spec.specs.Refiner.{takes};
 ghost use Rattle.fgo_state.specs.Memory.{memory, state_of};
+ghost use Rattle.fgo_state.specs.Gathered.{GatheredOf};
 ghost use Rattle.fgo_emit.specs.Writing.{Roomy};
 ghost use Rattle.fgo_arrive.specs.Arriving.{Ready};
 ghost use Rattle.fgo.specs.Promise.{new_by, open_refusal, later_refusal, due, Promised, counted_in, counted_by, count_refusal};
 
-use bounds::{OWNERS, PARTS};
+use bounds::{DETECTIONS, OWNERS, PARTS};
 use buffers::Answer;
 use engine::body::Body;
 use engine::config::FgoConfig;
 use engine::types::{RefinedId, ScanIndex};
 use fgo_place::own;
 use fgo_spec::moves::FgoCounters;
+use fgo_state::gather::Gathered;
 use fgo_state::scans::Scans;
 use fgo_state::state::{FixedLagRefiner, Memory};
 use refusals::Refusal;
@@ -59,7 +61,8 @@ pub fn open(config: FgoConfig) -> Result<FixedLagRefiner, Refusal>
 
 // ---- the oldest scan leaves
 
-// The oldest scan leaves: its detections are frozen, its frame is written, and what nothing asks for any more is forgotten.
+// The oldest scan leaves: its detections are frozen, its frame is written, and what nothing asks for any more is
+// forgotten.
 fn freeze_oldest(
     r: &mut FixedLagRefiner,
     memory: &mut Memory,
@@ -87,22 +90,27 @@ fn freeze_oldest(
 
 // ---- the entry points
 
-// What push and take ask alike: or `State` or `Output`.
+// What push and take ask alike: `State`, `Output` or what the held scans have in windows. The engine ids go where the
+// caller has room for them.
 fn check_call(
     r: &FixedLagRefiner,
     memory: &Memory,
     words: usize,
     numbers: usize,
-) -> Result<(), Refusal>
-    ensures { refused result ≡ later_refusal r.now memory.now words numbers }
+    engines: &mut [u64; DETECTIONS],
+) -> Result<Gathered, Refusal>
+    ensures refusal { refused result ≡ later_refusal r.now memory.now words numbers }
+    ensures gathered { IfOk result (λ g. GatheredOf memory.now.scans r.now.first.0 r.now.held engines.old g engines.new) }
 {
-    if !fgo_rule::is_sound(r, &memory.scans, &memory.owners, &memory.parts.tracks) {
+    let tracks = &memory.parts.tracks;
+    let Some(gathered) = fgo_rule::gather_sound(r, &memory.scans, &memory.owners, tracks, engines)
+    else {
         return Err(Refusal::State);
-    }
+    };
     if !buffers::is_roomy(words, numbers) {
         return Err(Refusal::Output);
     }
-    Ok(())
+    Ok(gathered)
 }
 
 // The oldest frame held, whatever the lag: `State`, `Output`, `Empty` or the frame.
@@ -116,15 +124,16 @@ pub fn take(
         (answer_in result) r.new memory.new words.new numbers.new }
     ensures scans { memory.new.scans ≡ memory.old.scans }
 {
-    check_call(r, memory, words.len(), numbers.len())?;
+    let mut engines = [0; DETECTIONS];
+    check_call(r, memory, words.len(), numbers.len(), &mut engines)?;
     if r.held == 0 {
         return Err(Refusal::Empty);
     }
     freeze_oldest(r, memory, words, numbers)
 }
 
-// A frame, by its body: `State`, `Output`, `Frame`, `Coordinate`, `Index`, `Count`, `Detections` or `Owners`; or held; or the oldest frame, where more than
-// the lag are held.
+// A frame, by its body: `State`, `Output`, `Frame`, `Coordinate`, `Index`, `Count`, `Detections` or `Owners`; or held;
+// or the oldest frame, where more than the lag are held.
 pub fn push(
     r: &mut FixedLagRefiner,
     b: &Body<'_>,
@@ -135,9 +144,10 @@ pub fn push(
     ensures { Promised (due r.old memory.old (pushed (body_of b.now)) words.old numbers.old) r.old memory.old words.old numbers.old
         (answer_in result) r.new memory.new words.new numbers.new }
 {
-    check_call(r, memory, words.len(), numbers.len())?;
+    let mut engines = [0; DETECTIONS];
+    let mut gathered = check_call(r, memory, words.len(), numbers.len(), &mut engines)?;
     fgo_refuse::check_push(r, &memory.scans, &memory.owners, b)?;
-    fgo_arrive::arrive(r, b, memory);
+    fgo_arrive::arrive(r, b, memory, &mut gathered, &mut engines);
     if r.config.lag_frames < r.held {
         return freeze_oldest(r, memory, words, numbers);
     }
@@ -145,8 +155,9 @@ pub fn push(
 }
 
 // The moves made so far, or `State`, whatever the filters of the frozen parts are.
-// As it is, here and in fgo_rule's `is_sound`: three parts of a `Memory` and no `Memory`, since the filters of the frozen parts are not asked for: by the rule
-// that a public function asks no more of its callers than it did, a caller need not have them.
+// As it is, here and in fgo_rule's `is_sound`: three parts of a `Memory` and no `Memory`, since the filters of the
+// frozen parts are not asked for: by the rule that a public function asks no more of its callers than it did, a caller
+// need not have them.
 pub fn counters(
     r: &FixedLagRefiner,
     scans: &Scans,

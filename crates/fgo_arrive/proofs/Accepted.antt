@@ -1,5 +1,5 @@
--- A frame that no number refuses, at a refiner that meets the rule: the rule and the room as fgo_spec has them, and what holding the frame asks.
--- Assumes nothing.
+-- A frame that no number refuses, at a refiner that meets the rule: the rule and the room as fgo_spec has them, and
+-- what holding the frame asks. Assumes nothing.
 use Prim.Native.Nat.{◌+◌, ◌≤◌, ◌<◌}
 use native.Mathlib.Omega.{arith}
 use mathlib.Core.Path.{◌≡◌, refl, ◌∙◌}

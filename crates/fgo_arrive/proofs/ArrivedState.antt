@@ -1,4 +1,5 @@
--- The search, and the owners told anew: the state is the one of the refiner as defined, and the oldest scan may leave. Assumes nothing.
+-- The search, and the owners told anew: the state is the one of the refiner as defined, and the oldest scan may leave.
+-- Assumes nothing.
 use Prim.Native.Nat.{ℕ, ◌+◌, ◌≤◌, ◌<◌}
 use native.Mathlib.Numerals.{add-one}
 use native.Mathlib.Omega.{arith}

@@ -1,4 +1,5 @@
--- A frame that was accepted is held: the scans, the next id and the owners are those of placing as defined, and the search may begin. Assumes nothing.
+-- A frame that was accepted is held: the scans, the next id and the owners are those of placing as defined, and the
+-- search may begin. Assumes nothing.
 use Prim.Native.Nat.{ℕ, suc, ◌+◌, ◌^◌, ◌≤◌, ◌<◌}
 use native.Mathlib.Nat.{le_refl, le_trans}
 use native.Mathlib.Decide.{dec_lt}

@@ -1,4 +1,5 @@
--- Placing by the lent owner table is placing as defined, by the state rule and the refusals 8, 9 and 10. Assumes nothing.
+-- Placing by the lent owner table is placing as defined, by the state rule and the refusals 8, 9 and 10. Assumes
+-- nothing.
 use Prim.Native.Nat.{ℕ, suc, ◌≤◌, ◌<◌}
 use native.Mathlib.Nat.{le_refl, le_trans}
 use native.Mathlib.Numerals.{add-one}

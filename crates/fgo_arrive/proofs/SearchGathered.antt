@@ -1,4 +1,5 @@
--- What was gathered of the held scans is what the search asks, and ids put back are the search's scans. Assumes nothing.
+-- What was gathered of the held scans is what the search asks, and ids put back are the search's scans. Assumes
+-- nothing.
 use Prim.Native.Nat.{ℕ, zero, suc, ◌+◌, ◌-◌, ◌%◌, ◌≤◌, ◌<◌}
 use native.Mathlib.Nat.{zero-add, mod-eq_of_lt}
 use native.Mathlib.Numerals.{add-one}

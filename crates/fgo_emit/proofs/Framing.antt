@@ -77,7 +77,8 @@ scan_of : (bodies columns : List ℕ) (n : ℕ) (s : Body) → s ≡ body_at bod
 unfolding scan_in
 scan_of bodies columns n s e = ap (λ (b : Body). scan_by columns n b) (sym e)
 
--- the tracks that the table lists at the time of scan n, of which the body is s with k associations and m sensors; its head, associations and sensors; its costs
+-- the tracks that the table lists at the time of scan n, of which the body is s with k associations and m sensors; its
+-- head, associations and sensors; its costs
 pub framed_all : (c : FgoConfig) (bodies columns : List ℕ) (n : ℕ) (tracks : List ℕ) (filters : List Float) (frozen : ℕ) (s : Body) (time : ℤ) (t k m : ℕ) (ws : List ℕ) (ns : List Float) {ws₁ ws₂ ws₃ ws₄ : List ℕ} {ns₁ ns₂ : List Float} → s ≡ body_at bodies columns n → time ≡ (frame_in s).time → k ≡ associations_in s → m ≡ sensors_in s → HEAD + TRACK * t + LINK * k + m ≤ length ws → STATE * t + k ≤ length ns → length ns₁ ≡ length ns → PutTracks (listing c time (table_in tracks filters frozen)) t ws ns ws₁ ns₁ → ws₂ ≡ over 0 (head_in s t) ws₁ → ws₃ ≡ over (HEAD + TRACK * t) (links_in columns n s) ws₂ → ws₄ ≡ over (HEAD + TRACK * t + LINK * k) (frame_in s).sensors ws₃ → ns₂ ≡ over (STATE * t) (costs_in s) ns₁ → PutFrame (emitted_in c bodies columns n tracks filters frozen) (record { words = HEAD + TRACK * t + LINK * k + m; numbers = STATE * t + k }) ws ns ws₄ ns₂
 framed_all c bodies columns n tracks filters frozen s time t k m ws ns {ws₁} {ws₂} {ws₃} {ws₄} {ns₁} {ns₂} es et ek em rw' rn' long p e₂ e₃ e₄ f₂ =
     let ls : List Listed = listing c (frame_in s).time (table_in tracks filters frozen) in

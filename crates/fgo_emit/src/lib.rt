@@ -47,7 +47,8 @@ fn track_words(at: Moment, id: RefinedId, p: Prefix) -> [u64; TRACK]
 }
 
 // Where an entry of the covariance stands among the numbers of a listed track: by rows, after position and velocity.
-// As it is, here and below: numbers at a place by row and column, and no matrix: by rows in one list is the published format of an emitted frame.
+// As it is, here and below: numbers at a place by row and column, and no matrix: by rows in one list is the published
+// format of an emitted frame.
 fn entry(row: usize, column: usize) -> usize
     requires { (row < VECTOR) × (column < VECTOR) }
     ensures { result ≡ VECTOR + VECTOR * row + column }
@@ -117,7 +118,8 @@ fn is_listed(at: Moment, tracks: &[u64; PARTS], k: usize) -> bool
 }
 
 // The listed tracks; how many they are.
-// As it is: a loop that counts, and no `(0..frozen).filter(..).enumerate()`: that tells no count after the last, so the filter would stand here twice.
+// As it is: a loop that counts, and no `(0..frozen).filter(..).enumerate()`: that tells no count after the last, so the
+// filter would stand here twice.
 fn put_tracks(
     at: Moment,
     parts: &FrozenParts,
@@ -212,8 +214,10 @@ fn put_head(s: &HeldScan<'_>, tracks: usize, words: &mut [u64])
     put(words, 0, &ws);
 }
 
-// The frame of scan n, after its detections were frozen. The body must pass, all times be in bounds, and the buffers have room.
-// As it is: words and numbers are two arguments. A struct of both was tried: once they are lent to it, no fact says what they hold afterwards.
+// The frame of scan n, after its detections were frozen. The body must pass, all times be in bounds, and the buffers
+// have room.
+// As it is: words and numbers are two arguments. A struct of both was tried: once they are lent to it, no fact says
+// what they hold afterwards.
 pub fn put_frame(
     c: FgoConfig,
     scans: &Scans,

@@ -4,10 +4,12 @@ use mathlib.Core.Path.{◌≡◌, refl, sym, ◌∙◌}
 use mathlib.Core.Bool.{Bool, true, false}
 use mathlib.Core.List.{List, [], ◌∷◌, ◌++◌}
 use mathlib.Core.Option.{Option, none, some}
+use native.Mathlib.Nat.{zero-add}
 use native.Mathlib.Omega.{arith}
 use borrow.Author.Tests.{ltb-true, ltb-false}
 use lib.ListN.{length, length-append, length-drop}
 use lib.Dec.{ltb, eqb}
+use lib.Ieee.{Float}
 use Rattle.bounds.specs.Bounds.{HEIGHTS}
 use Rattle.engine.specs.declared.config.FgoConfig.{FgoConfig}
 use Rattle.engine.specs.Body.{rows}
@@ -15,7 +17,8 @@ use Rattle.fgo_spec.specs.Lists.{find, found_if, put, put_by}
 use Rattle.fgo_spec.specs.Windows.{Detection, Prefix}
 use Rattle.fgo_spec.specs.Freezing.{freeze}
 use Rattle.fgo_spec.proofs.Counting.{compare_eq, compare_lt, compare_gt}
-use Rattle.fgo_spec.proofs.Tables.{found_past}
+use Rattle.fgo_spec.proofs.Tables.{found_past, Up}
+use Rattle.fgo_part.specs.Parts.{entry_in, table_in, Rises}
 use Rattle.fgo_freeze.specs.Frozen.{Ordered}
 use Rattle.fgo_freeze.proofs.Table.{at, at_later, at_front}
 
@@ -35,6 +38,38 @@ ordered_find b y x (e ∷ ps) {p} o q = by (eqb x e.0) q (ordered_find b e.0 x p
     by : (t : Bool) → found_if t e.1 (find x ps) ≡ some p → (find x ps ≡ some p → p.count ≤ b) → p.count ≤ b
     by true q ih = let z : e.1 ≡ p = cc in rw (← z) o.2
     by false q ih = ih q
+
+-- ---- ids rise
+
+pub ordered_up : (b y : ℕ) (ps : List (ℕ × Prefix)) → Ordered b y ps → Up y ps
+ordered_up b y [] o = tt
+ordered_up b y (e ∷ ps) o = (o.0, ordered_up b e.0 ps o.3)
+
+up_next : (g : ℕ → ℕ × Prefix) (y i n k : ℕ) → Up y (rows g i n) → suc k < n → (g (i + k)).0 < (g (i + suc k)).0
+unfolding rows
+up_next g y i zero k u h = absurd (omega arith)
+up_next g y i (suc zero) k u h = absurd (omega arith)
+up_next g y i (suc (suc n)) zero u h =
+    let e : i + 0 ≡ i = omega arith in
+    let z : i + 1 ≡ suc i = omega arith in
+    rw (e, z) u.1.0
+up_next g y i (suc (suc n)) (suc k) u h =
+    let e : i + suc k ≡ suc i + k = omega arith in
+    let z : i + suc (suc k) ≡ suc i + suc k = omega arith in
+    rw (e, z) (up_next g (g i).0 (suc i) (suc n) k u.1 (omega arith))
+
+pub up_rises : (y : ℕ) (tracks : List ℕ) (filters : List Float) (n : ℕ) → Up y (table_in tracks filters n) → Rises tracks n
+up_rises y tracks filters n u =
+    record {
+      next =
+          λ k h.
+          let z : 0 + k ≡ k = zero-add k in
+          let w : 0 + suc k ≡ suc k = zero-add (suc k) in
+          rw (z, w) at (up_next (entry_in tracks filters) y 0 n k u h);
+    }
+
+pub ordered_rises : (b : ℕ) (tracks : List ℕ) (filters : List Float) (n : ℕ) → Ordered b 0 (table_in tracks filters n) → Rises tracks n
+ordered_rises b tracks filters n o = up_rises 0 tracks filters n (ordered_up b 0 (table_in tracks filters n) o)
 
 -- ---- what is not there
 

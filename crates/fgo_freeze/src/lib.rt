@@ -1,4 +1,5 @@
-// Freezing: the oldest scan's detections move the frozen parts of their tracks on, and parts that nothing asks for any more are forgotten.
+// Freezing: the oldest scan's detections move the frozen parts of their tracks on, and parts that nothing asks for any
+// more are forgotten.
 #![tactic(auto)]
 
 pub mod moment;
@@ -26,7 +27,8 @@ use fgo_state::scans::Scans;
 use kf::filter::{Dot, Kf};
 use scalar::bits;
 
-// A detection as it is frozen: the number of its scan, the scan's time, where it lies, and the class that its association knows.
+// A detection as it is frozen: the number of its scan, the scan's time, where it lies, and the class that its
+// association knows.
 #[derive(Clone, Copy)]
 pub struct Detection {
     pub scan: ScanIndex,
@@ -127,8 +129,9 @@ fn freeze(c: FgoConfig, p: Prefix, d: Detection) -> Prefix
 // ---- the table of frozen parts
 
 // The parts from k on move up by one.
-// As it is, here and below: the parts and how many there are are two arguments. A caller lends the parts apart from the state, which counts them, so a
-// struct of both would hold a `&mut`, and of such a struct no fact says what it holds afterwards.
+// As it is, here and below: the parts and how many there are are two arguments. A caller lends the parts apart from the
+// state, which counts them, so a struct of both would hold a `&mut`, and of such a struct no fact says what it holds
+// afterwards.
 // As it is: by PART and FILTER, at which stride parts lie in the lent memory: that is a published format.
 fn make_room(parts: &mut FrozenParts, k: usize, frozen: usize)
     requires { (k ≤ frozen) × (frozen < FROZEN) }
@@ -168,7 +171,8 @@ fn freeze_one(
     frozen + 1
 }
 
-// The detections of a scan are frozen into their tracks; how many parts there are then. The scan's body must pass, the table be in order and have room.
+// The detections of a scan are frozen into their tracks; how many parts there are then. The scan's body must pass, the
+// table be in order and have room.
 pub fn freeze_scan(
     c: FgoConfig,
     scans: &Scans,
@@ -193,19 +197,20 @@ pub fn freeze_scan(
 
 // ---- forgetting
 
-// Whether frozen part k stays: its track has a window, or its age is at most forget_after_ns.
+// Whether frozen part k stays: its age is at most forget_after_ns, or its track has a window, which is the longer of
+// the two to find out.
 fn is_kept(at: Moment, held: &HeldRef<'_>, tracks: &[u64; PARTS], k: usize) -> bool
     requires { (k < FROZEN) × (time_ok (part_last_ns tracks.now k) ≡ true) }
     ensures { result
         ≡ kept_in at.config at.time (scans_in held.now.scans.now.bodies held.now.scans.now.columns held.now.first.0 held.now.count) tracks.now k }
 {
-    held.windows_in(part_id(tracks, k)) || at.part_age(tracks, k) <= at.config.forget_after_ns
+    at.part_age(tracks, k) <= at.config.forget_after_ns || held.windows_in(part_id(tracks, k))
 }
 
 // The frozen parts that stay, moved together; how many they are. All times must be in bounds.
-// As it is: a loop like that of `keep_owners`. This one moves parts in two arrays, that one entries in one, so a function of both would take a closure that
-// tells which stay and one that moves them, which is no plainer. `w += 1` counts those that stayed, which no iterator tells after its last, as `put_tracks` of
-// fgo_emit says.
+// As it is: a loop like that of `keep_owners`. This one moves parts in two arrays, that one entries in one, so a
+// function of both would take a closure that tells which stay and one that moves them, which is no plainer. `w += 1`
+// counts those that stayed, which no iterator tells after its last, as `put_tracks` of fgo_emit says.
 pub fn forget(
     c: FgoConfig,
     time: i64,

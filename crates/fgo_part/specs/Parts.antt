@@ -1,7 +1,8 @@
 -- The frozen parts of tracks in lent memory: of each PART words and FILTER numbers. Definitions only.
 --
--- The words are its id, last frame, last time, count, class and number of heights; the numbers are those of its filter, then its last heights, oldest first.
-use Rattle.std.specs.Prelude.{ℕ, ◌+◌, ◌*◌, ◌^◌, ◌≡◌, cond, leb, ltb, ℤ, Float, None, Some}
+-- The words are its id, last frame, last time, count, class and number of heights; the numbers are those of its filter,
+-- then its last heights, oldest first.
+use Rattle.std.specs.Prelude.{ℕ, suc, ◌+◌, ◌*◌, ◌^◌, ◌<◌, ◌≡◌, cond, leb, ltb, ℤ, Float, Option, None, Some, MatchOption}
 use Rattle.std.specs.Prelude.{List, [], ◌∷◌, ◌++◌, get_or, replicate}
 use Rattle.std.specs.Float.{nan, binary64}
 use Rattle.std.specs.Float.Ieee.{of_bits}
@@ -80,6 +81,14 @@ prefix_in tracks filters k =
 -- the ids of the first n frozen parts
 abbrev pub part_ids : List ℕ → ℕ → List ℕ
 part_ids tracks n = rows (part_id tracks) 0 n
+
+-- they rise
+pub record Rises (tracks : List ℕ) (n : ℕ) : Type 0 where
+  pub next : (k : ℕ) → suc k < n → part_id tracks k < part_id tracks (suc k)
+
+-- r is the place of the part of the track x among the first n; there is none where no part has its id
+abbrev pub IsPartOf : List ℕ → ℕ → ℕ → Option ℕ → Type 0
+IsPartOf tracks n x r = MatchOption r ((k : ℕ) → k < n → x ≡ part_id tracks k → ⊥) (λ i. (i < n) × (x ≡ part_id tracks i))
 
 -- frozen part k under its id
 abbrev pub entry_in : List ℕ → List Float → ℕ → ℕ × windows.Prefix

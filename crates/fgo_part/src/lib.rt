@@ -1,6 +1,7 @@
 // The frozen parts of tracks in lent memory: of each PART words and FILTER numbers.
 //
-// The words are its id, last frame, last time, count, class and number of heights; the numbers are those of its filter, then its last heights, oldest first.
+// The words are its id, last frame, last time, count, class and number of heights; the numbers are those of its filter,
+// then its last heights, oldest first.
 #![tactic(auto)]
 
 ghost use Rattle.std.specs.Prelude.{◌≡◌, [], ◌∷◌, ◌++◌, ◌<◌, ◌≤◌};
@@ -9,7 +10,7 @@ ghost use Rattle.fgo_spec.specs.Lists.{has, place_in};
 ghost use Rattle.fgo_spec.specs.Freezing.{recent, mean};
 ghost use Rattle.fgo_spec.specs.Emitting.{class_word};
 ghost use Rattle.fgo_part.specs.Parts.{class_in, part_id, part_last_frame, part_last_ns, part_count, part_class, part_height_count};
-ghost use Rattle.fgo_part.specs.Parts.{part_ids, part_kf, heights_of, prefix_in, prefix_of, no_parts, Copied, Put};
+ghost use Rattle.fgo_part.specs.Parts.{part_ids, Rises, IsPartOf, part_kf, heights_of, prefix_in, prefix_of, no_parts, Copied, Put};
 
 use bounds::{FILTER, FILTERS, HEIGHTS, KF, PART, PARTS};
 use buffers::{array_at, put};
@@ -20,7 +21,8 @@ use scalar::bits;
 // ---- heights
 
 // The last heights of a track, oldest first, and how many there are.
-// As it is: no ghost field says that there are no more than HEIGHTS: a caller may lend any memory, sound or not, and a part is read from it.
+// As it is: no ghost field says that there are no more than HEIGHTS: a caller may lend any memory, sound or not, and a
+// part is read from it.
 #[derive(Clone, Copy)]
 pub struct Heights {
     pub values: [f64; HEIGHTS],
@@ -107,8 +109,9 @@ pub fn class_of(w: u64) -> Option<u32>
 
 // ---- the fields of part k, which is below FROZEN
 //
-// As it is, here and below: functions of the words or of the numbers, and no struct of a part. `FrozenTracks` below, the words with a count, would serve the
-// rule and the search; but `prefix_at`, `put_track`, `part_age` and `is_kept` have no count, so these functions would stay beside its methods.
+// As it is, here and below: functions of the words or of the numbers, and no struct of a part. `FrozenTracks` below,
+// the words of parts in order with a count, would serve the search; but the rule has yet to tell the order, and
+// `prefix_at`, `put_track`, `part_age` and `is_kept` have no count, so these functions would stay beside its methods.
 
 // The id of its track.
 pub fn part_id(tracks: &[u64; PARTS], k: usize) -> RefinedId
@@ -168,12 +171,13 @@ pub fn part_kf(filters: &[f64; FILTERS], k: usize) -> Kf
 
 // ---- the tracks that have a frozen part
 
-// The frozen parts of the first `count` places, by their words.
+// The frozen parts of the first `count` places, by their words; they lie by rising ids.
 #[derive(Clone, Copy)]
 pub struct FrozenTracks<'a> {
     pub tracks: &'a [u64; PARTS],
     pub count: usize,
     pub ghost few: { count ≤ FROZEN },
+    pub ghost rises: { Rises tracks.now count },
 }
 
 impl FrozenTracks<'_> {
@@ -181,18 +185,39 @@ impl FrozenTracks<'_> {
     pub fn has(&self, id: RefinedId) -> bool
         ensures { result ≡ has id.0 (part_ids self.now.tracks.now self.now.count) }
     {
-        (0..self.count).any(|k| id == part_id(self.tracks, k))
+        self.find(id).is_some()
     }
 
-    // The first place whose id is not below this one.
-    // As it is: from place to place, and no `partition_point`, which takes a slice: the ids lie a stride apart in the lent words, a published format. And this
-    // is promised of any table, where `partition_point` says something of an ordered one only.
+    // The place of a track's part, if it has one.
+    pub fn find(&self, id: RefinedId) -> Option<usize>
+        ensures { IsPartOf self.now.tracks.now self.now.count id.0 result }
+    {
+        let k = self.place_of(id);
+        if k < self.count && part_id(self.tracks, k) == id {
+            Some(k)
+        } else {
+            None
+        }
+    }
+
+    // The first place whose id is not below this one: ids rise, so half of the places that are left go with each look
+    // at one.
+    // As it is: a loop, and no `partition_point`, which takes a slice: the ids lie a stride apart in the lent words, a
+    // published format.
     pub fn place_of(&self, id: RefinedId) -> usize
         ensures { (result ≡ place_in id.0 (part_ids self.now.tracks.now self.now.count)) × (result ≤ self.now.count) }
     {
-        (0..self.count)
-            .position(|k| id <= part_id(self.tracks, k))
-            .unwrap_or(self.count)
+        let mut low: usize = 0;
+        let mut high = self.count;
+        while low < high {
+            let middle = low + (high - low) / 2;
+            if id <= part_id(self.tracks, middle) {
+                high = middle;
+            } else {
+                low = middle + 1;
+            }
+        }
+        low
     }
 }
 

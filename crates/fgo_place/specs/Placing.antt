@@ -1,7 +1,7 @@
 -- Document 01, "placing", on the lent owner table. Definitions only.
 --
--- By the state rule every owner before the push is live, and no track from the next id on is. So an owner is live just where it is below the next id as it
--- was before the push.
+-- By the state rule every owner before the push is live, and no track from the next id on is. So an owner is live just
+-- where it is below the next id as it was before the push.
 use Rattle.std.specs.Prelude.{ℕ, ◌+◌, ◌≤◌, ◌≡◌, cond, ◌&&◌, not, List, [], ◌∷◌, ◌++◌, length, take, leb, ltb, None, Some}
 use Rattle.bounds.specs.Bounds.{ASSOCIATIONS, OWNED, OWNERS}
 use Rattle.engine.specs.declared.types.Association.{Association}

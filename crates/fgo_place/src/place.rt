@@ -14,8 +14,8 @@ use engine::types::{EngineId, RefinedId};
 use fgo_state::owners::{OwnersRef, put_owner};
 
 // An engine id gets an owner: its entry, or a new one at the end while there is room. How many entries there are then.
-// As it is, here and in own.rt: the owners and how many there are, as two arguments. Once the array is lent to a struct by `&mut`, no fact says what it holds
-// afterwards.
+// As it is, here and in own.rt: the owners and how many there are, as two arguments. Once the array is lent to a struct
+// by `&mut`, no fact says what it holds afterwards.
 fn assign(owners: &mut [u64; OWNERS], owned: usize, e: EngineId, x: RefinedId) -> usize
     requires { owned ≤ OWNED }
     ensures few { result ≤ OWNED }
@@ -36,7 +36,8 @@ fn assign(owners: &mut [u64; OWNERS], owned: usize, e: EngineId, x: RefinedId) -
     owned
 }
 
-// The owner of an engine id, if it was there before this push and has no detection among the ids of the frame so far. `old` is the next id before the push.
+// The owner of an engine id, if it was there before this push and has no detection among the ids of the frame so far.
+// `old` is the next id before the push.
 fn free_owner(old: RefinedId, table: &OwnersRef<'_>, e: EngineId, ids: &[u64]) -> Option<RefinedId>
     ensures { result ≡ id_from (free_below old.0 ids.now (owner_of table.now.entries.now table.now.owned e.0)) }
 {
@@ -96,7 +97,8 @@ fn place_one(
     }
 }
 
-// The associations of a frame, in order, none of which has an id yet: the ids of their tracks. The next id must be below 2^62.
+// The associations of a frame, in order, none of which has an id yet: the ids of their tracks. The next id must be
+// below 2^62.
 pub fn place_all(
     b: &CheckedBody<'_>,
     begun: Placing,

@@ -10,15 +10,17 @@ use lib.Seq.{drop-cons}
 use lib.Dec.{eqb}
 use Rattle.engine.specs.declared.types.Association.{Association}
 use Rattle.engine.specs.Frame.{no_association, Associated}
-use Rattle.engine.specs.Body.{Body, frame_in, associations_in}
+use Rattle.engine.specs.Body.{Body, frame_in, associations_in, rows}
 use Rattle.fgo_spec.specs.Lists.{any, has}
 use Rattle.fgo_spec.specs.Refiner.{join}
 use Rattle.fgo_part.specs.Parts.{cells}
 use Rattle.fgo_state.specs.Memory.{association_in}
-use Rattle.fgo_refuse.specs.Refusing.{engines_in, join_end, joined_in}
+use Rattle.fgo_state.specs.Owners.{engines_in}
+use Rattle.fgo_refuse.specs.Refusing.{join_end, joined_in}
 use Rattle.engine.proofs.Passing.{length-rows}
 use Rattle.fgo_state.proofs.Counts.{associations_long}
 use Rattle.std.specs.Prelude.{None, Some}
+use Rattle.std.proofs.lemmas.List.{append-nil}
 
 -- the same ids, and as many
 pub record Alike (k l : List ℕ) : Type 0 where
@@ -63,32 +65,39 @@ module _ (owners : List ℕ) (owned : ℕ) (s : Body) where
   joined-more j h =
       ap (foldr (λ (a : Association). join a.track) (engines_in owners owned)) (drop-cons (frame_in s).associations j no_association (rw (associations_long s) h))
 
-  -- where the first n of a list are the engine ids with an owner, joined with those of the associations from j on
+  -- where the engine ids with an owner and the first n of a list are those joined with the associations' from j on
   pub record Joins (all : List ℕ) (n j : ℕ) : Type 0 where
     pub some : j ≤ associations_in s
-    pub few : n + j ≤ owned + associations_in s
-    pub alike : Alike (cells 0 all 0 n) (joined_in owners owned s j)
+    pub few : n + j ≤ associations_in s
+    pub alike : Alike (engines_in owners owned ++ cells 0 all 0 n) (joined_in owners owned s j)
 
-  pub joins_none : {all : List ℕ} (j : ℕ) → j ≡ associations_in s → cells 0 all 0 owned ≡ engines_in owners owned → Joins all owned j
-  joins_none j h e =
-      let f = e ∙ sym (joined_none j (omega arith)) in
+  pub joins_none : {all : List ℕ} (j : ℕ) → j ≡ associations_in s → Joins all 0 j
+  unfolding rows
+  joins_none j h =
+      let f = append-nil (engines_in owners owned) ∙ sym (joined_none j (omega arith)) in
       record { some = omega arith; few = omega arith; alike = record { same = λ x. ap (has x) f; long = ap length f } }
 
-  pub joins_more : {all all' : List ℕ} {n n' j : ℕ} {a : Associated} → Joins all n j → 0 < j → a ≡ (association_in s (j - 1)).track → cells 0 all' 0 n' ≡ join_end a (cells 0 all 0 n) → n' ≤ n + 1 → Joins all' n' (j - 1)
+  pub joins_more :
+      {all all' : List ℕ} {n n' j : ℕ} {a : Associated} → Joins all n j → 0 < j → a ≡ (association_in s (j - 1)).track →
+      engines_in owners owned ++ cells 0 all' 0 n' ≡ join_end a (engines_in owners owned ++ cells 0 all 0 n) → n' ≤ n + 1 → Joins all' n' (j - 1)
   joins_more {all} {all'} {n} {n'} {j} {a} p h ea e few =
       let i : suc (j - 1) ≡ j = omega arith in
       let some = p.some in
       let count = p.few in
       let step : joined_in owners owned s (j - 1) ≡ join a (joined_in owners owned s j) =
       joined-more (j - 1) (omega arith) ∙ ap (λ (k : ℕ). join (association_in s (j - 1)).track (joined_in owners owned s k)) i ∙ ap (λ (b : Associated). join b (joined_in owners owned s j)) (sym ea) in
-      let q = alike_joined a (cells 0 all 0 n) (joined_in owners owned s j) p.alike in
+      let q = alike_joined a (engines_in owners owned ++ cells 0 all 0 n) (joined_in owners owned s j) p.alike in
       record {
         some = omega arith;
         few = omega arith;
         alike = record { same = λ x. ap (has x) e ∙ q.same x ∙ ap (has x) (sym step); long = ap length e ∙ q.long ∙ ap length (sym step) };
       }
 
-  pub joins_all : {all : List ℕ} {n j : ℕ} → Joins all n j → j ≤ 0 → n ≡ length (joined_in owners owned s 0)
+  pub joins_all : {all : List ℕ} {n j : ℕ} → Joins all n j → j ≤ 0 → owned + n ≡ length (joined_in owners owned s 0)
   joins_all {all} {n} {j} p h =
       let z : j ≡ 0 = omega arith in
-      sym (length-rows _ 0 n) ∙ p.alike.long ∙ ap (λ (k : ℕ). length (joined_in owners owned s k)) z
+      let long = length-append (engines_in owners owned) (cells 0 all 0 n) in
+      let m : length (engines_in owners owned) ≡ owned = length-rows _ 0 owned in
+      let k : length (cells 0 all 0 n) ≡ n = length-rows _ 0 n in
+      let g : owned + n ≡ length (engines_in owners owned ++ cells 0 all 0 n) = omega arith in
+      g ∙ p.alike.long ∙ ap (λ (k : ℕ). length (joined_in owners owned s k)) z

@@ -1,4 +1,5 @@
--- The refusal that the code finds is the one of the refiner as defined, and a push is what that refusal leaves. Assumes nothing.
+-- The refusal that the code finds is the one of the refiner as defined, and a push is what that refusal leaves. Assumes
+-- nothing.
 use Prim.Native.Nat.{ℕ, zero, suc, ◌+◌}
 use native.Mathlib.Omega.{arith}
 use mathlib.Core.Path.{◌≡◌, refl, ap, ◌∙◌}

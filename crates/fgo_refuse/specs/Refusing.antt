@@ -2,12 +2,13 @@
 use Rattle.std.specs.Prelude.{ℕ, zero, suc, ◌+◌, ◌≤◌, Bool, cond, ◌||◌, length, drop, leb, ltb, None, Some}
 use mathlib.Core.List.{List, [], ◌∷◌, ◌++◌, foldr}
 use Rattle.bounds.specs.Bounds.{SCANS, ACCEPTED, COUNTED, DETECTIONS, FROZEN, OWNED}
-use Rattle.engine.specs.Body.{Body, frame_in, body_refusal, rows}
+use Rattle.engine.specs.Body.{Body, frame_in, body_refusal}
 use Rattle.fgo_spec.specs.Lists.{has}
 use Rattle.fgo_spec.specs.Windows.{window_count}
 use Rattle.fgo_spec.specs.Refiner.{first_of, id_count, join}
 use Rattle.fgo_state.specs.declared.state.FixedLagRefiner.{FixedLagRefiner}
-use Rattle.fgo_state.specs.Memory.{scans_in, engine_at, or_none}
+use Rattle.fgo_state.specs.Memory.{scans_in, or_none}
+use Rattle.fgo_state.specs.Owners.{engines_in}
 use Rattle.engine.specs.Frame.{Associated}
 
 -- 8: "4,294,967,295 scans accepted, or next id or a counter above 2^60"
@@ -17,10 +18,6 @@ full_in r =
     leb ACCEPTED (r.first.0 + r.held)
     || (ltb COUNTED r.next_id.0
     || (ltb COUNTED k.swaps || (ltb COUNTED k.merges || (ltb COUNTED k.splits || ltb COUNTED k.drops))))
-
--- the engine ids of the owner table
-abbrev pub engines_in : List ℕ → ℕ → List ℕ
-engines_in owners n = rows (engine_at owners) 0 n
 
 -- a list with one more engine id, if it is not there
 abbrev pub join_end : Associated → List ℕ → List ℕ

@@ -1,22 +1,22 @@
 // What a push is refused for, once the state is sound and the buffers are long enough.
 #![tactic(auto)]
 
-ghost use Rattle.std.specs.Prelude.{◌≡◌, ◌+◌, ◌<◌, ◌≤◌, length, Some};
-ghost use Rattle.bounds.specs.Bounds.{ACCEPTED, ASSOCIATIONS, JOINED};
+ghost use Rattle.std.specs.Prelude.{◌≡◌, ◌+◌, ◌<◌, ◌≤◌, ◌++◌, length, Some};
+ghost use Rattle.bounds.specs.Bounds.{ACCEPTED, ASSOCIATIONS};
 ghost use Rattle.refusals.specs.Refusals.{refused};
 ghost use Rattle.engine.specs.Body.{body_of, frame_in};
 ghost use Rattle.fgo_spec.specs.Refiner.{id_count};
-ghost use Rattle.buffers.specs.Buffers.{over};
 ghost use Rattle.fgo_part.specs.Parts.{cells};
-ghost use Rattle.fgo_refuse.specs.Refusing.{full_in, engines_in, join_end, joined_in, Refuses, push_refusal};
+ghost use Rattle.fgo_refuse.specs.Refusing.{full_in, join_end, joined_in, Refuses, push_refusal};
 
-use bounds::{ACCEPTED, COUNTED, DETECTIONS, JOINED, OWNED, OWNERS};
+use bounds::{ACCEPTED, ASSOCIATIONS, COUNTED, DETECTIONS, OWNED, OWNERS};
 use engine::body::Body;
 use engine::checked::CheckedBody;
 use engine::types::EngineId;
-use fgo_state::owners::{OwnersRef, engine_at};
+use fgo_state::owners::OwnersRef;
 use fgo_state::scans::Scans;
 use fgo_state::state::FixedLagRefiner;
+use id_index::IdIndex;
 use refusals::Refusal;
 
 // New associations with an id.
@@ -28,43 +28,22 @@ fn id_count(b: &CheckedBody<'_>) -> usize
         .count()
 }
 
-// The engine ids of the owner table.
-fn owner_keys(o: &OwnersRef<'_>, all: &mut [u64; JOINED])
-    ensures { all.new ≡ over 0 (engines_in o.now.entries.now o.now.owned) all.old }
-{
-    for (k, id) in all[..o.owned].iter_mut().enumerate() {
-        *id = engine_at(o.entries, k).0;
-    }
-}
-
-// The engine ids that a push joins: the first `count`.
+// The engine ids of a frame that no owner entry has, each once: the first `count`.
 #[derive(Drop)]
 struct Joined {
-    all: [u64; JOINED],
+    all: [u64; ASSOCIATIONS],
     count: usize,
 }
 
 impl Joined {
-    // Those of the owner table.
-    fn of(o: &OwnersRef<'_>) -> Joined
-        ensures ids { cells 0 result.all 0 result.count ≡ engines_in o.now.entries.now o.now.owned }
-        ensures count { result.count ≡ o.now.owned }
-    {
-        let mut all = [0; JOINED];
-        owner_keys(o, &mut all);
-        Joined {
-            all,
-            count: o.owned,
-        }
-    }
-
-    // One more, unless it is among them.
-    fn join(&mut self, e: EngineId)
-        requires { self.old.count < JOINED }
-        ensures ids { cells 0 self.new.all 0 self.new.count ≡ join_end (Some e) (cells 0 self.old.all 0 self.old.count) }
+    // One more, unless an entry has it or it is among them.
+    fn join(&mut self, owners: &IdIndex<'_>, e: EngineId)
+        requires { self.old.count < ASSOCIATIONS }
+        ensures ids { owners.now.ids.now ++ cells 0 self.new.all 0 self.new.count
+            ≡ join_end (Some e) (owners.now.ids.now ++ cells 0 self.old.all 0 self.old.count) }
         ensures count { self.new.count ≤ self.old.count + 1 }
     {
-        if !self.all[..self.count].contains(&e.0) {
+        if !owners.has(e.0) && !self.all[..self.count].contains(&e.0) {
             self.all[self.count] = e.0;
             self.count += 1;
         }
@@ -75,13 +54,19 @@ impl Joined {
 fn joined_count(o: &OwnersRef<'_>, b: &CheckedBody<'_>) -> usize
     ensures { result ≡ length (joined_in o.now.entries.now o.now.owned (body_of b.now.body) 0) }
 {
-    let mut joined = Joined::of(o);
+    let mut keys = [0; OWNED];
+    o.keys(&mut keys);
+    let owners = IdIndex::of(&keys[..o.owned]);
+    let mut joined = Joined {
+        all: [0; ASSOCIATIONS],
+        count: 0,
+    };
     for j in (0..b.body.association_count()).rev() {
         if let Some(e) = b.association(j).track {
-            joined.join(e);
+            joined.join(&owners, e);
         }
     }
-    joined.count
+    o.owned + joined.count
 }
 
 // `Refusal::Count`: no more scans, ids or moves can be counted.
@@ -98,8 +83,9 @@ fn is_full(r: &FixedLagRefiner) -> bool
         || COUNTED < k.drops
 }
 
-// Whether a frame may be pushed, after `State` and `Output`: or the first that it is refused for of `Frame`, `Coordinate`, `Index`, `Count`, `Detections` and
-// `Owners`. It asks that SCANS scans at most are held, with FROZEN parts and OWNED owners at most.
+// Whether a frame may be pushed, after `State` and `Output`: or the first that it is refused for of `Frame`,
+// `Coordinate`, `Index`, `Count`, `Detections` and `Owners`. It asks that SCANS scans at most are held, with FROZEN
+// parts and OWNED owners at most.
 pub fn check_push(
     r: &FixedLagRefiner,
     scans: &Scans,

@@ -1,13 +1,10 @@
 -- A test of all numbers below a bound, and a test of all of a list. Assumes nothing.
-use Prim.Native.Nat.{ℕ, zero, suc, ◌+◌, ◌<◌, ◌≤◌}
+use Prim.Native.Nat.{ℕ, zero, suc, ◌+◌, ◌<◌}
 use native.Mathlib.Nat.{zero-add, add-zero, add-suc, suc-add}
 use native.Mathlib.Omega.{arith}
 use mathlib.Core.Path.{◌≡◌, refl, sym, ap, ◌∙◌}
 use mathlib.Core.Bool.{Bool, true, false, ◌&&◌, and_assoc}
 use mathlib.Core.List.{List, [], ◌∷◌, ◌++◌}
-use lib.ListN.{length, get_or, take}
-use Rattle.std.specs.List.{list_all}
-use Rattle.std.proofs.lemmas.List.{get_or-take, length-take-le}
 use Rattle.engine.specs.Body.{all, rows}
 use Rattle.engine.proofs.Every.{all_front}
 use Rattle.fgo_spec.specs.Rule.{all_of}
@@ -19,11 +16,6 @@ all_same p q zero h = refl
 all_same p q (suc n) h = ap (λ b. b && p n) (all_same p q n (λ i l. h i (omega arith))) ∙ ap (λ b. all q n && b) (h n (omega arith))
 
 module _ {A : Type 0} (q : A → Bool) where
-  -- of the entries of a list
-  pub all_list : (l : List A) (d : A) → all (λ i. q (get_or l i d)) (length l) ≡ all_of q l
-  all_list [] d = unfold all in refl
-  all_list (a ∷ l) d = all_front (λ i. q (get_or (a ∷ l) i d)) (length l) ∙ ap (λ b. q a && b) (all_list l d)
-
   pub all_of-append : (k l : List A) → all_of q (k ++ l) ≡ (all_of q k && all_of q l)
   all_of-append [] l = refl
   all_of-append (a ∷ k) l = ap (λ b. q a && b) (all_of-append k l) ∙ sym (and_assoc (q a) (all_of q k) (all_of q l))
@@ -52,16 +44,3 @@ all_both p q (suc n) = ap (λ b. b && (p n && q n)) (all_both p q n) ∙ swap (a
     swap true false true d = refl
     swap true false false d = refl
     swap false b c d = refl
-
--- of a list as std says it
-list_of : {A : Type 0} (q : A → Bool) (l : List A) → list_all q l ≡ all_of q l
-list_of q [] = refl
-list_of q (a ∷ l) = ap (λ b. q a && b) (list_of q l)
-
--- of the first of a list
-pub all_taken : {A : Type 0} (q : A → Bool) (l : List A) (n : ℕ) (d : A) → n ≤ length l → list_all q (take n l) ≡ all (λ i. q (get_or l i d)) n
-all_taken q l n d h =
-    list_of q (take n l)
-    ∙ sym (all_list q (take n l) d)
-    ∙ ap (all (λ i. q (get_or (take n l) i d))) (length-take-le n l h)
-    ∙ all_same _ _ n (λ i g. ap q (get_or-take n l i d g))

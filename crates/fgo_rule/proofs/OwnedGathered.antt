@@ -3,16 +3,16 @@ use Prim.Native.Nat.{ℕ, zero, suc, ◌+◌, ◌<◌}
 use native.Mathlib.Nat.{zero-add}
 use native.Mathlib.Omega.{arith}
 use mathlib.Core.Path.{◌≡◌, refl, sym, ap, ◌∙◌}
-use mathlib.Core.Bool.{Bool, true, ◌&&◌}
+use mathlib.Core.Bool.{Bool, true, ◌&&◌, ◌||◌, not}
 use mathlib.Core.List.{List, [], ◌∷◌, map-append}
 use mathlib.Core.Option.{Option, none, some}
-use lib.ListN.{length, get_or, length-map}
+use lib.ListN.{length, get_or, take, drop, length-map}
+use lib.Seq.{take_at}
 use lib.Dec.{eqb}
 use borrow.Author.Tests.{ne_eqb}
 use Rattle.bounds.specs.Bounds.{DETECTIONS}
 use Rattle.engine.specs.declared.types.Association.{Association}
 use Rattle.engine.specs.Frame.{Frame, engine_of, Associated}
-use Rattle.engine.specs.Body.{all}
 use Rattle.engine.proofs.Every.{all-at}
 use Rattle.fgo_spec.specs.Lists.{find}
 use Rattle.fgo_spec.specs.Windows.{Scan}
@@ -24,12 +24,13 @@ use Rattle.fgo_spec.proofs.Latest.{tied_latest}
 use Rattle.buffers.specs.Buffers.{over}
 use Rattle.fgo_state.specs.Memory.{scan_in, scans_in, owners_in, or_none}
 use Rattle.fgo_state.specs.Gathering.{gathered_in, gathered_of, gathered, engines_of, found_of, latest_of, GatheredAll}
-use Rattle.fgo_rule.specs.Tests.{columns_ok, owned_at, owned_all, owned_in, Owning}
+use Rattle.fgo_rule.specs.Tests.{columns_ok, last_at, owned_at, owned_all, owned_in, Owning}
 use Rattle.fgo_spec.proofs.Rows.{rows_all}
-use Rattle.buffers.proofs.Over.{over_in}
-use Rattle.fgo_rule.proofs.AllOf.{all_same, all_list, all_of-append}
+use Rattle.fgo_rule.proofs.AllOf.{all_same, all_of-append}
+use Rattle.fgo_rule.proofs.LastPlace.{all_lasts}
 use Rattle.fgo_rule.proofs.Scans.{tied_column}
-use Rattle.fgo_state.proofs.HeldGathered.{found_few_enough, latest_same}
+use Rattle.fgo_state.proofs.HeldGathered.{starts_within, latest_same}
+use Rattle.fgo_state.proofs.LatestGathered.{latest-taken}
 use Rattle.std.specs.Prelude.{None, Some}
 
 module _ (os : List (ℕ × ℕ)) (ss : List Scan) where
@@ -90,19 +91,24 @@ module _ (bodies columns owners : List ℕ) (first held entries n : ℕ) (is es 
   tied-all : All (TiedScan (λ e. Unit {0})) ss
   tied-all = rows_all (TiedScan (λ e. Unit {0})) (scan_in bodies columns) first held tied
 
-  engine-at : (i : ℕ) → i < length found → get_or es' i 0 ≡ get_or found i 0
-  engine-at i l =
-      ap (λ xs. get_or xs i 0) g.scans.engines ∙ ap (λ (j : ℕ). get_or (over 0 found es) j 0) (sym (zero-add i))
-      ∙ over_in 0 found es (omega (arith, length-map (found_of bodies columns first held) (λ x. x.engine), found_few_enough bodies columns first held n is es is' es' ts' h.scans g)) i 0 l
+  engines_taken : take n es' ≡ found
+  unfolding over
+  engines_taken =
+      let m : length found ≡ n = length-map (found_of bodies columns first held) (λ x. x.engine) ∙ sym (zero-add _) ∙ sym g.scans.count in
+      ap (take n) g.scans.engines ∙ take_at found (drop (0 + length found) es) n m
 
-  pub owned_gathered : owned_all is' es' ts' held owners entries n ≡ owned_in bodies columns first held owners entries
+  latest-found : (e : ℕ) → latest_of e is' found ts' held ≡ latest e 0 ss
+  latest-found e =
+      ap (λ (xs : List ℕ). latest_of e is' xs ts' held) (sym engines_taken)
+      ∙ latest-taken (starts_within bodies columns first held n is es is' es' ts' h.scans g) e is' es'
+      ∙ latest_same bodies columns first held n is es is' es' ts' h.scans g tied v w e
+
+  -- by the engine ids that were gathered
+  pub owned_gathered : owned_all is' (take n es') ts' held owners entries ≡ owned_in bodies columns first held owners entries
   unfolding owned_all owned_at owned_in
   owned_gathered =
-      let m : n ≡ length found = g.scans.count ∙ zero-add _ ∙ sym (length-map (found_of bodies columns first held) (λ x. x.engine)) in
-      ap (all (owned_at is' es' ts' held owners entries)) m
-      ∙ all_same (owned_at is' es' ts' held owners entries) (λ i. owned (owners_in owners entries) ss (get_or found i 0)) (length found)
-      (λ i l.
-      ap (λ (e : ℕ). eqb (or_none (find e (owners_in owners entries))) (latest_of e is' es' ts' held)) (engine-at i l)
-      ∙ ap (eqb (or_none (find (get_or found i 0) (owners_in owners entries)))) (latest_same bodies columns first held n is es is' es' ts' h.scans g tied v w (get_or found i 0)))
-      ∙ all_list (owned (owners_in owners entries) ss) found 0
+      ap (λ (xs : List ℕ). owned_all is' xs ts' held owners entries) engines_taken
+      ∙ all_same (owned_at is' found ts' held owners entries) (λ i. not (last_at found i) || owned (owners_in owners entries) ss (get_or found i 0)) (length found)
+      (λ i l. ap (λ (x : ℕ). not (last_at found i) || eqb (or_none (find (get_or found i 0) (owners_in owners entries))) x) (latest-found (get_or found i 0)))
+      ∙ all_lasts (owned (owners_in owners entries) ss) found
       ∙ scans-owned (owners_in owners entries) ss first ss (tied_latest (λ e. Unit {0}) (Late (owners_in owners entries) ss) ss (λ e p. p) tied-all)

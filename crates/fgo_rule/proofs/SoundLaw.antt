@@ -4,7 +4,7 @@ use native.Mathlib.Nat.{zero-add}
 use native.Mathlib.Omega.{arith}
 use mathlib.Core.Path.{◌≡◌, refl, sym, ap, ◌∙◌}
 use mathlib.Core.Bool.{Bool, true, false, ◌&&◌, ◌||◌, not, and-false, and_assoc}
-use mathlib.Core.List.{List, map}
+use mathlib.Core.List.{List, [], ◌∷◌, map}
 use lib.ListN.{length, get_or}
 use lib.Dec.{leb, ltb, eqb}
 use lib.Ieee.{Float, nan}
@@ -13,7 +13,7 @@ use Rattle.bounds.specs.Bounds.{ACCEPTED, DETECTIONS, FROZEN, OWNED, HEIGHTS}
 use Rattle.engine.specs.declared.types.Association.{Association}
 use Rattle.engine.specs.Body.{Body, all, time_ok, associations_in, frame_of, rows}
 use Rattle.engine.specs.Config.{legal, lag}
-use Rattle.engine.proofs.Every.{both}
+use Rattle.engine.proofs.Every.{both, all_front}
 use Rattle.engine.proofs.Passing.{length-rows}
 use Rattle.fgo_spec.specs.Lists.{has}
 use Rattle.fgo_spec.specs.Windows.{Scan, live, window_count}
@@ -22,14 +22,15 @@ use Rattle.fgo_spec.specs.Rule.{all_of, prefix_ok, rises_ok, apart_ok, loose_ok,
 use Rattle.fgo_state.specs.declared.state.FixedLagRefiner.{FixedLagRefiner}
 use Rattle.fgo_part.specs.Parts.{heights_in, part_id, part_last_frame, part_last_ns, part_count, part_height_count, part_heights_at, prefix_in, entry_in, table_in}
 use Rattle.fgo_state.specs.declared.state.Memory.{Memory}
-use Rattle.fgo_state.specs.Memory.{body_at, id_at, scan_in, scans_in, live_in, engine_at, owner_entry, owners_in, state_of, association_in}
+use Rattle.fgo_state.specs.Memory.{body_at, id_at, scan_in, scans_in, live_in, owner_entry, owners_in, state_of, association_in}
+use Rattle.fgo_state.specs.Owners.{engines_in}
 use Rattle.fgo_state.specs.Sound.{bodies_ok, sound_ok}
-use Rattle.fgo_rule.specs.Tests.{counts_ok, id_ok, column_in, columns_ok, id_before, part_ok, parts_ok, owned_in, distinct_at, entry_ok, entries_ok, sound_in}
+use Rattle.fgo_rule.specs.Tests.{counts_ok, id_ok, column_in, columns_ok, id_before, part_ok, parts_ok, last_at, distinct_in, owned_in, lives_in, sound_in}
 use Rattle.fgo_spec.proofs.Rows.{map_rows}
 use Rattle.fgo_state.proofs.Columns.{scan_complete}
 use Rattle.fgo_state.proofs.Live.{live_rule}
 use Rattle.fgo_rule.proofs.Conjunctions.{passed}
-use Rattle.fgo_rule.proofs.AllOf.{all_same, all-rows, all-numbers, all_both}
+use Rattle.fgo_rule.proofs.AllOf.{all_same, all-rows, all-numbers}
 use Rattle.fgo_rule.proofs.Scans.{row_in, association_row}
 
 -- ---- frozen parts
@@ -113,16 +114,13 @@ columns_rule next bodies columns first held =
 
 -- ---- owners
 
-distinct_from : (owners : List ℕ) (owned o m : ℕ) → o + m ≡ owned → all_of (distinct_at owners owned) (rows (λ i. i) o m) ≡ distinct_ok (rows (engine_at owners) o m)
-unfolding rows distinct_at distinct_ok
-distinct_from owners owned o zero e = refl
-distinct_from owners owned o (suc m) e =
-    let q : owned - suc o ≡ m = omega arith in
-    ap (λ (k : ℕ). not (has (engine_at owners o) (rows (engine_at owners) (suc o) k)) && all_of (distinct_at owners owned) (rows (λ i. i) (suc o) m)) q
-    ∙ ap (λ b. not (has (engine_at owners o) (rows (engine_at owners) (suc o) m)) && b) (distinct_from owners owned (suc o) m (omega arith))
+distinct_list : (es : List ℕ) → distinct_in es ≡ distinct_ok es
+unfolding distinct_in last_at distinct_ok
+distinct_list [] = unfold all in refl
+distinct_list (e ∷ es) = all_front (last_at (e ∷ es)) (length es) ∙ ap (λ b. not (has e es) && b) (distinct_list es)
 
-distinct_rule : (owners : List ℕ) (owned : ℕ) → all (distinct_at owners owned) owned ≡ distinct_ok (map (λ o. o.0) (owners_in owners owned))
-distinct_rule owners owned = all-numbers (distinct_at owners owned) owned ∙ distinct_from owners owned 0 owned (omega arith) ∙ ap distinct_ok (sym (map_rows (λ o. o.0) (owner_entry owners) 0 owned))
+distinct_rule : (owners : List ℕ) (owned : ℕ) → distinct_in (engines_in owners owned) ≡ distinct_ok (map (λ o. o.0) (owners_in owners owned))
+distinct_rule owners owned = distinct_list (engines_in owners owned) ∙ ap distinct_ok (sym (map_rows (λ o. o.0) (owner_entry owners) 0 owned))
 
 -- ---- the law
 
@@ -135,12 +133,12 @@ same_test false false f g = refl
 -- the code's order and the rule's; the sum bounds the frozen parts
 in_order :
     (l h f n z o b c p s w d v : Bool) → (s ≡ true → z ≡ true) →
-    ((l && (h && (f && (n && (z && o))))) && (b && (c && (p && (s && (w && (d && v)))))))
+    ((l && (h && (f && (n && (z && o))))) && (b && (c && (p && (s && (d && (w && v)))))))
     ≡ (b && (l && (h && (f && (n && (p && (c && (w && (s && (d && (v && o)))))))))))
 in_order l h f n z o b c p s w d v few =
     same_test _ _
     (λ t.
-    let a = both (l && (h && (f && (n && (z && o))))) (b && (c && (p && (s && (w && (d && v)))))) t in
+    let a = both (l && (h && (f && (n && (z && o))))) (b && (c && (p && (s && (d && (w && v)))))) t in
     let a1 = both l _ a.0 in
     let a2 = both h _ a1.1 in
     let a3 = both f _ a2.1 in
@@ -150,9 +148,9 @@ in_order l h f n z o b c p s w d v few =
     let b2 = both c _ b1.1 in
     let b3 = both p _ b2.1 in
     let b4 = both s _ b3.1 in
-    let b5 = both w _ b4.1 in
-    let b6 = both d v b5.1 in
-    passed b b1.0 (passed l a1.0 (passed h a2.0 (passed f a3.0 (passed n a4.0 (passed p b3.0 (passed c b2.0 (passed w b5.0 (passed s b4.0 (passed d b6.0 (passed v b6.1 (sym a5.1))))))))))))
+    let b5 = both d _ b4.1 in
+    let b6 = both w v b5.1 in
+    passed b b1.0 (passed l a1.0 (passed h a2.0 (passed f a3.0 (passed n a4.0 (passed p b3.0 (passed c b2.0 (passed w b6.0 (passed s b4.0 (passed d b5.0 (passed v b6.1 (sym a5.1))))))))))))
     (λ t.
     let a1 = both b _ t in
     let a2 = both l _ a1.1 in
@@ -166,7 +164,7 @@ in_order l h f n z o b c p s w d v few =
     let a10 = both d _ a9.1 in
     let a11 = both v o a10.1 in
     passed (l && (h && (f && (n && (z && o))))) (sym (passed l a2.0 (passed h a3.0 (passed f a4.0 (passed n a5.0 (passed z (few a9.0) (sym a11.1)))))))
-    (passed b a1.0 (passed c a7.0 (passed p a6.0 (passed s a9.0 (passed w a8.0 (passed d a10.0 (sym a11.0))))))))
+    (passed b a1.0 (passed c a7.0 (passed p a6.0 (passed s a9.0 (passed d a10.0 (passed w a8.0 (sym a11.0))))))))
 
 module _ (r : FixedLagRefiner) (m : Memory) where
   abbrev scans : List Scan
@@ -175,17 +173,13 @@ module _ (r : FixedLagRefiner) (m : Memory) where
   abbrev lives : ℕ × ℕ → Bool
   lives o = live (table_in m.parts.tracks m.parts.filters r.frozen) scans o.1
 
-  entries-rule :
-      entries_ok (live_in m.scans.bodies m.scans.columns r.first.0 r.held m.parts.tracks r.frozen) m.owners r.owned
-      ≡ (distinct_ok (map (λ o. o.0) (owners_in m.owners r.owned)) && all_of lives (owners_in m.owners r.owned))
-  unfolding entries_ok entry_ok
-  entries-rule =
+  lives-rule :
+      lives_in (live_in m.scans.bodies m.scans.columns r.first.0 r.held m.parts.tracks r.frozen) m.owners r.owned ≡ all_of lives (owners_in m.owners r.owned)
+  unfolding lives_in
+  lives-rule =
       let entry : ℕ → ℕ × ℕ = owner_entry m.owners in
-      all_both (distinct_at m.owners r.owned) (λ k. live_in m.scans.bodies m.scans.columns r.first.0 r.held m.parts.tracks r.frozen (entry k).1) r.owned
-      ∙ ap (λ b. b && all (λ k. live_in m.scans.bodies m.scans.columns r.first.0 r.held m.parts.tracks r.frozen (entry k).1) r.owned) (distinct_rule m.owners r.owned)
-      ∙ ap (λ b. distinct_ok (map (λ o. o.0) (owners_in m.owners r.owned)) && b)
-      (all_same _ (λ k. lives (entry (0 + k))) r.owned (λ k l. live_rule m.scans.bodies m.scans.columns r.first.0 r.held m.parts.tracks m.parts.filters r.frozen (entry k).1 ∙ ap (λ (j : ℕ). lives (entry j)) (sym (zero-add k)))
-      ∙ all-rows lives entry 0 r.owned)
+      all_same _ (λ k. lives (entry (0 + k))) r.owned (λ k l. live_rule m.scans.bodies m.scans.columns r.first.0 r.held m.parts.tracks m.parts.filters r.frozen (entry k).1 ∙ ap (λ (j : ℕ). lives (entry j)) (sym (zero-add k)))
+      ∙ all-rows lives entry 0 r.owned
 
   -- the tests that the code makes are the rule
   pub sound_rule : sound_in r m.scans.bodies m.scans.columns m.owners m.parts.tracks ≡ sound_ok r m
@@ -196,7 +190,7 @@ module _ (r : FixedLagRefiner) (m : Memory) where
       let frozen : length (table_in m.parts.tracks m.parts.filters r.frozen) ≡ r.frozen = length-rows (entry_in m.parts.tracks m.parts.filters) 0 r.frozen in
       let entries : length os ≡ r.owned = length-rows (owner_entry m.owners) 0 r.owned in
       rw (held, frozen, entries)
-      (rw (columns_rule r.next_id.0 m.scans.bodies m.scans.columns r.first.0 r.held, parts_rule r.first.0 r.next_id.0 m.parts.tracks m.parts.filters r.frozen, entries-rule)
+      (rw (columns_rule r.next_id.0 m.scans.bodies m.scans.columns r.first.0 r.held, parts_rule r.first.0 r.next_id.0 m.parts.tracks m.parts.filters r.frozen, distinct_rule m.owners r.owned, lives-rule)
       (in_order (legal r.config) (leb r.held (lag r.config)) (leb (r.first.0 + r.held) ACCEPTED) (ltb 0 r.next_id.0) (leb r.frozen FROZEN) (leb r.owned OWNED)
       (bodies_ok m.scans.bodies m.scans.columns r.first.0 r.held) (all_of (column_ok r.next_id.0) scans) (rises_ok r.first.0 r.next_id.0 0 (table_in m.parts.tracks m.parts.filters r.frozen))
       (leb (r.frozen + window_count scans) DETECTIONS) (all_of (λ s. rules.owned_ok os scans s.frame.associations s.ids) scans) (distinct_ok (map (λ o. o.0) os)) (all_of lives os)

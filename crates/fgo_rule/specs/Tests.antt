@@ -1,5 +1,6 @@
--- The tests that the code makes of a refiner and its lent memory, in the code's order: as one they are document 01's state rule. Definitions only.
-use Rattle.std.specs.Prelude.{ℕ, zero, suc, ◌+◌, ◌-◌, ◌≡◌, Bool, true, ◌&&◌, ◌||◌, not, List, get_or, leb, ltb, eqb}
+-- The tests that the code makes of a refiner and its lent memory, in the code's order: as one they are document 01's
+-- state rule. Definitions only.
+use Rattle.std.specs.Prelude.{ℕ, zero, suc, ◌+◌, ◌-◌, ◌≡◌, Bool, true, ◌&&◌, ◌||◌, not, List, length, drop, get_or, leb, ltb, eqb}
 use Rattle.bounds.specs.Bounds.{ACCEPTED, DETECTIONS, FROZEN, OWNED, HEIGHTS}
 use Rattle.engine.specs.Config.{legal, lag}
 use Rattle.engine.specs.Body.{Body, all, time_ok, associations_in, rows, body_refusal}
@@ -8,7 +9,8 @@ use Rattle.fgo_spec.specs.Windows.{window_count}
 use Rattle.fgo_spec.specs.Rule.{all_of, loose_ok, owned_ok}
 use Rattle.fgo_part.specs.Parts.{part_id, part_last_frame, part_last_ns, part_count, part_height_count}
 use Rattle.fgo_state.specs.declared.state.FixedLagRefiner.{FixedLagRefiner}
-use Rattle.fgo_state.specs.Memory.{body_at, id_at, scans_in, association_in, live_in, engine_at, owner_at, owner_of, owners_in}
+use Rattle.fgo_state.specs.Memory.{body_at, id_at, scans_in, association_in, live_in, owner_at, owner_of, owners_in}
+use Rattle.fgo_state.specs.Owners.{engines_in}
 use Rattle.fgo_state.specs.Gathering.{HeldScans, latest_of}
 use Rattle.fgo_state.specs.Sound.{bodies_ok}
 
@@ -19,7 +21,8 @@ counts_ok r =
     && (leb r.held (lag r.config)
     && (leb (r.first.0 + r.held) ACCEPTED && (ltb 0 r.next_id.0 && (leb r.frozen FROZEN && leb r.owned OWNED))))
 
--- the id of association j of scan n, of which the body is b: alone in what follows, below the next id, and clutter where there is no engine id
+-- the id of association j of scan n, of which the body is b: alone in what follows, below the next id, and clutter
+-- where there is no engine id
 unfoldable pub id_ok : ℕ → List ℕ → Body → ℕ → ℕ → Bool
 id_ok next columns b n j =
     let x = id_at columns n j in
@@ -35,7 +38,8 @@ unfoldable pub scan_ok : ℕ → List ℕ → List ℕ → ℕ → Bool
 scan_ok next bodies columns n =
     let b = body_at bodies columns n in eqb (body_refusal b) 0 && column_in next columns b n
 
--- "each held association lies in exactly one window or in clutter, those without engine id in clutter"; ids are below the next id
+-- "each held association lies in exactly one window or in clutter, those without engine id in clutter"; ids are below
+-- the next id
 unfoldable pub columns_ok : ℕ → List ℕ → List ℕ → ℕ → ℕ → Bool
 columns_ok next bodies columns first held = all (λ i. column_in next columns (body_at bodies columns (first + i)) (first + i)) held
 
@@ -44,7 +48,8 @@ abbrev pub id_before : List ℕ → ℕ → ℕ
 id_before tracks zero = 0
 id_before tracks (suc k) = part_id tracks k
 
--- "ids rise, are at least 1 and below the next id"; "a frozen part has count 1 to first, 1 to 5 heights, last frame before first, time in bounds"
+-- "ids rise, are at least 1 and below the next id"; "a frozen part has count 1 to first, 1 to 5 heights, last frame
+-- before first, time in bounds"
 unfoldable pub part_ok : ℕ → ℕ → List ℕ → ℕ → Bool
 part_ok first next tracks k =
     let count = part_count tracks k in
@@ -59,26 +64,27 @@ part_ok first next tracks k =
 unfoldable pub parts_ok : ℕ → ℕ → List ℕ → ℕ → Bool
 parts_ok first next tracks frozen = all (part_ok first next tracks) frozen
 
--- "an engine id in a window is owned by the holder of its latest": of the detection i of those gathered
+-- the id at place k of a list stands at no later place
+unfoldable pub last_at : List ℕ → ℕ → Bool
+last_at ids k = not (has (get_or ids k 0) (drop (suc k) ids))
+
+-- "owner entries have distinct engine ids": each of these
+unfoldable pub distinct_in : List ℕ → Bool
+distinct_in ids = all (last_at ids) (length ids)
+
+-- "an engine id in a window is owned by the holder of its latest": that of the detection i of those gathered, at its
+-- last place
 unfoldable pub owned_at : List ℕ → List ℕ → List ℕ → ℕ → List ℕ → ℕ → ℕ → Bool
 owned_at ids engines starts held owners owned i =
-    let e = get_or engines i 0 in eqb (owner_of owners owned e) (latest_of e ids engines starts held)
+    let e = get_or engines i 0 in not (last_at engines i) || eqb (owner_of owners owned e) (latest_of e ids engines starts held)
 
--- "an engine id in a window is owned by the holder of its latest": of each of the first n detections gathered
-unfoldable pub owned_all : List ℕ → List ℕ → List ℕ → ℕ → List ℕ → ℕ → ℕ → Bool
-owned_all ids engines starts held owners owned n = all (owned_at ids engines starts held owners owned) n
+-- each engine id gathered is so
+unfoldable pub owned_all : List ℕ → List ℕ → List ℕ → ℕ → List ℕ → ℕ → Bool
+owned_all ids engines starts held owners owned = all (owned_at ids engines starts held owners owned) (length engines)
 
--- "owner entries have distinct engine ids": entry k and those after it
-unfoldable pub distinct_at : List ℕ → ℕ → ℕ → Bool
-distinct_at owners owned k = not (has (engine_at owners k) (rows (engine_at owners) (suc k) (owned - suc k)))
-
--- "owner entries have distinct engine ids, live owners": entry k, by which ids are live
-unfoldable pub entry_ok : (ℕ → Bool) → List ℕ → ℕ → ℕ → Bool
-entry_ok lives owners owned k = distinct_at owners owned k && lives (owner_at owners k)
-
--- each owner entry is so
-unfoldable pub entries_ok : (ℕ → Bool) → List ℕ → ℕ → Bool
-entries_ok lives owners owned = all (entry_ok lives owners owned) owned
+-- "owner entries have live owners", by which ids are live
+unfoldable pub lives_in : (ℕ → Bool) → List ℕ → ℕ → Bool
+lives_in lives owners owned = all (λ k. lives (owner_at owners k)) owned
 
 -- the test of the owners on what is held
 unfoldable pub owned_in : List ℕ → List ℕ → ℕ → ℕ → List ℕ → ℕ → Bool
@@ -99,5 +105,6 @@ sound_in r bodies columns owners tracks =
     && (columns_ok r.next_id.0 bodies columns r.first.0 r.held
     && (parts_ok r.first.0 r.next_id.0 tracks r.frozen
     && (leb (r.frozen + window_count (scans_in bodies columns r.first.0 r.held)) DETECTIONS
+    && (distinct_in (engines_in owners r.owned)
     && (owned_in bodies columns r.first.0 r.held owners r.owned
-    && entries_ok (live_in bodies columns r.first.0 r.held tracks r.frozen) owners r.owned)))))
+    && lives_in (live_in bodies columns r.first.0 r.held tracks r.frozen) owners r.owned))))))

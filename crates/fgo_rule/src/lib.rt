@@ -1,26 +1,30 @@
 // The state rule, checked whole: `Refusal::State` is answered where it is broken.
 #![tactic(auto)]
 
-ghost use Rattle.std.specs.Prelude.{◌≡◌, ◌<◌, ◌&&◌};
+ghost use Rattle.std.specs.Prelude.{◌≡◌, ◌<◌, ◌≤◌, ◌&&◌, length, is_some, IfSome};
 ghost use Rattle.bounds.specs.Bounds.{FROZEN};
 ghost use Rattle.engine.specs.Body.{body_of, associations_in};
 ghost use Rattle.fgo_spec.specs.Rule.{loose_ok};
 ghost use Rattle.fgo_state.specs.Live.{live_among};
+ghost use Rattle.fgo_state.specs.Gathered.{GatheredOf};
+ghost use Rattle.fgo_state.specs.Owners.{engines_in};
 ghost use Rattle.fgo_state.specs.Sound.{bodies_ok};
 ghost use Rattle.fgo_rule.specs.Tests.{counts_ok, id_ok, column_in, scan_ok, columns_ok, id_before, part_ok, parts_ok};
-ghost use Rattle.fgo_rule.specs.Tests.{owned_all, distinct_at, entries_ok, owned_in, sound_in, Owning};
+ghost use Rattle.fgo_rule.specs.Tests.{last_at, distinct_in, owned_at, owned_all, lives_in, sound_in};
 
+mod owners;
+
+use crate::owners::IndexedOwners;
 use bounds::{ACCEPTED, DETECTIONS, FROZEN, HEIGHTS, OWNED, OWNERS, PARTS};
 use engine::types::{EngineId, RefinedId, ScanIndex};
-use fgo_part::{
-    FrozenTracks, part_count, part_height_count, part_id, part_last_frame, part_last_ns,
-};
+use fgo_part::{part_count, part_height_count, part_id, part_last_frame, part_last_ns};
 use fgo_state::gather::Gathered;
 use fgo_state::held::HeldRef;
-use fgo_state::owners::{OwnersRef, engine_at, owner_at};
+use fgo_state::owners::{OwnersRef, owner_at};
 use fgo_state::scan::HeldScan;
 use fgo_state::scans::Scans;
 use fgo_state::state::{FixedLagRefiner, LiveTracks};
+use id_index::IdIndex;
 
 // ---- counts
 
@@ -111,54 +115,115 @@ fn part_ok(first: ScanIndex, next: RefinedId, tracks: &[u64; PARTS], k: usize) -
         && engine_check::time_ok(part_last_ns(tracks, k))
 }
 
-fn parts_ok(first: ScanIndex, next: RefinedId, frozen: &FrozenTracks<'_>) -> bool
-    ensures { result ≡ parts_ok first.0 next.0 frozen.now.tracks.now frozen.now.count }
+fn parts_ok(first: ScanIndex, next: RefinedId, tracks: &[u64; PARTS], frozen: usize) -> bool
+    requires { frozen ≤ FROZEN }
+    ensures { result ≡ parts_ok first.0 next.0 tracks.now frozen }
 {
-    (0..frozen.count).all(|k| part_ok(first, next, frozen.tracks, k))
+    (0..frozen).all(|k| part_ok(first, next, tracks, k))
 }
 
 // ---- owners
 
-// Each engine id gathered is owned by the holder of its latest.
-fn owned_all(g: &Gathered, o: &OwnersRef<'_>) -> bool
-    ensures { result ≡ owned_all g.now.ids g.now.engines g.now.starts g.now.held o.now.entries.now o.now.owned g.now.count }
+// The id at place k of a list stands at no later place.
+fn is_last(ids: &IdIndex<'_>, k: usize) -> bool
+    requires { k < length ids.now.ids.now }
+    ensures { result ≡ last_at ids.now.ids.now k }
 {
-    g.engines[..g.count].iter().all(|e| {
-        let e = EngineId(*e);
-        o.owner_of(e) == g.latest(e)
-    })
+    ids.place_of(ids.ids[k]) == Some(k)
 }
 
-// Each engine id in a window is owned by the holder of its latest.
-fn owned_ok(h: &HeldRef<'_>, o: &OwnersRef<'_>) -> bool
-    requires { Owning h.now.scans.now.bodies h.now.scans.now.columns h.now.first.0 h.now.count }
+// No id of a list stands at two places: each stands at its last one alone.
+fn are_distinct(ids: &IdIndex<'_>) -> bool
+    ensures { result ≡ distinct_in ids.now.ids.now }
+{
+    (0..ids.ids.len()).all(|k| is_last(ids, k))
+}
+
+// The engine id of gathered detection i is owned by the holder of its latest: one that stands again later is tested
+// there.
+fn is_owned(g: &Gathered, engines: &IdIndex<'_>, o: &IndexedOwners<'_>, i: usize) -> bool
+    requires { (i < length engines.now.ids.now) × (g.now.count ≤ length engines.now.ids.now) }
     ensures { result
-        ≡ owned_in h.now.scans.now.bodies h.now.scans.now.columns h.now.first.0 h.now.count o.now.entries.now o.now.owned }
+        ≡ owned_at g.now.ids engines.now.ids.now g.now.starts g.now.held o.now.owners.entries.now o.now.owners.owned i }
 {
-    owned_all(&h.gather(), o)
+    let e = EngineId(engines.ids[i]);
+    !is_last(engines, i) || o.owner_of(e) == g.latest(engines, e)
 }
 
-// The engine id of entry k stands in no later entry.
-// As it is: `any` over the entries and no `contains`, since the engine ids lie apart, each before its owner.
-fn is_distinct(o: &OwnersRef<'_>, k: usize) -> bool
-    requires { k < o.now.owned }
-    ensures { result ≡ distinct_at o.now.entries.now o.now.owned k }
+// Each engine id gathered is owned by the holder of its latest. `engines` has those that were gathered.
+fn owned_all(g: &Gathered, engines: &IdIndex<'_>, o: &IndexedOwners<'_>) -> bool
+    requires { g.now.count ≤ length engines.now.ids.now }
+    ensures { result
+        ≡ owned_all g.now.ids engines.now.ids.now g.now.starts g.now.held o.now.owners.entries.now o.now.owners.owned }
 {
-    let e = engine_at(o.entries, k);
-    !(k + 1..o.owned).any(|i| e == engine_at(o.entries, i))
+    (0..engines.ids.len()).all(|i| is_owned(g, engines, o, i))
 }
 
-// Every entry of the owner table has an engine id of its own and a live owner.
-fn owners_ok(live: &LiveTracks<'_>, o: &OwnersRef<'_>) -> bool
-    ensures { result ≡ entries_ok (live_among live.now) o.now.entries.now o.now.owned }
+// Each owner is live.
+fn lives_ok(live: &LiveTracks<'_>, o: &OwnersRef<'_>) -> bool
+    ensures { result ≡ lives_in (live_among live.now) o.now.entries.now o.now.owned }
 {
-    (0..o.owned).all(|k| is_distinct(o, k) && live.has(owner_at(o.entries, k)))
+    (0..o.owned).all(|k| live.has(owner_at(o.entries, k)))
+}
+
+// Every entry of the owner table has an engine id of its own and a live owner, and each engine id gathered is owned by
+// the holder of its latest. In this order: that an id is looked up at its last place wants ids that are distinct.
+fn owners_ok(live: &LiveTracks<'_>, g: &Gathered, engines: &IdIndex<'_>, o: &OwnersRef<'_>) -> bool
+    requires { g.now.count ≤ length engines.now.ids.now }
+    ensures { result
+        ≡ distinct_in (engines_in o.now.entries.now o.now.owned)
+        && (owned_all g.now.ids engines.now.ids.now g.now.starts g.now.held o.now.entries.now o.now.owned
+        && lives_in (live_among live.now) o.now.entries.now o.now.owned) }
+{
+    let mut keys = [0; OWNED];
+    o.keys(&mut keys);
+    let index = &IdIndex::of(&keys[..o.owned]);
+    if !are_distinct(index) {
+        return false;
+    }
+    owned_all(g, engines, &IndexedOwners { owners: *o, index }) && lives_ok(live, o)
 }
 
 // ---- the rule
 
+// What the held scans have in windows, if a refiner and its memory meet the state rule, whatever the filters of the
+// frozen parts are; the engine ids go where the caller has room for them.
+// As it is: three parts of a `Memory`, since the filters are not asked for, as `counters` of fgo says. And the frozen
+// parts are tested before the tracks that are live are lent: a part is found among rising ids only.
+pub fn gather_sound(
+    r: &FixedLagRefiner,
+    scans: &Scans,
+    owners: &[u64; OWNERS],
+    tracks: &[u64; PARTS],
+    engines: &mut [u64; DETECTIONS],
+) -> Option<Gathered>
+    ensures sound { is_some result ≡ sound_in r.now scans.now.bodies scans.now.columns owners.now tracks.now }
+    ensures gathered { IfSome result (λ g. GatheredOf scans.now r.now.first.0 r.now.held engines.old g engines.new) }
+{
+    if !counts_ok(r) {
+        return None;
+    }
+    let held = r.held_in(scans);
+    if !scans_ok(r.next_id, &held) || !parts_ok(r.first, r.next_id, tracks, r.frozen) {
+        return None;
+    }
+    if DETECTIONS < r.frozen + held.window_count() {
+        return None;
+    }
+    let gathered = held.gather(engines);
+    let index = IdIndex::of(&engines[..gathered.count]);
+    let live = r.live_in(scans, tracks);
+    let owners = OwnersRef {
+        entries: owners,
+        owned: r.owned,
+    };
+    if owners_ok(&live, &gathered, &index, &owners) {
+        return Some(gathered);
+    }
+    None
+}
+
 // Whether a refiner and its memory meet the state rule, whatever the filters of the frozen parts are.
-// As it is: three parts of a `Memory`, since the filters are not asked for, as `counters` of fgo says.
 pub fn is_sound(
     r: &FixedLagRefiner,
     scans: &Scans,
@@ -167,17 +232,6 @@ pub fn is_sound(
 ) -> bool
     ensures { result ≡ sound_in r.now scans.now.bodies scans.now.columns owners.now tracks.now }
 {
-    if !counts_ok(r) {
-        return false;
-    }
-    let live = r.live_in(scans, tracks);
-    let owners = OwnersRef {
-        entries: owners,
-        owned: r.owned,
-    };
-    scans_ok(r.next_id, &live.held)
-        && parts_ok(r.first, r.next_id, &live.frozen)
-        && r.frozen + live.held.window_count() <= DETECTIONS
-        && owned_ok(&live.held, &owners)
-        && owners_ok(&live, &owners)
+    let mut engines = [0; DETECTIONS];
+    gather_sound(r, scans, owners, tracks, &mut engines).is_some()
 }

@@ -21,7 +21,8 @@ use Rattle.fgo_spec.specs.History.{scans_of}
 use Rattle.fgo_spec.proofs.Accepting.{Room, has_room}
 
 module _ (c : FgoConfig) where
-  -- it is refused and leaves the state t; or it goes on with the state u, of which Q holds, and waits, or u's oldest scan leaves
+  -- it is refused and leaves the state t; or it goes on with the state u, of which Q holds, and waits, or u's oldest
+  -- scan leaves
   pub data Does (t u : State) (Q : Type 0) (a : Reply Emitted × State) : Type 0 where
     refuses : (n : ℕ) → a ≡ (refused n, t) → Does t u Q a
     holds : Q → length u.scans ≤ lag c → a ≡ (waits, u) → Does t u Q a

@@ -1,5 +1,6 @@
--- Examples without a letter: edges that document 01 names, and runs that the checker computes, from the bytes of the bodies to the emitted words and
--- numbers. What these should give was read off the published Rust, with document 01's logarithm. Assumes nothing.
+-- Examples without a letter: edges that document 01 names, and runs that the checker computes, from the bytes of the
+-- bodies to the emitted words and numbers. What these should give was read off the published Rust, with document 01's
+-- logarithm. Assumes nothing.
 use Prim.Native.Nat.{ℕ, suc}
 use mathlib.Core.Path.{◌≡◌, refl}
 use mathlib.Core.Bool.{true, false}
@@ -73,7 +74,8 @@ sight x y z e = record { x = x; y = y; z = z; engine = e }
 unfoldable pub spot_bytes : Sight → List ℕ
 spot_bytes s = bytes_of 8 s.x ++ (bytes_of 8 s.y ++ bytes_of 8 s.z)
 
--- "Associations: bytes index, id present, outcome, cost present, four zeros, u64 id, f64 cost", of outcome 1 and without a cost
+-- "Associations: bytes index, id present, outcome, cost present, four zeros, u64 id, f64 cost", of outcome 1 and
+-- without a cost
 unfoldable pub sight_bytes : ℕ → List Sight → List ℕ
 sight_bytes i [] = []
 sight_bytes i (s ∷ l) = (i ∷ 1 ∷ 1 ∷ 0 ∷ bytes_of 4 0) ++ (bytes_of 8 s.engine ++ (bytes_of 8 0 ++ sight_bytes (suc i) l))
@@ -115,14 +117,16 @@ counts r = let k = r.state.counters in k.swaps ∷ k.merges ∷ k.splits ∷ k.d
 unfoldable pub figures : Listed → List ℕ
 figures l = let k = l.kf in map bits_of (k.x ∷ k.y ∷ l.height ∷ k.vx ∷ k.vy ∷ k.p00 ∷ k.p01 ∷ k.p11 ∷ [])
 
--- of each emitted frame its words, then the figures of each listed track; at the end the counters. What has to be computed for that is opened here.
+-- of each emitted frame its words, then the figures of each listed track; at the end the counters. What has to be
+-- computed for that is opened here.
 unfoldable pub shown : FgoConfig → List (Op Body) → List (List ℕ)
 unfolding run_from step push takes decode refusal head_ok tracks_ok associations_ok observations_ok indices_ok all code_ok present_ok time_ok track_ok association_ok observation_ok index_ok rows track_at observation_at association_at frame_of little bytes_of spot_bytes sight_bytes body flat_map finite push_frame arrive emit leave freeze_oldest settle full8 full9 full10 report listing associations_words words_of numbers_of mean freeze freeze_all remember holder_in latest reown recolumn shared rest track_cost close is_cut cuts neighbours_of neighbours try_swap try_merge pair_candidates best_of_pair try_split try_drop track_candidates best_of_track pair_step track_step pass passes improve place class_among detection_of under window present price keep any up_from insert find put assign added cost_step cost_run closed ln_of add sub mul div lt round of_int of_bits to_bits neg sum units odd size span climb of_fields count_trailing_zeros zeros_ok counts figures
 shown c ops = let r = run c ops in flat_map (λ e. words_of e ∷ map figures e.tracks) r.emitted ++ (counts r ∷ [])
 
 -- ---- document 01's printed frame
 
--- "Default settings with lag 0, one frame: mode 0, time 0, no engine track, observation (1, 2, 0.5), association 0 with engine id 7, outcome 1"
+-- "Default settings with lag 0, one frame: mode 0, time 0, no engine track, observation (1, 2, 0.5), association 0 with
+-- engine id 7, outcome 1"
 pub printed_run : List (Op Body)
 printed_run = pushed (body 0 (sight 0x3ff0_0000_0000_0000 0x4000_0000_0000_0000 0x3fe0_0000_0000_0000 7 ∷ [])) ∷ []
 

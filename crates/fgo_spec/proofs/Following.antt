@@ -1,4 +1,5 @@
--- Where no pass runs: dots of two engine ids never stand under one id, and those of one engine id stay together while their track lives. Assumes nothing.
+-- Where no pass runs: dots of two engine ids never stand under one id, and those of one engine id stay together while
+-- their track lives. Assumes nothing.
 use Prim.Native.Nat.{ℕ, ◌≤◌, ◌<◌}
 use native.Mathlib.Nat.{le_refl, le_trans, lt_irrefl, eq-zero-or-pos}
 use native.Mathlib.Omega.{arith}

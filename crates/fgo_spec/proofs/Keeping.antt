@@ -1,6 +1,6 @@
--- The one general fact about the search. Whatever it chooses, each of its moves exchanges two ids above 0 or clears one, in some scans. So whatever those
--- two keep of a scan, beside what the scan was, the whole search keeps; and each id that it leaves in the scans was there before or is a new one.
--- Assumes nothing.
+-- The one general fact about the search. Whatever it chooses, each of its moves exchanges two ids above 0 or clears
+-- one, in some scans. So whatever those two keep of a scan, beside what the scan was, the whole search keeps; and each
+-- id that it leaves in the scans was there before or is a new one. Assumes nothing.
 use Prim.Native.Nat.{ℕ, zero, suc, ◌≤◌, ◌<◌}
 use native.Mathlib.Nat.{le_refl, le_trans}
 use native.Mathlib.Decide.{ℕ_discrete}

@@ -1,4 +1,5 @@
--- The holder of an engine id's latest detection: it is present, and its engine id is one that the columns are tied to. Assumes nothing.
+-- The holder of an engine id's latest detection: it is present, and its engine id is one that the columns are tied to.
+-- Assumes nothing.
 use Prim.Native.Nat.{ℕ, zero, suc, ◌≤◌, ◌<◌, max}
 use native.Mathlib.Nat.{le_trans}
 use native.Mathlib.Omega.{arith}
@@ -36,7 +37,8 @@ holder e s = holder_in e s.frame.associations s.ids
 
 -- ---- in one scan
 
--- "if two are in equal scans, the track with the greater id gets it": no association with that engine id is in the window of a greater id than the holder
+-- "if two are in equal scans, the track with the greater id gets it": no association with that engine id is in the
+-- window of a greater id than the holder
 pub holder_most :
     (e : ℕ) (k l : List Association) (js is : List ℕ) (a : Association) (i : ℕ) → length js ≡ length k → is_engine e a.track ≡ true →
     i ≤ holder_in e (k ++ (a ∷ l)) (js ++ (i ∷ is))

@@ -1,4 +1,5 @@
--- The oldest scan leaves: what is told of the frame that is emitted, and the invariant of the state that is left. Assumes nothing.
+-- The oldest scan leaves: what is told of the frame that is emitted, and the invariant of the state that is left.
+-- Assumes nothing.
 use Prim.Native.Nat.{ℕ, suc, ◌+◌, ◌≤◌, ◌<◌}
 use native.Mathlib.Nat.{le_trans, lt_irrefl, eq-zero-or-pos}
 use native.Mathlib.Omega.{arith}

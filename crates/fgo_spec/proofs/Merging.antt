@@ -1,4 +1,5 @@
--- The renamings do to windows what document 01 says of both forms of a merge, and the losers are those that it says. Assumes nothing.
+-- The renamings do to windows what document 01 says of both forms of a merge, and the losers are those that it says.
+-- Assumes nothing.
 use Prim.Native.Nat.{ℕ, suc, ◌+◌, ◌≤◌, ◌<◌}
 use native.Mathlib.Nat.{zero-add}
 use native.Mathlib.Omega.{arith}

@@ -1,4 +1,5 @@
--- "A swap that leaves a's window equal is skipped": it can never win, so leaving its cut out changes nothing. Costs may be infinite or NaN. Assumes nothing.
+-- "A swap that leaves a's window equal is skipped": it can never win, so leaving its cut out changes nothing. Costs may
+-- be infinite or NaN. Assumes nothing.
 use Prim.Native.Nat.{ℕ, zero, suc, ◌+◌, ◌-◌, ◌*◌, ◌/◌, ◌%◌, ◌^◌, ◌<◌, compare}
 use native.Mathlib.Nat.{mul-pos, zero-mul, le_refl, sub_self}
 use native.Mathlib.Omega.{arith}

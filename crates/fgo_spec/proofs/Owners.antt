@@ -1,4 +1,5 @@
--- The owner entries: distinct engine ids, live owners, few, and an engine id in a window is owned by the holder of its latest detection.
+-- The owner entries: distinct engine ids, live owners, few, and an engine id in a window is owned by the holder of its
+-- latest detection.
 -- Assumes nothing.
 use Prim.Native.Nat.{ℕ, ◌≤◌, ◌<◌}
 use native.Mathlib.Nat.{le_trans}

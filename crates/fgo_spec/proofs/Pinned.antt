@@ -1,4 +1,5 @@
--- Examples that pin one definition each: the checker computes them, and what they should give is in document 01's words, quoted beside them. Assumes nothing.
+-- Examples that pin one definition each: the checker computes them, and what they should give is in document 01's
+-- words, quoted beside them. Assumes nothing.
 use Prim.Native.Nat.{ℕ}
 use mathlib.Core.Path.{◌≡◌, refl}
 use mathlib.Core.Bool.{true, false}
@@ -32,7 +33,8 @@ use Rattle.std.specs.Prelude.{None, Some}
 
 -- ---- refusals 8, 9 and 10
 
--- a frame with all there is, a second before time 0: two sensors of its engine track, a dot with engine id e at a cost of 1.5, and a dot without one
+-- a frame with all there is, a second before time 0: two sensors of its engine track, a dot with engine id e at a cost
+-- of 1.5, and a dot without one
 abbrev rich : ℕ → Frame
 rich e =
     let o = of_bits binary64 0 in
@@ -48,8 +50,8 @@ rich e =
           ∷ [];
     }
 
--- a state that holds one such scan, of number n, with a detection in the window of track 1 and one that is clutter; it has k frozen tracks, and m engine ids,
--- from 10 on, which track 1 owns
+-- a state that holds one such scan, of number n, with a detection in the window of track 1 and one that is clutter; it
+-- has k frozen tracks, and m engine ids, from 10 on, which track 1 owns
 abbrev holding : ℕ → Prefix → ℕ → ℕ → ℕ → FgoCounters → State
 holding n p k m next counters =
     record {
@@ -98,14 +100,16 @@ pub nine_from : (p : Prefix) → (full9 (crowded p 126 1 200) (rich 9) ≡ false
 unfolding full9 keep up_from flat_map
 nine_from p = (refl, refl)
 
--- 10: "engine ids with a live owner, joined with the frame's, exceed 256"; 10 is the engine id of such an owner, and 9 is not
+-- 10: "engine ids with a live owner, joined with the frame's, exceed 256"; 10 is the engine id of such an owner, and 9
+-- is not
 pub ten_from :
     (p : Prefix) →
     map (λ t. map (λ e. full10 t (rich e)) (9 ∷ 10 ∷ [])) (crowded p 1 255 2 ∷ crowded p 1 256 2 ∷ []) ≡ (false ∷ false ∷ []) ∷ (true ∷ false ∷ []) ∷ []
 unfolding full10 any up_from
 ten_from p = refl
 
--- "The checks run in the order of the table, and the first condition that holds decides the answer": where all three hold, where 9 and 10 do, and where 10 does
+-- "The checks run in the order of the table, and the first condition that holds decides the answer": where all three
+-- hold, where 9 and 10 do, and where 10 does
 pub in_order :
     (p : Prefix) →
     map (λ t. (push_frame defaults t (rich 9)).0) (crowded p 127 256 above ∷ crowded p 127 256 200 ∷ crowded p 1 256 2 ∷ [])
@@ -129,7 +133,8 @@ held l is = record { frame = frame_in (body 0 l); ids = is }
 abbrev at : ℕ → Sight
 at x = sight x 0 0 7
 
--- "it notes the earlier of their scans, f. The cuts of a pair are all its f and f + 1, in ascending order": in scan 5 and 6, and again in scan 8, the last one
+-- "it notes the earlier of their scans, f. The cuts of a pair are all its f and f + 1, in ascending order": in scan 5
+-- and 6, and again in scan 8, the last one
 pub cuts_are :
     cuts defaults 5 []
     (held (at 0 ∷ []) (1 ∷ [])
@@ -157,12 +162,14 @@ tried ps ss = map kind (track_candidates defaults 5 ps ss 9 1)
 abbrev one : Scan
 one = held (at 0 ∷ []) (1 ∷ [])
 
--- "Splits of the window are tried after its detection 1, 2 and so on", then "the drop of each single detection": of a window with scans 5, 6 and 8
+-- "Splits of the window are tried after its detection 1, 2 and so on", then "the drop of each single detection": of a
+-- window with scans 5, 6 and 8
 pub tried_of_three : tried [] (one ∷ one ∷ held [] [] ∷ one ∷ []) ≡ (1, 6) ∷ (1, 8) ∷ (2, 5) ∷ (2, 6) ∷ (2, 8) ∷ []
 unfolding track_candidates try_split try_drop rest find window under detection_of frame_of rows little body
 tried_of_three = refl
 
--- "if the window's length, plus 1 where there is a frozen part, exceeds 1": a lone detection is dropped after a frozen part only
+-- "if the window's length, plus 1 where there is a frozen part, exceeds 1": a lone detection is dropped after a frozen
+-- part only
 pub tried_of_one : (p : Prefix) → (tried [] (one ∷ []) ≡ []) × (tried ((1, p) ∷ []) (one ∷ []) ≡ (2, 5) ∷ [])
 unfolding track_candidates try_split try_drop rest find window under detection_of frame_of rows little body
 tried_of_one p = (refl, refl)
@@ -177,7 +184,8 @@ tail_afresh ps base = refl
 
 -- ---- misses
 
--- "scans skipped since the last (or frozen last) are misses": after scan 5 none at 6 and two at 8, here beside four from before, and beside none
+-- "scans skipped since the last (or frozen last) are misses": after scan 5 none at 6 and two at 8, here beside four
+-- from before, and beside none
 pub misses_are :
     (c : FgoConfig) (k : Kf) (total t x y r : Float) →
     let misses : Fold → List ℕ = λ from. map (λ n. misses_of (fold_one c from (record { scan = n; t = t; x = x; y = y; r = r }))) (6 ∷ 8 ∷ []) in
@@ -197,14 +205,16 @@ searching k =
     let r = improve (tuned 10 k) 0 [] apart 2 new.counters in
     (r.search.counters.splits, r.ran)
 
--- "The passes end when max_passes have run or when one made no move"; the tail of a split "is visited from the next pass on"
+-- "The passes end when max_passes have run or when one made no move"; the tail of a split "is visited from the next
+-- pass on"
 pub passes_are : map searching (0 ∷ 1 ∷ 2 ∷ 20 ∷ []) ≡ (0, 0) ∷ (1, 1) ∷ (2, 2) ∷ (2, 3) ∷ []
 unfolding shown
 passes_are = refl
 
 -- ---- heights
 
--- "their mean adds them oldest first, beginning with the oldest itself": of -0.0 twice it is -0.0; of 1, 2^53 and -2^53 it is 0, since the 1 is lost
+-- "their mean adds them oldest first, beginning with the oldest itself": of -0.0 twice it is -0.0; of 1, 2^53 and -2^53
+-- it is 0, since the 1 is lost
 pub means_are :
     map (λ hs. bits_of (mean (map (of_bits binary64) hs)))
     ((0x8000_0000_0000_0000 ∷ 0x8000_0000_0000_0000 ∷ []) ∷ (0x3ff0_0000_0000_0000 ∷ 0x4340_0000_0000_0000 ∷ 0xc340_0000_0000_0000 ∷ []) ∷ [])
@@ -242,8 +252,9 @@ risen =
 abbrev listed : Emitted
 listed = record { scan = record { frame = rich 9; ids = 3 ∷ 0 ∷ [] }; tracks = listing defaults (rich 9).time ((3, risen) ∷ []) }
 
--- "time, mode, tracks, associations, sensors, smoothed; per track id, lifecycle (0 tentative, 1 confirmed), last time, age, class (2^32 if none), count; per
--- association index, id (0 none), outcome, cost present; then the frame's sensors"
+-- "time, mode, tracks, associations, sensors, smoothed; per track id, lifecycle (0 tentative, 1 confirmed), last time,
+-- age, class (2^32 if none), count; per association index, id (0 none), outcome, cost present; then the frame's
+-- sensors"
 pub words_are :
     words_of listed
     ≡ (18446744072709551616 ∷ 2 ∷ 1 ∷ 2 ∷ 2 ∷ 0 ∷ [])
@@ -253,7 +264,8 @@ pub words_are :
 unfolding shown
 words_are = refl
 
--- "per track position 3, velocity 3, covariance 36 by rows; then one cost per association": "its height is the mean, and the speed of the height is 0"
+-- "per track position 3, velocity 3, covariance 36 by rows; then one cost per association": "its height is the mean,
+-- and the speed of the height is 0"
 pub numbers_are :
     map bits_of (numbers_of listed)
     ≡ 0x3ffc_0000_0000_0000 ∷ 0x4008_0000_0000_0000 ∷ 0x4000_0000_0000_0000 ∷ 0x4008_0000_0000_0000 ∷ 0x4010_0000_0000_0000 ∷ 0

@@ -1,4 +1,5 @@
--- Rows: the next one, one more at the end, in two parts, rows that agree, a function of each, and what holds of them all. Assumes nothing.
+-- Rows: the next one, one more at the end, in two parts, rows that agree, a function of each, and what holds of them
+-- all. Assumes nothing.
 use Prim.Native.Nat.{ℕ, zero, suc, ◌+◌, ◌-◌, ◌≤◌, ◌<◌}
 use mathlib.Core.Path.{◌≡◌, refl, sym, ap, ◌∙◌, subst}
 use mathlib.Core.List.{[], ◌∷◌, ◌++◌, map}

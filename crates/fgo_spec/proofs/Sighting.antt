@@ -1,4 +1,5 @@
--- Placing alone: dots of two engine ids never go under one id, and those of one engine id stay together while their track lives. Assumes nothing.
+-- Placing alone: dots of two engine ids never go under one id, and those of one engine id stay together while their
+-- track lives. Assumes nothing.
 use Prim.Native.Nat.{ℕ, zero, suc, ◌+◌, ◌≤◌, ◌<◌}
 use native.Mathlib.Nat.{le_refl, le_trans}
 use native.Mathlib.Decide.{ℕ_discrete}

@@ -1,4 +1,5 @@
--- Tables by id: what is found after a change, in tables with distinct keys and in those with rising ones. Assumes nothing.
+-- Tables by id: what is found after a change, in tables with distinct keys and in those with rising ones. Assumes
+-- nothing.
 use Prim.Native.Nat.{ℕ, suc, ◌≤◌, ◌<◌, compare, Ordering}
 use native.Mathlib.Nat.{le_refl, le_trans}
 use native.Mathlib.Decide.{ℕ_discrete, dec_le}

@@ -1,5 +1,5 @@
--- What scans have of an id: how renaming changes it, that a regular scan has one detection or none, that a window rises in scan, and that each held
--- association lies in exactly one window or in clutter. Assumes nothing.
+-- What scans have of an id: how renaming changes it, that a regular scan has one detection or none, that a window rises
+-- in scan, and that each held association lies in exactly one window or in clutter. Assumes nothing.
 use Prim.Native.Nat.{ℕ, suc, ◌+◌, ◌≤◌, ◌<◌, zero-le}
 use native.Mathlib.Nat.{le_refl, le_of_eq, lt_irrefl, eq-zero-or-pos, add-zero, zero-add, suc-add, add-suc}
 use native.Mathlib.Decide.{ℕ_discrete}

@@ -1,4 +1,5 @@
--- What document 01 says of windows, in its own words: the parts of a window, two windows as one, and what each move leaves. Definitions only.
+-- What document 01 says of windows, in its own words: the parts of a window, two windows as one, and what each move
+-- leaves. Definitions only.
 use Prim.Native.Nat.{ℕ, suc, ◌<◌, ◌≤◌, compare, Ordering}
 use Rattle.std.specs.Prelude.{◌≡◌, Bool, cond, length, eqb, leb, ltb}
 use mathlib.Core.List.{List, [], ◌∷◌, ◌++◌, map, flat_map}
@@ -25,14 +26,14 @@ beside_by Ordering.lt own d e later w r = d ∷ later (e ∷ w)
 beside_by Ordering.eq own d e later w r = cond own d e ∷ later w
 beside_by Ordering.gt own d e later w r = e ∷ r
 
--- the keeper's detection d beside the other's window w, where `later` joins the keeper's later detections with a window: in equal scans d is kept, or else
--- the other's
+-- the keeper's detection d beside the other's window w, where `later` joins the keeper's later detections with a
+-- window: in equal scans d is kept, or else the other's
 unfoldable pub beside : Bool → Detection → (List Detection → List Detection) → List Detection → List Detection
 beside own d later [] = d ∷ later []
 beside own d later (e ∷ w) = beside_by (compare d.scan e.scan) own d e later w (beside own d later w)
 
--- the keeper's window and the other's, by rising scan: "in the scans that both tracks share, first the keeper's own detections are kept, then the other
--- track's"
+-- the keeper's window and the other's, by rising scan: "in the scans that both tracks share, first the keeper's own
+-- detections are kept, then the other track's"
 unfoldable pub joined : Bool → List Detection → List Detection → List Detection
 joined own [] w = w
 joined own (d ∷ v) w = beside own d (joined own v) w
@@ -60,7 +61,8 @@ pub record Merged (own : Bool) (k o n : ℕ) (ss ts : List Scan) : Type 0 where
   pub others : (x : ℕ) → 0 < x → (k ≡ x → ⊥) → (o ≡ x → ⊥) → window x n ts ≡ window x n ss
   pub lost : shared k o ss ≡ length (losers own (window k n ss) (window o n ss))
 
--- "Splits of the window", at its detection d, which has the detections v before it and u after it: the tail "gets the next id", here x
+-- "Splits of the window", at its detection d, which has the detections v before it and u after it: the tail "gets the
+-- next id", here x
 pub record Halved (a x n : ℕ) (v : List Detection) (d : Detection) (u : List Detection) (ss ts : List Scan) : Type 0 where
   pub head : window a n ts ≡ v
   pub tail : window x n ts ≡ d ∷ u
@@ -97,7 +99,8 @@ marked x [] is = []
 marked x (d ∷ ds) [] = []
 marked x (d ∷ ds) (i ∷ is) = cond (eqb x i) (d ∷ marked x ds is) (marked x ds is)
 
--- There is one id to each held observation, and the window of each id, and clutter, which is that of 0, has just the observations whose id it is.
+-- There is one id to each held observation, and the window of each id, and clutter, which is that of 0, has just the
+-- observations whose id it is.
 pub record Parted (n : ℕ) (ss : List Scan) : Type 0 where
   pub each : length (ids ss) ≡ length (held_detections n ss)
   pub windows : (x : ℕ) → window x n ss ≡ marked x (held_detections n ss) (ids ss)

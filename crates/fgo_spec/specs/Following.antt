@@ -1,4 +1,5 @@
--- What placing does, to be checked from outside: with max_passes 0 no search runs, so each dot keeps the id under which it was placed. Definitions only.
+-- What placing does, to be checked from outside: with max_passes 0 no search runs, so each dot keeps the id under which
+-- it was placed. Definitions only.
 use Rattle.std.specs.Prelude.{ℕ, ◌≤◌, ◌<◌, ◌≡◌, length, T, None, Some}
 use mathlib.Core.List.{List, [], ◌∷◌, ◌++◌, flat_map, Memᴰ}
 use Rattle.buffers.specs.Answer.{Op, pushed}
@@ -37,8 +38,8 @@ pub record Followed (c : FgoConfig) (ops : List (Op Body)) : Type 0 where
   pub apart : (d e x : ℕ) → 0 < x → Memᴰ (d, x) (sightings (standing c ops)) → Memᴰ (e, x) (sightings (standing c ops)) → d ≡ e
   -- a further operation leaves the dots where they are, and adds at most one scan
   pub stay : (o : Op Body) → (new : List Scan) × (standing c (ops ++ (o ∷ [])) ≡ standing c ops ++ new) × (length new ≤ 1)
-  -- With each engine id at most once a frame: where dots of an engine id stand under x, and the track x still lives (it has a frozen part or a window), the
-  -- next one that is pushed comes under x too.
+  -- With each engine id at most once a frame: where dots of an engine id stand under x, and the track x still lives (it
+  -- has a frozen part or a window), the next one that is pushed comes under x too.
   pub together :
       (b : Body) (s : Scan) → standing c (ops ++ (pushed b ∷ [])) ≡ standing c ops ++ (s ∷ []) →
       All Unrepeated (run c (ops ++ (pushed b ∷ []))).accepted →

@@ -1,5 +1,5 @@
--- The detections of the held windows, gathered: their ids in one list, scan by scan, and where each scan's begin; and the columns of the held scans again,
--- from the gathered ids. Definitions only.
+-- The detections of the held windows, gathered: their ids in one list, scan by scan, and where each scan's begin; and
+-- the columns of the held scans again, from the gathered ids. Definitions only.
 use Rattle.std.specs.Prelude.{ℕ, zero, suc, List, [], ◌∷◌, get_or}
 use Rattle.engine.specs.declared.types.Association.{Association}
 use Rattle.fgo_spec.specs.Lists.{segment}

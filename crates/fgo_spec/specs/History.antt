@@ -49,8 +49,9 @@ unfoldable pub class_over : ClassLabel → List Detection → ClassLabel
 class_over k [] = k
 class_over k (d ∷ ds) = class_over (newer d.class k) ds
 
--- What is emitted of the id x at a time, worked out from its observations alone: the plain filter over them, predicted to that time; the mean of their last
--- five heights; their number; the last one's time and its age; the newest class; the last one's variance. Nothing without observations.
+-- What is emitted of the id x at a time, worked out from its observations alone: the plain filter over them, predicted
+-- to that time; the mean of their last five heights; their number; the last one's time and its age; the newest class;
+-- the last one's variance. Nothing without observations.
 unfoldable pub afresh : FgoConfig → ℤ → ℕ → List Detection → Option Listed
 afresh c now x [] = none
 afresh c now x (d ∷ ds) =
@@ -92,9 +93,9 @@ Rising (x ∷ y ∷ l) = (x < y) × Rising (y ∷ l)
 abbrev pub seen : List Emitted → Emitted → ℕ → List Detection
 seen past e x = window x 0 (scans_of past ++ (e.scan ∷ []))
 
--- a track that the frame e, emitted after the frames past, has to list: "position, speed and covariance are, bit for bit, 01's plain filter run afresh over
--- exactly the observations emitted so far under that id, this frame's included, then predicted to this frame's time, its count and height those of the
--- same observations"
+-- a track that the frame e, emitted after the frames past, has to list: "position, speed and covariance are, bit for
+-- bit, 01's plain filter run afresh over exactly the observations emitted so far under that id, this frame's included,
+-- then predicted to this frame's time, its count and height those of the same observations"
 pub record ToList (c : FgoConfig) (past : List Emitted) (e : Emitted) (l : Listed) : Type 0 where
   pub id : 0 < l.id
   pub fresh : afresh c (time_of e) l.id (seen past e l.id) ≡ some l
@@ -113,7 +114,8 @@ pub record Told (c : FgoConfig) (past : List Emitted) (e : Emitted) : Type 0 whe
   pub few : length e.tracks ≤ TRACKS
   -- each track that the frame lists is one to list
   pub listed : (l : Listed) → Memᴰ l e.tracks → ToList c past e l
-  -- "if emitted times never go back and coast_ns <= forget_after_ns, the listed ids are exactly those emitted with age <= coast_ns": and no other is
+  -- "if emitted times never go back and coast_ns <= forget_after_ns, the listed ids are exactly those emitted with age
+  -- <= coast_ns": and no other is
   pub exact : NeverBack (map time_of (past ++ (e ∷ []))) → coast c ≤ℤ forget_after c → (l : Listed) → ToList c past e l → Memᴰ l e.tracks
 
 -- the held scans after placing and search: the oldest is what a push, or a take, has to give
@@ -150,23 +152,26 @@ pub record History (c : FgoConfig) (ops : List (Op Body)) : Type 0 where
   pub in_order : map (λ e. e.scan.frame) (run c ops).emitted ++ map (λ s. s.frame) (run c ops).state.scans ≡ (run c ops).accepted
   -- every emitted frame
   pub every : (past : List Emitted) (e : Emitted) (later : List Emitted) → (run c ops).emitted ≡ past ++ (e ∷ later) → Told c past e
-  -- "with the ids that 01's placing and search give": a frame that one more operation emits is the oldest scan then held, with the ids that it then has
+  -- "with the ids that 01's placing and search give": a frame that one more operation emits is the oldest scan then
+  -- held, with the ids that it then has
   pub as_searched :
       (o : Op Body) (e : Emitted) → (run c (ops ++ (o ∷ []))).emitted ≡ (run c ops).emitted ++ (e ∷ []) →
       (rest : List Scan) × (settled c (run c ops).state o ≡ e.scan ∷ rest)
-  -- "each dot under one id only": an observation, by its frame and its place in it, that is emitted under an id (0 for none) is emitted under no other,
-  -- whatever comes later
+  -- "each dot under one id only": an observation, by its frame and its place in it, that is emitted under an id (0 for
+  -- none) is emitted under no other, whatever comes later
   pub dots : (more : List (Op Body)) (n i x y : ℕ) → Under (run c ops).emitted n i x → Under (run c (ops ++ more)).emitted n i y → x ≡ y
   -- the next id is above every id that an emitted or held scan has, and never goes down
   pub used : (x : ℕ) → 0 < x → Stands x (standing c ops) → x < (run c ops).state.next_id
   pub rises : (more : List (Op Body)) → (run c ops).state.next_id ≤ (run c (ops ++ more)).state.next_id
-  -- an id is given out once: what stands after one more operation stood before it or begins with the next id; and one that stood and is gone stays gone
+  -- an id is given out once: what stands after one more operation stood before it or begins with the next id; and one
+  -- that stood and is gone stays gone
   pub given :
       (o : Op Body) (x : ℕ) → 0 < x → Stands x (standing c (ops ++ (o ∷ []))) → Stands x (standing c ops) ⊎ ((run c ops).state.next_id ≤ x)
   pub once :
       (more rest : List (Op Body)) (x : ℕ) → 0 < x → Stands x (standing c ops) → (Stands x (standing c (ops ++ more)) → ⊥) →
       Stands x (standing c ((ops ++ more) ++ rest)) → ⊥
-  -- "After it the state and the lent buffers hold what they held before the call": an operation that is refused changes nothing
+  -- "After it the state and the lent buffers hold what they held before the call": an operation that is refused changes
+  -- nothing
   pub refusals : (o : Op Body) (n : ℕ) → (reply c (run c ops).state o).0 ≡ refused n → run c (ops ++ (o ∷ [])) ≡ run c ops
   -- every state that bytes lead to meets the state rule, so 3 is never answered to who keeps to push and take
   pub ruled : legal c ≡ true → All Sent ops → Rule c (run c ops).state

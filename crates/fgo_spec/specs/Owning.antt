@@ -1,4 +1,5 @@
--- Document 01: "Finally each engine id that has detections in windows goes to the track that holds its latest one". Definitions only.
+-- Document 01: "Finally each engine id that has detections in windows goes to the track that holds its latest one".
+-- Definitions only.
 use Rattle.std.specs.Prelude.{ℕ, zero, suc, max, Bool, false, cond, List, [], ◌∷◌, map, eqb, None, Some}
 use Rattle.engine.specs.declared.types.Association.{Association}
 use Rattle.fgo_spec.specs.Lists.{keep}
@@ -10,7 +11,8 @@ abbrev pub is_engine : ℕ → Associated → Bool
 is_engine e None = false
 is_engine e (Some k) = eqb e k.0
 
--- "if two are in equal scans, the track with the greater id gets it": the greatest id that holds the engine id e in a scan, 0 if none
+-- "if two are in equal scans, the track with the greater id gets it": the greatest id that holds the engine id e in a
+-- scan, 0 if none
 unfoldable pub holder_in : ℕ → List Association → List ℕ → ℕ
 holder_in e [] is = 0
 holder_in e (a ∷ l) [] = 0
@@ -30,6 +32,7 @@ latest e y (s ∷ ss) = latest e (or_else (holder_in e s.frame.associations s.id
 abbrev pub live_owners : List (ℕ × Prefix) → List Scan → List (ℕ × ℕ) → List (ℕ × ℕ)
 live_owners ps ss os = keep (λ o. live ps ss o.1) os
 
--- every engine id in a window has an entry, so the entries are gone through; one that has none in any window keeps its owner while that track lives
+-- every engine id in a window has an entry, so the entries are gone through; one that has none in any window keeps its
+-- owner while that track lives
 unfoldable pub reown : List (ℕ × Prefix) → List Scan → List (ℕ × ℕ) → List (ℕ × ℕ)
 reown ps ss os = live_owners ps ss (map (λ o. (o.0, latest o.0 o.1 ss)) os)

@@ -18,8 +18,8 @@ use Rattle.fgo_spec.specs.Owning.{live_owners, reown}
 use Rattle.fgo_spec.specs.Freezing.{freeze_scan, remember}
 use Rattle.fgo_spec.specs.Emitting.{Emitted, listing}
 
--- what a refiner keeps: the number of its oldest scan, the held scans, the frozen parts by ascending id, the owner of each engine id, the next id and
--- the counters
+-- what a refiner keeps: the number of its oldest scan, the held scans, the frozen parts by ascending id, the owner of
+-- each engine id, the next id and the counters
 pub record State : Type 0 where
   pub first : ℕ
   pub scans : List Scan
@@ -124,7 +124,8 @@ abbrev pub join : Associated → List ℕ → List ℕ
 join None l = l
 join (Some e) l = cond (has e.0 l) l (e.0 ∷ l)
 
--- 10: "engine ids with a live owner, joined with the frame's, exceed 256"; by the state rule every entry has a live owner
+-- 10: "engine ids with a live owner, joined with the frame's, exceed 256"; by the state rule every entry has a live
+-- owner
 unfoldable pub full10 : State → Frame → Bool
 full10 t f = ltb OWNED (length (foldr (λ a. join a.track) (map (λ o. o.0) t.owners) f.associations))
 

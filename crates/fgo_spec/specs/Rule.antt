@@ -1,8 +1,9 @@
 -- Document 01, "Refiner state rule", as a proposition and as a test that computes. Definitions only.
 --
--- Of the rule's parts these hold of every state by the way it is written: "every track is frozen or has a window; windows hold only held associations". That
--- they hold them "rising in scan", and that "each held association lies in exactly one window or in clutter", is `complete` and `apart` of `ColumnRule`: an id
--- for each association, and no track twice in a scan.
+-- Of the rule's parts these hold of every state by the way it is written: "every track is frozen or has a window;
+-- windows hold only held associations". That they hold them "rising in scan", and that "each held association lies in
+-- exactly one window or in clutter", is `complete` and `apart` of `ColumnRule`: an id for each association, and no
+-- track twice in a scan.
 use Rattle.std.specs.Prelude.{ℕ, zero, suc, ◌+◌, ◌≤◌, ◌<◌, ◌≡◌, Bool, true, false, ◌&&◌, ◌||◌, not, List, [], ◌∷◌, map, length, T, leb, ltb, eqb, None, Some}
 use Rattle.std.proofs.Math.Option.{Option, none, some}
 use Rattle.bounds.specs.Bounds.{ACCEPTED, DETECTIONS, OWNED, HEIGHTS}

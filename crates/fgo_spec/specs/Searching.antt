@@ -47,7 +47,8 @@ unfoldable pub recolumn : (ℕ → List ℕ → List ℕ) → ℕ → List Scan 
 recolumn g n [] = []
 recolumn g n (s ∷ ss) = record { frame = s.frame; ids = g n s.ids } ∷ recolumn g (suc n) ss
 
--- one scan of a merge: the keeper k takes over o's detection; where both have one, k's own is kept, or o's, and the other becomes clutter
+-- one scan of a merge: the keeper k takes over o's detection; where both have one, k's own is kept, or o's, and the
+-- other becomes clutter
 abbrev pub absorb : Bool → ℕ → ℕ → List ℕ → List ℕ
 absorb true k o is = cond (has k is) (map (clear o) is) (map (exchange k o) is)
 absorb false k o is = cond (has o is) (map (exchange k o) (map (clear k) is)) is
@@ -173,8 +174,8 @@ module _ (c : FgoConfig) (first : ℕ) (ps : List (ℕ × Prefix)) where
   abbrev pub swapped : ℕ → ℕ → ℕ → List Scan → List Scan
   swapped a b f ss = recolumn (swap_column a b f) first ss
 
-  -- "in the scans that both tracks share, first the keeper's own detections are kept, then the other track's. The detections not kept are the losers and
-  -- become clutter." "After a merge the other track's window is empty."
+  -- "in the scans that both tracks share, first the keeper's own detections are kept, then the other track's. The
+  -- detections not kept are the losers and become clutter." "After a merge the other track's window is empty."
   abbrev pub merged : Bool → ℕ → ℕ → List Scan → List Scan
   merged own k o ss = recolumn (λ n. absorb own k o) first ss
 
@@ -222,7 +223,8 @@ module _ (c : FgoConfig) (first : ℕ) (ps : List (ℕ × Prefix)) where
 
   -- ---- the best move of a pair: "The base is the old cost of a plus the old cost of b"
 
-  -- "d = (new cost of a + new cost of b) − base"; a swap that leaves a's window equal never wins (proofs/NoGain.antt), so that it is as if skipped
+  -- "d = (new cost of a + new cost of b) − base"; a swap that leaves a's window equal never wins (proofs/NoGain.antt),
+  -- so that it is as if skipped
   unfoldable pub try_swap : ℕ → ℕ → List Scan → Float → ℕ → PairMove
   try_swap a b ss base f =
       let t = swapped a b f ss in
@@ -264,7 +266,8 @@ module _ (c : FgoConfig) (first : ℕ) (ps : List (ℕ × Prefix)) where
   try_drop a ss base d =
       Drop (record { 0 = d.scan }) (track_cost a (dropped a d.scan ss) ⊕ clutter c ⊖ base)
 
-  -- "Splits of the window are tried after its detection 1, 2 and so on"; then "the drop of each single detection is tried"
+  -- "Splits of the window are tried after its detection 1, 2 and so on"; then "the drop of each single detection is
+  -- tried"
   unfoldable pub track_candidates : List Scan → ℕ → ℕ → List TrackMove
   track_candidates ss x a =
       let w = window a first ss in
@@ -299,7 +302,8 @@ module _ (c : FgoConfig) (first : ℕ) (ps : List (ℕ × Prefix)) where
         moved = s.moved || moves m;
       }
 
-  -- the pairs listed at the start, with the windows as they are by then; "After the pairs the pass visits each id present"
+  -- the pairs listed at the start, with the windows as they are by then; "After the pairs the pass visits each id
+  -- present"
   unfoldable pub pass : Search → Search
   pass s =
       let t = foldl pair_step (record { scans = s.scans; next_id = s.next_id; counters = s.counters; moved = false }) (neighbours s.scans (present s.scans)) in

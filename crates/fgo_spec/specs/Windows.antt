@@ -1,8 +1,9 @@
 -- Held scans, the windows of the tracks, and what a window costs. Definitions only.
 --
--- A held scan has, for each of its associations in order, the refined id of the track in whose window the association lies, 0 where it is clutter.
--- So each held association lies in exactly one window or in clutter, and a window is read off the scans, rising in scan. A track is live where it has
--- a frozen part or a window: nothing else is kept of it.
+-- A held scan has, for each of its associations in order, the refined id of the track in whose window the association
+-- lies, 0 where it is clutter.
+-- So each held association lies in exactly one window or in clutter, and a window is read off the scans, rising in
+-- scan. A track is live where it has a frozen part or a window: nothing else is kept of it.
 use Rattle.std.specs.Prelude.{ℕ, suc, Bool, cond, ◌||◌, length, get_or, eqb, ltb, ℤ, Float, None, Some}
 use mathlib.Core.List.{List, [], ◌∷◌, ◌++◌, map, flat_map, foldr}
 use Rattle.std.proofs.Math.Option.{Option, none, some}
@@ -23,7 +24,8 @@ pub record Scan : Type 0 where
   pub frame : Frame
   pub ids : List ℕ
 
--- an observation under an id: the number of its scan, that scan's time, where it lies, and the class that its association knows
+-- an observation under an id: the number of its scan, that scan's time, where it lies, and the class that its
+-- association knows
 pub record Detection : Type 0 where
   pub scan : ℕ
   pub time : ℤ
@@ -43,7 +45,8 @@ pub record Prefix : Type 0 where
 
 -- ---- windows
 
--- "It is found by the association's engine id; where several engine tracks of the frame have that id, the last of them counts."
+-- "It is found by the association's engine id; where several engine tracks of the frame have that id, the last of them
+-- counts."
 unfoldable pub class_among : ℕ → ClassLabel → List EngineTrack → ClassLabel
 class_among e k [] = k
 class_among e k (t ∷ ts) = class_among e (cond (eqb e t.id.0) t.class k) ts

@@ -2,8 +2,8 @@
 use engine::types::{RefinedId, ScanIndex};
 
 // A move of a pair of tracks.
-// As it is, here and in `TrackMove`: the gain stands in each variant. With a struct of a move and its gain, each definition of the search that makes a move or
-// reads one would name that struct too, which is no plainer.
+// As it is, here and in `TrackMove`: the gain stands in each variant. With a struct of a move and its gain, each
+// definition of the search that makes a move or reads one would name that struct too, which is no plainer.
 #[derive(Clone, Copy)]
 pub enum PairMove {
     // From the cut on the two exchange their windows.
@@ -11,7 +11,8 @@ pub enum PairMove {
         cut: ScanIndex,
         gain: f64,
     },
-    // The keeper takes over the other's window; in the scans that both have, its own detections are kept, or else the other's.
+    // The keeper takes over the other's window; in the scans that both have, its own detections are kept, or else the
+    // other's.
     Merge {
         keeper: RefinedId,
         own: bool,

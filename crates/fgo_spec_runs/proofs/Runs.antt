@@ -1,5 +1,6 @@
--- Runs of the refiner as fgo_spec defines it, one each in which a swap, a merge and a split is chosen: the checker computes them, from the bytes of the bodies to
--- the emitted words and numbers. What they should give was read off the published Rust, with document 01's logarithm. Assumes nothing.
+-- Runs of the refiner as fgo_spec defines it, one each in which a swap, a merge and a split is chosen: the checker
+-- computes them, from the bytes of the bodies to the emitted words and numbers. What they should give was read off the
+-- published Rust, with document 01's logarithm. Assumes nothing.
 use Prim.Native.Nat.{ℕ}
 use mathlib.Core.Path.{◌≡◌, refl}
 use mathlib.Core.List.{List, [], ◌∷◌}
@@ -7,7 +8,8 @@ use Rattle.buffers.specs.Answer.{Op, pushed, taken}
 use Rattle.engine.specs.Body.{Body}
 use Rattle.fgo_spec.proofs.Examples.{sight, body, lagging, shown}
 
--- two people side by side; the engine exchanges their ids in the fourth frame, when each has a frozen part, and a swap undoes it
+-- two people side by side; the engine exchanges their ids in the fourth frame, when each has a frozen part, and a swap
+-- undoes it
 pub swap_run : List (Op Body)
 swap_run =
     pushed (body 0 (sight 0 0 0x3fe0_0000_0000_0000 7 ∷ sight 0 0x3ff0_0000_0000_0000 0x3ff0_0000_0000_0000 8 ∷ []))
@@ -57,7 +59,8 @@ pub merge_is : shown (lagging 2) merge_run ≡ merge_shows
 unfolding shown merge_run
 merge_is = refl
 
--- the engine goes on from one person with another: the third detection starts a track of its own, and what comes after it gets the id after that
+-- the engine goes on from one person with another: the third detection starts a track of its own, and what comes after
+-- it gets the id after that
 pub split_run : List (Op Body)
 split_run =
     pushed (body 0 (sight 0xbff8_0000_0000_0000 0x3fe0_0000_0000_0000 0x3ff0_0000_0000_0000 7 ∷ []))

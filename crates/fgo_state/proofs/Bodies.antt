@@ -1,4 +1,5 @@
--- Held bodies: that those that pass the test of all pass each by itself, and that they are of bytes where the memory is. Assumes nothing.
+-- Held bodies: that those that pass the test of all pass each by itself, and that they are of bytes where the memory
+-- is. Assumes nothing.
 use Prim.Native.Nat.{ℕ, zero, suc, ◌+◌, ◌*◌, ◌<◌}
 use mathlib.Core.Path.{◌≡◌}
 use mathlib.Core.Bool.{true}

@@ -1,4 +1,5 @@
--- What was gathered of the held scans, scan by scan: where each scan's ids and engine ids stand, and that put back they are the columns. Assumes nothing.
+-- What was gathered of the held scans, scan by scan: where each scan's ids and engine ids stand, and that put back they
+-- are the columns. Assumes nothing.
 use Prim.Native.Nat.{ℕ, zero, suc, ◌+◌, ◌-◌, ◌≤◌, ◌<◌, zero-le}
 use native.Mathlib.Nat.{add-zero, add-suc, suc-add}
 use native.Mathlib.Omega.{arith}

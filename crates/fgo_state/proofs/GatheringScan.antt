@@ -1,4 +1,5 @@
--- The detections in windows of a scan, gathered association by association: their ids, their engine ids and their dots. Assumes nothing.
+-- The detections in windows of a scan, gathered association by association: their ids, their engine ids and their dots.
+-- Assumes nothing.
 use Prim.Native.Nat.{ℕ, zero, suc, ◌+◌, ◌≤◌, ◌<◌}
 use native.Mathlib.Numerals.{add-one}
 use native.Mathlib.Omega.{arith}

@@ -51,11 +51,11 @@ module _ (bodies columns : List ℕ) (first held n : ℕ) (is es is' es' ts' : L
   pub found_few_enough : length (found_of bodies columns first held) ≤ DETECTIONS
   found_few_enough = omega (arith, gathered_few first (scans_in bodies columns first held), h.room)
 
-  start-within : (k : ℕ) → k ≤ held → get_or ts' k 0 ≤ DETECTIONS
+  start-within : (k : ℕ) → k ≤ held → get_or ts' k 0 ≤ n
   start-within zero l = rw (g.starts zero l) (unfold rows in unfold gathered in zero-le)
-  start-within (suc k) l = omega (arith, g.starts (suc k) l, found_within scan first held k l, found_few_enough)
+  start-within (suc k) l = omega (arith, g.starts (suc k) l, found_within scan first held k l, g.scans.count)
 
-  pub starts_within : StartsWithin ts' held
+  pub starts_within : StartsWithin ts' held n
   starts_within = record { few = h.few; most = start-within }
 
   -- the latest holder, of ids in the places of those gathered: of the scans with those ids put back
@@ -65,8 +65,9 @@ module _ (bodies columns : List ℕ) (first held n : ℕ) (is es is' es' ts' : L
       latest e y (put_back ts' xs 0 (scans_in bodies columns first held)) ≡ or_else (latest_of e xs es' ts' held) y
   latest-held t w e y xs v =
       let s : length (scans_in bodies columns first held) ≡ held = length-rows scan first held in
+      let few : n ≤ DETECTIONS = omega (arith, g.scans.count, found_few_enough) in
       let long : length es' ≡ DETECTIONS = ap length g.scans.engines ∙ length_over 0 (map (λ x. x.engine) (found_of bodies columns first held)) es (omega (arith, length-map (found_of bodies columns first held) (λ x. x.engine), found_few_enough)) ∙ w in
-      latest-gathered e y xs es' ts' (scans_in bodies columns first held) (λ j l. let b = start-within (suc j) (omega arith) in (omega arith, omega arith)) (engines_each t)
+      latest-gathered e y xs es' ts' (scans_in bodies columns first held) (λ j l. let b = start-within (suc j) (omega arith) in (omega (arith, few), omega (arith, few))) (engines_each t)
       ∙ ap (λ (m : ℕ). or_else (latest_of e xs es' ts' m) y) s
 
   -- of the ids as they were gathered: of the scans

@@ -1,4 +1,5 @@
--- The latest holder of an engine id, read off the gathered lists, is fgo_spec's: of the scans with the gathered ids put back. Assumes nothing.
+-- The latest holder of an engine id, read off the gathered lists, is fgo_spec's: of the scans with the gathered ids put
+-- back. Assumes nothing.
 use Prim.Native.Nat.{ℕ, zero, suc, ◌+◌, ◌-◌, ◌≤◌, ◌<◌, max}
 use native.Mathlib.Nat.{add-zero, add-suc, suc-add}
 use native.Mathlib.Omega.{arith}
@@ -6,7 +7,7 @@ use mathlib.Core.Path.{◌≡◌, refl, sym, ap, ◌∙◌}
 use mathlib.Core.Bool.{Bool, true, false, cond}
 use mathlib.Core.List.{List, [], ◌∷◌, map, foldr}
 use lib.ListN.{length, get_or, take, drop}
-use lib.Seq.{drop-cons}
+use lib.Seq.{drop-cons, get_or-take}
 use lib.Dec.{eqb}
 use Rattle.engine.specs.Frame.{engine_of, Associated}
 use Rattle.engine.specs.declared.types.Association.{Association}
@@ -16,7 +17,8 @@ use Rattle.fgo_spec.specs.Owning.{is_engine, holder_in, or_else, latest}
 use Rattle.fgo_spec.proofs.Ties.{Engine, Tied, TiedScan}
 use Rattle.fgo_spec.specs.Lists.{segment}
 use Rattle.fgo_spec.specs.Gathered.{column_at, picked, spread, put_back}
-use Rattle.fgo_state.specs.Gathering.{holder_of, latest_of}
+use Rattle.fgo_spec.proofs.Rows.{rows_same}
+use Rattle.fgo_state.specs.Gathering.{holder_of, latest_of, StartsWithin}
 use Rattle.std.specs.Prelude.{None, Some}
 
 -- something of each scan of a list, by its number: the first is the k-th
@@ -118,3 +120,24 @@ module _ (e y : ℕ) (ids engines starts : List ℕ) where
       latest e y (put_back starts ids 0 ss) ≡ or_else (latest_of e ids engines starts (length ss)) y
   unfolding latest_of
   latest-gathered ss f h = let z : 0 + length ss ≡ length ss = omega arith in latest-from 0 ss (λ j l. f j (omega arith)) h ∙ ap (λ (n : ℕ). or_else (last n) y) z
+
+-- ---- engine ids that agree
+
+module _ {starts : List ℕ} {held n : ℕ} (s : StartsWithin starts held n) (e : ℕ) (ids engines : List ℕ) where
+  holder-taken : (a b : ℕ) → b ≤ n → holder_of e ids (take n engines) a b ≡ holder_of e ids engines a b
+  unfolding holder_of
+  holder-taken a b h =
+      ap (foldr max 0)
+      (rows_same (λ i. cond (eqb e (get_or (take n engines) i 0)) (get_or ids i 0) 0) (λ i. cond (eqb e (get_or engines i 0)) (get_or ids i 0) 0) a (b - a)
+      (λ i p q. ap (λ (x : ℕ). cond (eqb e x) (get_or ids i 0) 0) (get_or-take n engines i 0 (omega arith))))
+
+  taken-from : (k : ℕ) → k ≤ held → latest_of e ids (take n engines) starts k ≡ latest_of e ids engines starts k
+  unfolding latest_of
+  taken-from zero l = refl
+  taken-from (suc k) l =
+      ap (λ (x : ℕ). or_else x (latest_of e ids (take n engines) starts k)) (holder-taken (get_or starts k 0) (get_or starts (suc k) 0) (s.most (suc k) l))
+      ∙ ap (or_else (holder_of e ids engines (get_or starts k 0) (get_or starts (suc k) 0))) (taken-from k (omega arith))
+
+  -- the places after the last gathered detection do not count
+  pub latest-taken : latest_of e ids (take n engines) starts held ≡ latest_of e ids engines starts held
+  latest-taken = taken-from held (omega arith)

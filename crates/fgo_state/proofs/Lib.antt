@@ -7,10 +7,12 @@ pub mod Counts
 pub mod Standing
 pub mod Detections
 pub mod LatestGathered
+mod LastHolder
 pub mod GatheredScans
 pub mod HeldGathered
 pub mod GatheringScan
 pub mod GatheringHeld
+pub mod AddingScan
 pub mod ScatteringScan
 pub mod ScatteringHeld
 pub mod Heads

@@ -1,4 +1,5 @@
--- The detections in windows of the held scans, gathered in order into flat lists, and their ids put back. Definitions only.
+-- The detections in windows of the held scans, gathered in order into flat lists, and their ids put back. Definitions
+-- only.
 use Rattle.std.specs.Prelude.{ℕ, zero, suc, ◌+◌, ◌-◌, ◌*◌, ◌<◌, ◌≤◌, max, ◌≡◌, cond, length, drop, get_or, eqb}
 use mathlib.Core.List.{List, [], ◌∷◌, ◌++◌, map, foldr}
 use Rattle.bounds.specs.Bounds.{SCANS, STARTS, ACCEPTED, DETECTIONS, COLUMN}
@@ -96,10 +97,10 @@ pub record GatheredAll (bodies columns : List ℕ) (first held r : ℕ) (is es i
   pub beyond : (k : ℕ) → held ≤ k → k < STARTS → get_or ts' k 0 ≡ r
   pub long : length ts' ≡ STARTS
 
--- the starts of the scans held are places of gathered detections
-pub record StartsWithin (starts : List ℕ) (held : ℕ) : Type 0 where
+-- the starts of the scans held are places of the gathered detections, of which there are count, or the place after them
+pub record StartsWithin (starts : List ℕ) (held count : ℕ) : Type 0 where
   pub few : held ≤ SCANS
-  pub most : (k : ℕ) → k ≤ held → get_or starts k 0 ≤ DETECTIONS
+  pub most : (k : ℕ) → k ≤ held → get_or starts k 0 ≤ count
 
 -- ---- the latest holder of an engine id among what was gathered
 
@@ -113,7 +114,8 @@ latest_of e ids engines starts zero = 0
 latest_of e ids engines starts (suc k) =
     or_else (holder_of e ids engines (get_or starts k 0) (get_or starts (suc k) 0)) (latest_of e ids engines starts k)
 
--- "Finally each engine id that has detections in windows goes to the track that holds its latest one", by what was gathered
+-- "Finally each engine id that has detections in windows goes to the track that holds its latest one", by what was
+-- gathered
 abbrev pub held_latest : List ℕ → List ℕ → List ℕ → ℕ → List (ℕ × ℕ) → List (ℕ × ℕ)
 held_latest ids engines starts held os = map (λ o. (o.0, or_else (latest_of o.0 ids engines starts held) o.1)) os
 

@@ -1,7 +1,9 @@
--- What the lent memory of a refiner means: the one function from its arrays to the state of which the refiner is defined. Definitions only.
+-- What the lent memory of a refiner means: the one function from its arrays to the state of which the refiner is
+-- defined. Definitions only.
 --
--- The refiner keeps a few numbers by value, and is lent five arrays: the bodies of the held scans, beside each body its length and the refined id of each
--- association, the owners of engine ids, and the words and the numbers of the frozen parts. Whatever lies past a count is ignored.
+-- The refiner keeps a few numbers by value, and is lent five arrays: the bodies of the held scans, beside each body its
+-- length and the refined id of each association, the owners of engine ids, and the words and the numbers of the frozen
+-- parts. Whatever lies past a count is ignored.
 use Rattle.std.specs.Prelude.{ℕ, ◌+◌, ◌*◌, ◌%◌, Bool, cond, ◌&&◌, ◌||◌, ◌≡◌, leb, ltb, Float}
 use Rattle.std.specs.Prelude.{List, ◌∷◌, length, take, drop, get_or, replicate}
 use Rattle.std.proofs.Math.Option.{Option, none, some}
@@ -20,7 +22,8 @@ use Rattle.fgo_state.specs.declared.scans.Scans.{Scans}
 use Rattle.fgo_state.specs.declared.state.FixedLagRefiner.{FixedLagRefiner}
 use Rattle.fgo_state.specs.declared.state.Memory.{Memory}
 
--- the memory of five arrays: bodies, columns of lengths and ids, owners, and the words and the numbers of the frozen parts
+-- the memory of five arrays: bodies, columns of lengths and ids, owners, and the words and the numbers of the frozen
+-- parts
 abbrev pub memory : List ℕ → List ℕ → List ℕ → List ℕ → List Float → Memory
 memory bodies columns owners tracks filters =
     record {

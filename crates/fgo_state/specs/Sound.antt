@@ -1,6 +1,5 @@
 -- Document 01, "Refiner state rule", of a refiner and its lent memory. Definitions only.
-use Rattle.std.specs.Prelude.{ℕ, ◌+◌, ◌<◌, ◌≤◌, ◌≡◌, Bool, ◌&&◌, List, eqb}
-use Rattle.bounds.specs.Bounds.{ACCEPTED}
+use Rattle.std.specs.Prelude.{ℕ, ◌+◌, ◌<◌, ◌≡◌, Bool, ◌&&◌, List, eqb}
 use Rattle.engine.specs.Body.{all, body_refusal}
 use Rattle.fgo_spec.specs.Rule.{Rule, rule_ok}
 use Rattle.fgo_state.specs.declared.state.FixedLagRefiner.{FixedLagRefiner}
@@ -20,9 +19,5 @@ pub record Sound (r : FixedLagRefiner) (m : Memory) : Type 0 where
   pub bodies : (i : ℕ) → i < r.held → body_refusal (body_at m.scans.bodies m.scans.columns (r.first.0 + i)) ≡ 0
   pub rule : Rule r.config (state_of r m)
 
--- the law, in proofs/, of memory whose bodies are bytes: tested : Bytes m.scans.bodies → (sound_ok r m ≡ true → Sound r m) × (Sound r m → sound_ok r m ≡ true)
-
--- held scans, each of a body that passes
-pub record Passing (bodies columns : List ℕ) (first held : ℕ) : Type 0 where
-  pub early : first + held ≤ ACCEPTED + 1
-  pub passes : (i : ℕ) → i < held → body_refusal (body_at bodies columns (first + i)) ≡ 0
+-- the law, in proofs/, of memory whose bodies are bytes:
+-- tested : Bytes m.scans.bodies → (sound_ok r m ≡ true → Sound r m) × (Sound r m → sound_ok r m ≡ true)

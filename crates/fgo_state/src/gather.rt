@@ -1,13 +1,14 @@
-// The detections in windows of the held scans, gathered in order into flat lists for the rule and the search, and their ids put back.
-ghost use Rattle.std.specs.Prelude.{◌≡◌, ◌+◌, ◌≤◌, length, replicate};
-ghost use Rattle.bounds.specs.Bounds.{ASSOCIATIONS, DETECTIONS};
+// The detections in windows of the held scans, gathered in order into flat lists for the rule and the search, and their
+// ids put back.
+ghost use Rattle.std.specs.Prelude.{◌≡◌, ◌+◌, ◌<◌, ◌≤◌, length};
+ghost use Rattle.bounds.specs.Bounds.{SCANS, ASSOCIATIONS, DETECTIONS};
 ghost use Rattle.engine.specs.Frame.{engine_of};
 ghost use Rattle.engine.specs.Body.{body_of};
 ghost use Rattle.buffers.specs.Buffers.{over};
 ghost use Rattle.fgo_state.specs.Memory.{association_in};
 ghost use Rattle.fgo_state.specs.Owners.{id_from};
 ghost use Rattle.fgo_state.specs.Gathering.{dots_of, dot_in, count_in, Scattered, found_in, found_of, StartsWithin, holder_of, latest_of};
-ghost use Rattle.fgo_state.specs.Gathering.{HeldScans, GathersScan, GatheredScan, GatheredAll, ScatteredScan};
+ghost use Rattle.fgo_state.specs.Gathering.{HeldScans, GathersScan, GatheredScan, ScatteredScan};
 
 use crate::held::HeldRef;
 use crate::scan::HeldScan;
@@ -16,22 +17,25 @@ use crate::scans::Scans;
 use bounds::{COLUMN, COLUMNS, DETECTIONS, STARTS};
 use engine::config::FgoConfig;
 use engine::types::{EngineId, RefinedId, ScanIndex};
+use id_index::IdIndex;
 use kf::filter::Dot;
 use scalar::bits;
 
-// The detections in windows of `held` scans, in order: `count` of them.
-// As it is: an array of ids and one of engine ids, since the search is lent the ids alone and changes them: structs would have to be taken apart before each
-// search and put together again after it, which is no plainer. And numbers in both: the definitions compare lists of numbers, and a list of ids would be
-// mapped to one in each clause.
+// The detections in windows of `held` scans, in order: `count` of them. `gather` writes their engine ids where the
+// caller has room.
+// As it is: an array of ids here and one of engine ids there. The search is lent the ids alone and changes them:
+// structs would have to be taken apart before each search and put together again after it, which is no plainer. The
+// engine ids are no field, since what a function returns is cleared before it is written: the shorter it is, the less
+// that costs. And numbers in both: the definitions compare lists of numbers, and a list of ids would be mapped to one
+// in each clause.
 #[derive(Drop)]
 pub struct Gathered {
     pub ids: [u64; DETECTIONS],
-    pub engines: [u64; DETECTIONS],
     // How many stand before each scan.
     pub starts: [usize; STARTS],
     pub held: usize,
     pub count: usize,
-    pub ghost within: { StartsWithin starts held },
+    pub ghost within: { StartsWithin starts held count },
     pub ghost few: { count ≤ DETECTIONS },
 }
 
@@ -43,9 +47,9 @@ fn engine_of(s: &HeldScan<'_>, j: usize) -> EngineId
 }
 
 // The detections in windows of a held scan, from place o on; the place after the last.
-// As it is, here, in dot_scan and in scatter_scan: a loop each, since each does another thing with what it meets: a function of all three would take a closure
-// that writes to what is lent, which is no plainer. And p counts by hand: a `filter` with `enumerate` tells no count after the last, as fgo_emit's `put_tracks`
-// says.
+// As it is, here, in dot_scan and in scatter_scan: a loop each, since each does another thing with what it meets: a
+// function of all three would take a closure that writes to what is lent, which is no plainer. And p counts by hand: a
+// `filter` with `enumerate` tells no count after the last, as fgo_emit's `put_tracks` says.
 fn gather_scan(s: &HeldScan<'_>, o: usize, ids: &mut [u64], engines: &mut [u64]) -> usize
     requires { GathersScan (body_of s.now.frame.body) s.now.scans.now.columns s.now.n.0 o ids.old engines.old }
     ensures { GatheredScan (found_in s.now.scans.now.columns s.now.n.0 (body_of s.now.frame.body)) o result ids.old engines.old ids.new engines.new }
@@ -91,33 +95,44 @@ fn dot_scan(c: FgoConfig, s: &HeldScan<'_>, o: usize, dots: &mut [Dot; DETECTION
     p
 }
 
-impl HeldRef<'_> {
-    // The detections in windows of the held scans. It asks for SCANS scans and DETECTIONS detections at most, and bodies that pass.
-    // As it is, here, in gather_dots and in scatter: `HeldScans` is asked by each, and is no fact of a struct, since scatter is lent the scans by `&mut`: of a
-    // struct that holds them so no fact says what it holds afterwards.
-    pub fn gather(&self) -> Gathered
-        requires { HeldScans self.now.scans.now.bodies self.now.scans.now.columns self.now.first.0 self.now.count }
-        ensures all { GatheredAll self.now.scans.now.bodies self.now.scans.now.columns self.now.first.0 self.now.count result.count
-            (replicate DETECTIONS 0) (replicate DETECTIONS 0) result.ids result.engines result.starts }
-        ensures held { result.held ≡ self.now.count }
+impl Gathered {
+    ghost use Rattle.fgo_state.specs.Gathered.{AddedScan};
+
+    // The detections in windows of one more held scan, which comes after those gathered. It asks that there is room for
+    // it.
+    pub fn add(&mut self, s: &HeldScan<'_>, engines: &mut [u64; DETECTIONS])
+        requires { (self.old.held < SCANS)
+            × (self.old.count + length (found_in s.now.scans.now.columns s.now.n.0 (body_of s.now.frame.body)) ≤ DETECTIONS) }
+        ensures { AddedScan (found_in s.now.scans.now.columns s.now.n.0 (body_of s.now.frame.body)) self.old engines.old self.new engines.new }
     {
-        let mut ids = [0; DETECTIONS];
-        let mut engines = [0; DETECTIONS];
-        let mut starts = [0; STARTS];
-        let mut p: usize = 0;
+        self.count = gather_scan(s, self.count, &mut self.ids, engines);
+        self.held += 1;
+        self.starts[self.held..].fill(self.count);
+    }
+}
+
+impl HeldRef<'_> {
+    ghost use Rattle.fgo_state.specs.Gathered.{GatheredOf};
+
+    // The detections in windows of the held scans, and their engine ids, which go where the caller has room for them.
+    // It asks for SCANS scans and DETECTIONS detections at most, and bodies that pass.
+    // As it is, here, in gather_dots and in scatter: `HeldScans` is asked by each, and is no fact of a struct, since
+    // scatter is lent the scans by `&mut`: of a struct that holds them so no fact says what it holds afterwards.
+    pub fn gather(&self, engines: &mut [u64; DETECTIONS]) -> Gathered
+        requires { HeldScans self.now.scans.now.bodies self.now.scans.now.columns self.now.first.0 self.now.count }
+        ensures { GatheredOf self.now.scans.now self.now.first.0 self.now.count engines.old result engines.new }
+    {
+        let mut g = Gathered {
+            ids: [0; DETECTIONS],
+            starts: [0; STARTS],
+            held: 0,
+            count: 0,
+        };
         for k in 0..self.count {
             let s = self.scans.held(self.first.later(k));
-            p = gather_scan(&s, p, &mut ids, &mut engines);
-            starts[k + 1] = p;
+            g.add(&s, engines);
         }
-        starts[self.count + 1..].fill(p);
-        Gathered {
-            ids,
-            engines,
-            starts,
-            held: self.count,
-            count: p,
-        }
+        g
     }
 
     // The dots of the detections in windows of the held scans. It asks what `gather` asks.
@@ -137,26 +152,32 @@ impl HeldRef<'_> {
 // ---- the latest holder of an engine id
 
 impl Gathered {
-    // The greatest id that holds the engine id e among the detections from place a to before place b, if one does: clutter, which has the id 0, holds none.
-    fn holder_in(&self, e: EngineId, a: usize, b: usize) -> Option<RefinedId>
-        requires { b ≤ DETECTIONS }
-        ensures { result ≡ id_from (holder_of e.0 self.now.ids self.now.engines a b) }
+    // The greatest id that holds the engine id e among the detections from place a to before place b, if one does:
+    // clutter, which has the id 0, holds none.
+    fn holder_in(&self, engines: &[u64], e: EngineId, a: usize, b: usize) -> Option<RefinedId>
+        requires { (b ≤ DETECTIONS) × (b ≤ length engines.now) }
+        ensures { result ≡ id_from (holder_of e.0 self.now.ids engines.now a b) }
     {
         (a..b)
-            .filter(|i| self.engines[*i] == e.0)
+            .filter(|i| engines[*i] == e.0)
             .map(|i| self.ids[i])
             .max()
             .map(RefinedId)
             .filter(|x| 0 < x.0)
     }
 
-    // The holder of the latest detection of the engine id e, if it has one.
-    pub fn latest(&self, e: EngineId) -> Option<RefinedId>
-        ensures { result ≡ id_from (latest_of e.0 self.now.ids self.now.engines self.now.starts self.now.held) }
+    // The holder of the latest detection of the engine id e, if it has one. `engines` has the engine ids that were
+    // gathered.
+    // No detection after the last one of e is looked at: a scan that begins after it is passed over.
+    pub fn latest(&self, engines: &IdIndex<'_>, e: EngineId) -> Option<RefinedId>
+        requires { self.now.count ≤ length engines.now.ids.now }
+        ensures { result ≡ id_from (latest_of e.0 self.now.ids engines.now.ids.now self.now.starts self.now.held) }
     {
-        (0..self.held)
-            .rev()
-            .find_map(|k| self.holder_in(e, self.starts[k], self.starts[k + 1]))
+        let at = engines.place_of(e.0)?;
+        (0..self.held).rev().find_map(|k| {
+            let end = self.starts[k + 1].min(at + 1);
+            self.holder_in(engines.ids, e, self.starts[k], end)
+        })
     }
 }
 

@@ -4,9 +4,9 @@ ghost use Rattle.std.specs.Prelude.{◌≡◌, ◌*◌, ◌<◌, ◌≤◌, [], 
 ghost use Rattle.bounds.specs.Bounds.{OWNED, OWNER};
 ghost use Rattle.buffers.specs.Buffers.{over};
 ghost use Rattle.fgo_state.specs.Memory.{engine_at, owner_at, owner_of};
-ghost use Rattle.fgo_state.specs.Owners.{IsPlaceOf, id_from};
+ghost use Rattle.fgo_state.specs.Owners.{IsPlaceOf, engines_in, id_from};
 
-use bounds::{OWNER, OWNERS};
+use bounds::{OWNED, OWNER, OWNERS};
 use engine::types::{EngineId, RefinedId};
 
 // The engine id of entry k, which is below OWNED.
@@ -57,5 +57,14 @@ impl OwnersRef<'_> {
         self.place_of(e)
             .map(|k| owner_at(self.entries, k))
             .filter(|x| 0 < x.0)
+    }
+
+    // The engine ids of the entries, written to the places from 0 on.
+    pub fn keys(&self, all: &mut [u64; OWNED])
+        ensures { all.new ≡ over 0 (engines_in self.now.entries.now self.now.owned) all.old }
+    {
+        for (k, id) in all[..self.owned].iter_mut().enumerate() {
+            *id = engine_at(self.entries, k).0;
+        }
     }
 }

@@ -1,4 +1,5 @@
-// The held scans in lent memory: the bodies, and beside each body a column of its length and the refined ids of its associations.
+// The held scans in lent memory: the bodies, and beside each body a column of its length and the refined ids of its
+// associations.
 ghost use Rattle.std.specs.Prelude.{◌≡◌, ◌+◌, ◌-◌, ◌*◌, ◌<◌, ◌≤◌, length};
 ghost use Rattle.bounds.specs.Bounds.{SCANS, ASSOCIATIONS, BODY, COLUMN};
 ghost use Rattle.engine.specs.Body.{associations_in, body_of, rows};
@@ -49,7 +50,8 @@ fn length_in(head: u64) -> usize
     }
 }
 
-// How long a slice of bytes is. It is called for its first clause: where bytes are part of what is lent, the check does not see that each is below 256.
+// How long a slice of bytes is. It is called for its first clause: where bytes are part of what is lent, the check does
+// not see that each is below 256.
 pub fn are_bytes(l: &[u8]) -> usize
     ensures bytes { Bytes l.now }
     ensures length { result ≡ length l.now }
@@ -68,7 +70,8 @@ impl Scans {
         }
     }
 
-    // What the types of the arrays say of them: a call of it tells the check so, where the scans are part of what is lent.
+    // What the types of the arrays say of them: a call of it tells the check so, where the scans are part of what is
+    // lent.
     pub fn typed(&self)
         ensures { Typed self.now }
     {
@@ -98,8 +101,9 @@ impl Scans {
     }
 
     // The refined id of its association j; 0 past the last that there is room for.
-    // As it is, here and in `HeldScan::id`: an id of which 0 is clutter. An Option is no plainer: the definitions read a column as numbers, the rule compares
-    // 0 with the next id, `stands_in` may be asked of 0, and a frame has 0 written out, so each of these would make the number again.
+    // As it is, here and in `HeldScan::id`: an id of which 0 is clutter. An Option is no plainer: the definitions read
+    // a column as numbers, the rule compares 0 with the next id, `stands_in` may be asked of 0, and a frame has 0
+    // written out, so each of these would make the number again.
     pub fn id_at(&self, n: ScanIndex, j: usize) -> RefinedId
         ensures { result.0 ≡ id_at self.now.columns n.0 j }
     {

@@ -1,6 +1,7 @@
 // What a refiner keeps by value, and the memory that is lent to it.
 ghost use Rattle.std.specs.Prelude.{◌≡◌, ◌+◌, ◌≤◌};
 ghost use Rattle.bounds.specs.Bounds.{ACCEPTED, FROZEN};
+ghost use Rattle.fgo_part.specs.Parts.{Rises};
 ghost use Rattle.fgo_state.specs.Memory.{no_memory};
 ghost use Rattle.fgo_state.specs.Live.{live_among};
 
@@ -32,8 +33,9 @@ pub struct FixedLagRefiner {
 
 impl FixedLagRefiner {
     // The scans held, as they are lent.
-    // As it is, here, in `live_in` and in fgo_refuse's `is_full`: the bound is asked for and is no fact of the type, since a caller may hold any refiner, sound
-    // or not: the program calls writes its fields. What reads the scans held has it as the fact `early` of `HeldRef`.
+    // As it is, here, in `live_in` and in fgo_refuse's `is_full`: the bound is asked for and is no fact of the type,
+    // since a caller may hold any refiner, sound or not: the program calls writes its fields. What reads the scans held
+    // has it as the fact `early` of `HeldRef`.
     pub fn held_in<'a>(&self, scans: &'a Scans) -> HeldRef<'a>
         requires { self.now.first.0 + self.now.held ≤ ACCEPTED + 1 }
         ensures { (result.scans.now ≡ scans.now) × (result.first ≡ self.now.first) × (result.count ≡ self.now.held) }
@@ -45,9 +47,10 @@ impl FixedLagRefiner {
         }
     }
 
-    // What says which tracks are live, as it is lent: the scans held, and the words of the frozen parts.
+    // What says which tracks are live, as it is lent: the scans held, and the words of the frozen parts. It asks that
+    // the ids of these rise.
     pub fn live_in<'a>(&self, scans: &'a Scans, tracks: &'a [u64; PARTS]) -> LiveTracks<'a>
-        requires { (self.now.first.0 + self.now.held ≤ ACCEPTED + 1) × (self.now.frozen ≤ FROZEN) }
+        requires { (self.now.first.0 + self.now.held ≤ ACCEPTED + 1) × (self.now.frozen ≤ FROZEN) × Rises tracks.now self.now.frozen }
         ensures held { (result.held.scans.now ≡ scans.now) × (result.held.first ≡ self.now.first) × (result.held.count ≡ self.now.held) }
         ensures frozen { (result.frozen.tracks.now ≡ tracks.now) × (result.frozen.count ≡ self.now.frozen) }
     {

@@ -1,4 +1,5 @@
-// Plays a recording from standard input through the refiner and prints each emitted frame in full: its words, and its numbers.
+// Plays a recording from standard input through the refiner and prints each emitted frame in full: its words, and its
+// numbers.
 #![tactic(auto)]
 
 use playback::play;

@@ -1,4 +1,5 @@
--- Demand 3 in the bytes pushed and the words and numbers written. Assumes nothing but that each call is as the contracts of push and take say.
+-- Demand 3 in the bytes pushed and the words and numbers written. Assumes nothing but that each call is as the
+-- contracts of push and take say.
 use Prim.Native.Nat.{ℕ, zero, suc, ◌≤◌, ◌<◌}
 use native.Mathlib.Omega.{arith}
 use mathlib.Core.Path.{◌≡◌, refl, sym, ap, ◌∙◌, subst}

@@ -1,4 +1,5 @@
--- Every emitted frame of a run over bytes is in bounds: by the bodies that say it, and by the frames emitted before it. Assumes nothing.
+-- Every emitted frame of a run over bytes is in bounds: by the bodies that say it, and by the frames emitted before it.
+-- Assumes nothing.
 use Prim.Native.Nat.{ℕ, zero, suc, ◌+◌, ◌^◌, ◌≤◌, ◌<◌}
 use native.Mathlib.Nat.{le_trans}
 use native.Mathlib.Omega.{arith}

@@ -1,4 +1,5 @@
--- What holds of calls one after another, of a refiner and of a smoother alike. Assumes nothing but what is known of each call.
+-- What holds of calls one after another, of a refiner and of a smoother alike. Assumes nothing but what is known of
+-- each call.
 use Prim.Native.Nat.{ℕ, ◌+◌, ◌≤◌}
 use native.Mathlib.Omega.{arith}
 use mathlib.Core.Path.{◌≡◌, refl, sym, ap, ◌∙◌, subst}
@@ -124,8 +125,9 @@ module _ {A F E S R M : Type 0} (frame : A → F) (reply : S → Op A → Reply 
       none_more (pushed a) = sym (append-nil (ran ops).accepted)
       none_more taken = sym (append-nil (ran ops).accepted)
 
-  -- What is known of calls that keep to a contract, and of which Ok holds: after the pushes and takes ops a value and its memory are such that At holds. They
-  -- mean the state then, and so does the memory that is lent; a call ends as it should, and goes on to such a value and memory; a frame has room; and refusals are numbered 5 or above.
+  -- What is known of calls that keep to a contract, and of which Ok holds: after the pushes and takes ops a value and
+  -- its memory are such that At holds. They mean the state then, and so does the memory that is lent; a call ends as it
+  -- should, and goes on to such a value and memory; a frame has room; and refusals are numbered 5 or above.
   pub record Known (Keeps : R → M → Call A R M → Type 0) (Ok : Call A R M → Type 0) (At : List (Op A) → R → M → Type 0) : Type 0 where
     pub state : (ops : List (Op A)) (r : R) (m : M) → At ops r m → state_of r m ≡ (ran ops).state
     pub given : (ops : List (Op A)) (r : R) (m : M) → At ops r m → (k : Call A R M) → Keeps r m k → state_of r k.lent ≡ (ran ops).state

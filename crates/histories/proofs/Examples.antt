@@ -1,5 +1,5 @@
--- Runs that the checker computes, from the bytes of the bodies to the smoothed words and numbers. What these should give was worked out apart from the
--- definitions, in f64 by document 01's steps. Assumes nothing.
+-- Runs that the checker computes, from the bytes of the bodies to the smoothed words and numbers. What these should
+-- give was worked out apart from the definitions, in f64 by document 01's steps. Assumes nothing.
 use Prim.Native.Nat.{ℕ}
 use mathlib.Core.Path.{◌≡◌, refl}
 use mathlib.Core.List.{List, [], ◌∷◌, ◌++◌, map, flat_map}

@@ -1,5 +1,5 @@
--- "`finish` is take, repeated until 13", of a refiner and of a smoother alike: it gives the frames that wait, oldest first, and ends. Assumes nothing but what
--- is known of each call.
+-- "`finish` is take, repeated until 13", of a refiner and of a smoother alike: it gives the frames that wait, oldest
+-- first, and ends. Assumes nothing but what is known of each call.
 use Prim.Native.Nat.{suc}
 use native.Mathlib.Omega.{arith}
 use mathlib.Core.Path.{◌≡◌, refl, sym, ap, ◌∙◌}

@@ -1,4 +1,5 @@
--- "`finish` is take, repeated until 13", of a refiner: it gives the frames held, oldest first, and ends. Assumes nothing but what the contract of take says.
+-- "`finish` is take, repeated until 13", of a refiner: it gives the frames held, oldest first, and ends. Assumes
+-- nothing but what the contract of take says.
 use Prim.Native.Nat.{suc}
 use mathlib.Core.Path.{◌≡◌, refl, sym, ap, ◌∙◌}
 use mathlib.Core.List.{List, [], ◌∷◌, ◌++◌, map, append-nil}

@@ -1,5 +1,5 @@
--- "`finish` is take, repeated until 13", of a smoother: it gives the frames held, smoothed, oldest first, and ends. Assumes nothing but what the contract of take
--- says.
+-- "`finish` is take, repeated until 13", of a smoother: it gives the frames held, smoothed, oldest first, and ends.
+-- Assumes nothing but what the contract of take says.
 use Prim.Native.Nat.{suc}
 use native.Mathlib.Omega.{arith}
 use mathlib.Core.Path.{◌≡◌, refl, sym, ap, ◌∙◌}

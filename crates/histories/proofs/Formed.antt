@@ -1,4 +1,5 @@
--- An emitted frame whose counts, times, classes and sensors are in bounds passes the smoother's 5 at C 128. Assumes nothing.
+-- An emitted frame whose counts, times, classes and sensors are in bounds passes the smoother's 5 at C 128. Assumes
+-- nothing.
 use Prim.Native.Nat.{ℕ, zero, suc, ◌+◌, ◌^◌, ◌≤◌, ◌<◌}
 use native.Mathlib.Omega.{arith}
 use mathlib.Core.Path.{◌≡◌, refl, ap, ◌∙◌}

@@ -1,4 +1,5 @@
--- The chain through emitted frames is the chain of fresh runs, and what the smoother emits of them is their smoothed form. Assumes nothing.
+-- The chain through emitted frames is the chain of fresh runs, and what the smoother emits of them is their smoothed
+-- form. Assumes nothing.
 use Prim.Native.Nat.{ℕ, zero, suc, ◌≤◌, ◌<◌}
 use native.Mathlib.Nat.{le_refl, add-zero}
 use native.Mathlib.Decide.{ℕ_discrete}

@@ -1,4 +1,5 @@
--- Demand 3 as one sees it who calls a smoother, and a refiner before it. Assumes nothing but that each call is as the contracts of push and take say.
+-- Demand 3 as one sees it who calls a smoother, and a refiner before it. Assumes nothing but that each call is as the
+-- contracts of push and take say.
 use Prim.Native.Nat.{ℕ}
 use native.Mathlib.Omega.{arith}
 use mathlib.Core.Path.{◌≡◌, refl, sym, ap, ◌∙◌, subst}

@@ -38,7 +38,8 @@ module _ (d : SmootherConfig) where
   more (pushed f) = f ∷ []
   more taken = []
 
-  -- it is refused; or what it hands over is well formed, there are the frames fs ++ ms, and they are held, or the oldest of them leaves
+  -- it is refused; or what it hands over is well formed, there are the frames fs ++ ms, and they are held, or the
+  -- oldest of them leaves
   data Does (fs acc gs ms : List Written) (r : Run Written Written State) : Type 0 where
     refuses : r ≡ after fs acc gs → Does fs acc gs ms r
     holds : all_formed (most d) ms ≡ true → length (fs ++ ms) ≤ lag d → r ≡ after (fs ++ ms) (acc ++ ms) gs → Does fs acc gs ms r

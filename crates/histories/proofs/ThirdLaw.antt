@@ -1,4 +1,5 @@
--- 3 is answered just where the state rule does not hold. Assumes nothing but that a call is as the contracts of push, take and counters say.
+-- 3 is answered just where the state rule does not hold. Assumes nothing but that a call is as the contracts of push,
+-- take and counters say.
 use Prim.Native.Nat.{ℕ, suc, ◌≤◌}
 use native.Mathlib.Omega.{arith}
 use mathlib.Core.Path.{◌≡◌, refl, sym, ap, subst, ◌∙◌}

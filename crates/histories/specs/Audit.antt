@@ -1,25 +1,30 @@
--- Demand 3 in what a caller has: the bytes of the bodies pushed, and the words and numbers written. The file to open first. Definitions only.
+-- Demand 3 in what a caller has: the bytes of the bodies pushed, and the words and numbers written. The file to open
+-- first. Definitions only.
 --
 -- Notation.
---   x : A              x is an A. ℕ: whole numbers from 0 on; ℤ: of either sign; Float: f64, bit for bit; List A: lists; Body: the bytes of a frame's body
+--   x : A              x is an A. ℕ: whole numbers from 0 on; ℤ: of either sign; Float: f64, bit for bit;
+--                      List A: lists; Body: the bytes of a frame's body
 --   f a b              the function f at a and b; λ x. e is the function that gives e for x
 --   a ≡ b              a and b are the same;  a × b both hold;  a ⊎ b one of them does;  ⊥ what cannot be
 --   (x : A) → B        for every x of A, B holds; in A → B → C: where A and B hold, so does C
 --   (x : A) × B        there is an x of A such that B holds
 --   record R .. where  what holds together, a named clause after each `pub`; r.name is that clause, or field, of r
 --   [], a ∷ l, l ++ m  the empty list; a before l; l before m. take n l, drop n l: the first n of l, and the others
---   get_or l i d         the element at place i of l, counted from 0; d past the end
+--   get_or l i d       the element at place i of l, counted from 0; d past the end
 --   some a, none       an answer a, or none;  cond t a b: a where the test t holds, else b
---   Names in capitals are bounds and strides, in crates/bounds. `abbrev`, `unfoldable` and `pub` say how a definition is used, not what it is.
+--   Names in capitals are bounds and strides, in crates/bounds. `abbrev`, `unfoldable` and `pub` say how a definition
+--   is used, not what it is.
 --
--- A worked reading, of `Heard.tracks` below. A refiner was opened and called any number of times; bs are the bodies of the pushes that were accepted, and
--- o is a frame that was written, after the frames before. Take its i-th listed track; its words begin with an id, x. Go over the frames written so far, with
--- the bodies that they are of, and pick each dot whose association was written with the id x: that is `observed x 0 bs (before ++ (o ∷ []))`. Run the plain
--- filter over these dots alone, from nothing, and predict to this frame's time: that is `afresh`. Then the words and numbers that o has of the track are
--- just those that come out. With one frame, one dot at (1, 2, 0.5) and engine id 7 (document 01's printed frame) x is 1, `observed` has that dot, and the
--- words are 1, 0, 0, 0, 4294967296, 1.
+-- A worked reading, of `Heard.tracks` below. A refiner was opened and called any number of times; bs are the bodies of
+-- the pushes that were accepted, and o is a frame that was written, after the frames before. Take its i-th listed
+-- track; its words begin with an id, x. Go over the frames written so far, with the bodies that they are of, and pick
+-- each dot whose association was written with the id x: that is `observed x 0 bs (before ++ (o ∷ []))`. Run the plain
+-- filter over these dots alone, from nothing, and predict to this frame's time: that is `afresh`. Then the words and
+-- numbers that o has of the track are just those that come out. With one frame, one dot at (1, 2, 0.5) and engine id 7
+-- (document 01's printed frame) x is 1, `observed` has that dot, and the words are 1, 0, 0, 0, 4294967296, 1.
 --
--- Not here: that the ids are those that placing and search give (`as_searched` of fgo_spec/specs/History.antt), and the smoothed form (Joined.antt).
+-- Not here: that the ids are those that placing and search give (`as_searched` of fgo_spec/specs/History.antt), and the
+-- smoothed form (Joined.antt).
 use Rattle.std.specs.Prelude.{ℕ, suc, ◌+◌, ◌*◌, ◌≤◌, ◌<◌, ◌≡◌, length, get_or, take, drop, T, ℤ, ◌≤ℤ◌}
 use mathlib.Core.List.{List, [], ◌∷◌, ◌++◌, map, Memᴰ}
 use Rattle.std.proofs.Math.Option.{some}
@@ -67,7 +72,8 @@ line_of l = record { words = track_words l; numbers = track_numbers l }
 
 -- ---- what was seen
 
--- "the observations emitted so far under that id": of the bodies bs, the first of which has the number n, each with the frame os that was written of it
+-- "the observations emitted so far under that id": of the bodies bs, the first of which has the number n, each with the
+-- frame os that was written of it
 unfoldable pub observed : ℕ → ℕ → List Body → List Written → List Detection
 observed x n [] os = []
 observed x n (b ∷ bs) [] = []
@@ -101,7 +107,8 @@ pub record Heard (c : FgoConfig) (bs : List Body) (before : List Written) (o : W
   pub links :
       (j : ℕ) → j < length (frame_in body).associations → link_in o j ≡ association_words (get_or (frame_in body).associations j no_association) (id_at o j)
   pub apart : (x : ℕ) → 0 < x → times x (ids_in o) ≤ 1
-  -- its cost, 0.0 where it has none; "then the frame's sensors"; and nothing else: "these two lists at their exact length"
+  -- its cost, 0.0 where it has none; "then the frame's sensors"; and nothing else: "these two lists at their exact
+  -- length"
   pub costs :
       (j : ℕ) → j < length (frame_in body).associations →
       get_or o.numbers (costs_from o.words + j) nan ≡ get_or (map (λ a. cost_number a.cost) (frame_in body).associations) j nan
@@ -109,8 +116,9 @@ pub record Heard (c : FgoConfig) (bs : List Body) (before : List Written) (o : W
   pub long : (length o.words ≡ words_long o.words) × (length o.numbers ≡ numbers_long o.words)
   -- each association names an observation of the body, and no two name one: so each dot is under one id only
   pub dots : NamedOnce (frame_in body)
-  -- each listed track is "bit for bit, 01's plain filter run afresh over exactly the observations emitted so far under that id, this frame's included, then
-  -- predicted to this frame's time, its count and height those of the same observations", and young enough
+  -- each listed track is "bit for bit, 01's plain filter run afresh over exactly the observations emitted so far under
+  -- that id, this frame's included, then predicted to this frame's time, its count and height those of the same
+  -- observations", and young enough
   pub tracks :
       (i : ℕ) → i < track_count o.words →
       (let x = id_word o.words i in
@@ -119,7 +127,8 @@ pub record Heard (c : FgoConfig) (bs : List Body) (before : List Written) (o : W
       × (afresh c (frame_in body).time x (observed x 0 bs (before ++ (o ∷ []))) ≡ some l)
       × T (le_z l.age (coast c))
       × (track_in o i ≡ line_of l))
-  -- "if emitted times never go back and coast_ns <= forget_after_ns, the listed ids are exactly those emitted with age <= coast_ns"
+  -- "if emitted times never go back and coast_ns <= forget_after_ns, the listed ids are exactly those emitted with age
+  -- <= coast_ns"
   pub exact :
       NeverBack (times_in (take (suc (length before)) bs)) → coast c ≤ℤ forget_after c → (x : ℕ) (l : Listed) → 0 < x →
       afresh c (frame_in body).time x (observed x 0 bs (before ++ (o ∷ []))) ≡ some l → T (le_z l.age (coast c)) → Memᴰ x (tracks_in o)

@@ -1,4 +1,5 @@
--- Calls of a refiner or of a smoother, one after another, with any buffers: what is handed on, what a caller sees, and what it is due. Definitions only.
+-- Calls of a refiner or of a smoother, one after another, with any buffers: what is handed on, what a caller sees, and
+-- what it is due. Definitions only.
 use Rattle.std.specs.Prelude.{ℕ, suc, ◌≡◌, Bool, true, false, cond, length, take, Float}
 use mathlib.Core.List.{List, [], ◌∷◌, ◌++◌, map, flat_map}
 use Rattle.buffers.specs.Answer.{Op, taken, Reply, Written, roomy, refusal_of, checked, answer_of, words_after, numbers_after, Answer, Refused, Held, Frame}
@@ -8,8 +9,8 @@ use Rattle.fgo_spec.specs.Rule.{All}
 
 -- ---- a call
 
--- what is sent, a push of something or a take, with the memory and the two buffers for a frame that are lent; and what comes back: the answer, the value that
--- is handed on and the memory that goes with it, and the two buffers
+-- what is sent, a push of something or a take, with the memory and the two buffers for a frame that are lent; and what
+-- comes back: the answer, the value that is handed on and the memory that goes with it, and the two buffers
 pub record Call (A R M : Type 0) : Type 0 where
   pub sent : Op A
   pub lent : M
@@ -30,7 +31,8 @@ written_by (Frame w n) ws ns = record { words = take w ws; numbers = take n ns }
 module _ {A R M : Type 0} where
   -- ---- calls one after another
 
-  -- each is given the value that the one before it gave back, and keeps to its contract after the memory that came with it
+  -- each is given the value that the one before it gave back, and keeps to its contract after the memory that came with
+  -- it
   unfoldable pub Calls : (R → M → Call A R M → Type 0) → R → M → List (Call A R M) → Type 0
   Calls Keeps r m [] = Unit {0}
   Calls Keeps r m (k ∷ ks) = Keeps r m k × Calls Keeps k.value k.memory ks
@@ -71,19 +73,22 @@ module _ {A R M : Type 0} where
 
   -- ---- what is due
 
-  -- what is pushed says a frame; a state has a reply to each push and take; a frame is written so; a value and its memory mean a state
+  -- what is pushed says a frame; a state has a reply to each push and take; a frame is written so; a value and its
+  -- memory mean a state
   module _ {F E S : Type 0} (frame : A → F) (reply : S → Op A → Reply E × S) (start : S) (written : E → Written) (state_of : R → M → S) where
     -- pushes and takes from the start on
     abbrev ran : List (Op A) → Run F E S
     ran ops = run_from frame reply start ops
 
-    -- the reply to a call that comes after the pushes and takes ops: 4 where a buffer is short, else that of the state then
+    -- the reply to a call that comes after the pushes and takes ops: 4 where a buffer is short, else that of the state
+    -- then
     abbrev pub due_after : List (Op A) → Call A R M → Reply E
     due_after ops k = let s = (ran ops).state in (checked (cond (enough k) 0 4) s (reply s k.sent)).0
 
     -- what holds of a call that comes after the pushes and takes ops and is given the value r
     pub record Served (ops : List (Op A)) (r : R) (k : Call A R M) : Type 0 where
-      -- the answer is the due one; a frame that is due is written at the start of the buffers, and "The rest stays"; else nothing is written
+      -- the answer is the due one; a frame that is due is written at the start of the buffers, and "The rest stays";
+      -- else nothing is written
       pub answer : k.answer ≡ answer_of written (due_after ops k)
       pub words : k.words_back ≡ words_after written (due_after ops k) k.words
       pub numbers : k.numbers_back ≡ numbers_after written (due_after ops k) k.numbers

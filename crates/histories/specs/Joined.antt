@@ -1,5 +1,5 @@
--- Demand 3 in the terms of one who calls a smoother: any list of pushes and takes from an opened one, with any frames and any buffers; and of one who calls
--- a refiner too, and pushes the frames that it writes. Definitions only.
+-- Demand 3 in the terms of one who calls a smoother: any list of pushes and takes from an opened one, with any frames
+-- and any buffers; and of one who calls a refiner too, and pushes the frames that it writes. Definitions only.
 use Rattle.std.specs.Prelude.{ℕ, ◌≡◌, Bool, true, false, List, [], ◌∷◌, ◌++◌, map, length}
 use Rattle.bounds.specs.Bounds.{TRACKS}
 use Rattle.buffers.specs.Answer.{Op, pushed, taken, Written, Refused}
@@ -21,11 +21,13 @@ use Rattle.histories.specs.Smoothed.{smoothing, Sourced, handed, sourced, picked
 abbrev pub Call : Type 0
 Call = calls.Call Written FixedLagSmoother Window
 
--- it is lent the window w, and is as the contract of push, or of take, says; that a take writes nothing into the window is not asked here
+-- it is lent the window w, and is as the contract of push, or of take, says; that a take writes nothing into the window
+-- is not asked here
 abbrev pub Meets : FixedLagSmoother → Window → Call → Type 0
 Meets s w k = Promised k.sent s w k.words k.numbers (record { answer = k.answer; state = k.value }) k.memory k.words_back k.numbers_back
 
--- a window that stands for the same: of the same lengths, with the same frames held. What lies past a frame, and in slots without one, may be anything.
+-- a window that stands for the same: of the same lengths, with the same frames held. What lies past a frame, and in
+-- slots without one, may be anything.
 pub record Same (s : FixedLagSmoother) (w w' : Window) : Type 0 where
   pub words : length w'.words ≡ length w.words
   pub numbers : length w'.numbers ≡ length w.numbers
@@ -35,12 +37,14 @@ pub record Same (s : FixedLagSmoother) (w w' : Window) : Type 0 where
 abbrev pub Keeps : FixedLagSmoother → Window → Call → Type 0
 Keeps s w k = Same s w k.lent × Meets s k.lent k
 
--- where the pushes and takes ops lead to, with the settings d: the smoother and its window stand for the state that the smoother as defined has then
+-- where the pushes and takes ops lead to, with the settings d: the smoother and its window stand for the state that the
+-- smoother as defined has then
 pub record Reached (d : SmootherConfig) (ops : List (Op Written)) (s : FixedLagSmoother) (w : Window) : Type 0 where
   pub state : state_in s w ≡ (smoothing d ops).state
   pub fits : window_fits d (length w.words) (length w.numbers) ≡ true
 
--- an opened smoother, as the contract of open has it, and calls from there; the window holds anything at first, and the other buffers anything at each call
+-- an opened smoother, as the contract of open has it, and calls from there; the window holds anything at first, and the
+-- other buffers anything at each call
 pub record Session (d : SmootherConfig) (s : FixedLagSmoother) (w : Window) (ks : List Call) : Type 0 where
   pub opening : opening_of (Ok s) w ≡ opens d (length w.words) (length w.numbers)
   pub calls : Calls Keeps s w ks
@@ -76,8 +80,8 @@ pub record Finished (d : SmootherConfig) (s : FixedLagSmoother) (w : Window) (ks
 
 -- ---- refiner and smoother
 
--- "emitted frames pushed in order to a new smoother", "takes anywhere between": what the calls js of a smoother accepted are, in order, some of the frames that
--- the calls ks of a refiner wrote
+-- "emitted frames pushed in order to a new smoother", "takes anywhere between": what the calls js of a smoother
+-- accepted are, in order, some of the frames that the calls ks of a refiner wrote
 pub record InOrder (ks : List refiner.Call) (js : List Call) : Type 0 where
   pub marks : List Bool
   pub order : accepted (λ f. f) js ≡ picked marks (wrote ks)
@@ -91,7 +95,8 @@ pub record Joined (c : FgoConfig) (ks : List refiner.Call) (d : SmootherConfig) 
   pub same : accepted (λ f. f) js ≡ map handed first
   -- demand 3 over refiner and smoother
   pub both : Both c (operations ks) d (operations js) first
-  -- by which each call that writes a frame writes the smoothed form of the next in order, over exactly the frames accepted by then and not written before
+  -- by which each call that writes a frame writes the smoothed form of the next in order, over exactly the frames
+  -- accepted by then and not written before
   pub every :
       (past : List Call) (k : Call) (later : List Call) → js ≡ past ++ (k ∷ later) →
       (o : Written) → written_by k.answer k.words_back k.numbers_back ≡ o ∷ [] →

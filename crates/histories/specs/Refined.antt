@@ -1,4 +1,5 @@
--- Demand 3 in the terms of one who calls a refiner: any list of pushes and takes from an opened one, with any bytes and any buffers. Definitions only.
+-- Demand 3 in the terms of one who calls a refiner: any list of pushes and takes from an opened one, with any bytes and
+-- any buffers. Definitions only.
 use Rattle.std.specs.Prelude.{ℕ, ◌+◌, ◌<◌, ◌≡◌, true, List, ◌∷◌, ◌++◌, map}
 use Rattle.buffers.specs.Answer.{opened, opened_by, Op, Reply, gives}
 use Rattle.engine.specs.declared.config.FgoConfig.{FgoConfig}
@@ -26,8 +27,8 @@ Meets r m k =
     Promised (due r m k.sent k.words k.numbers) r m k.words k.numbers k.answer k.value k.memory
     k.words_back k.numbers_back
 
--- memory that stands for the same: the bodies held are those of m, and so is all that the state says. What lies past a count may be anything: a caller may
--- clear it, and move or copy the rest.
+-- memory that stands for the same: the bodies held are those of m, and so is all that the state says. What lies past a
+-- count may be anything: a caller may clear it, and move or copy the rest.
 pub record Same (r : FixedLagRefiner) (m m' : Memory) : Type 0 where
   pub bodies :
       (i : ℕ) → i < r.held → body_at m'.scans.bodies m'.scans.columns (r.first.0 + i) ≡ body_at m.scans.bodies m.scans.columns (r.first.0 + i)
@@ -37,15 +38,16 @@ pub record Same (r : FixedLagRefiner) (m m' : Memory) : Type 0 where
 abbrev pub Keeps : FixedLagRefiner → Memory → Call → Type 0
 Keeps r m k = Same r m k.lent × Meets r k.lent k
 
--- where the pushes and takes ops lead to, with the settings c: the refiner and the memory stand for the state that document 01's refiner has then
+-- where the pushes and takes ops lead to, with the settings c: the refiner and the memory stand for the state that
+-- document 01's refiner has then
 pub record Reached (c : FgoConfig) (ops : List (Op Body)) (r : FixedLagRefiner) (m : Memory) : Type 0 where
   pub settings : r.config ≡ c
   pub state : state_of r m ≡ (run c ops).state
   pub bodies : bodies_ok m.scans.bodies m.scans.columns r.first.0 r.held ≡ true
   pub bytes : All Sent ops
 
--- "any list of pushes and takes runs from a new refiner, refused ones included": the refiner is one that open gave, and what is pushed are bytes; the memory
--- holds anything at first, and the buffers anything at each call
+-- "any list of pushes and takes runs from a new refiner, refused ones included": the refiner is one that open gave, and
+-- what is pushed are bytes; the memory holds anything at first, and the buffers anything at each call
 pub record Session (c : FgoConfig) (r : FixedLagRefiner) (m : Memory) (ks : List Call) : Type 0 where
   pub opening : opened_by (open_refusal c) (new_by c) ≡ opened r
   pub bytes : All (λ k. Sent k.sent) ks
@@ -76,14 +78,15 @@ pub record Delivered (c : FgoConfig) (r : FixedLagRefiner) (m : Memory) (ks : Li
 
 -- ---- 3: "the state breaks its rule"
 
--- Of a refiner and a memory whose bodies are bytes, whatever else they hold; three says that a call answers 3. It does just where a held body is refused by
--- 5, 6 or 7, or the state breaks the rule.
+-- Of a refiner and a memory whose bodies are bytes, whatever else they hold; three says that a call answers 3. It does
+-- just where a held body is refused by 5, 6 or 7, or the state breaks the rule.
 pub record Third (r : FixedLagRefiner) (m : Memory) (three : Type 0) : Type 0 where
   pub only : three → Sound r m → ⊥
   pub always : (Sound r m → ⊥) → three
 
 -- the laws, in proofs/: third : .. → Bytes m.scans.bodies → Meets r m k → Third r m (k.answer ≡ Refused 3)
---                       third_counted : .. → Bytes m.scans.bodies → Third r m (counted_by (count_refusal r m) n ≡ NotCounted 3)
+--                       third_counted : .. → Bytes m.scans.bodies →
+--                           Third r m (counted_by (count_refusal r m) n ≡ NotCounted 3)
 
 -- ---- finish
 

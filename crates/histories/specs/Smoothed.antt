@@ -1,7 +1,8 @@
--- Demand 3 over refiner and smoother: each listed track's "smoothed form the backward pass over such states". Definitions only.
+-- Demand 3 over refiner and smoother: each listed track's "smoothed form the backward pass over such states".
+-- Definitions only.
 --
--- Document 01: "The fresh run ends with a predict to this scan. Smoothed means: emitted frames pushed in order to a new smoother with C 128, takes
--- anywhere between."
+-- Document 01: "The fresh run ends with a predict to this scan. Smoothed means: emitted frames pushed in order to a new
+-- smoother with C 128, takes anywhere between."
 use Rattle.std.specs.Prelude.{ℕ, ◌+◌, ◌≤◌, ◌≡◌, Bool, true, cond, length, take, drop, ℤ, Float}
 use mathlib.Core.List.{List, [], ◌∷◌, ◌++◌, map, flat_map}
 use Rattle.std.proofs.Math.Option.{Option, none, some}
@@ -64,8 +65,9 @@ picked (b ∷ bs) [] = []
 picked (b ∷ bs) (a ∷ l) = cons_if b a (picked bs l)
 
 module _ (c : FgoConfig) (d : SmootherConfig) where
-  -- The state of the id x in an emitted frame, with its time: "01's plain filter run afresh over exactly the observations emitted so far under that id, this
-  -- frame's included, then predicted to this frame's time". Nothing where the frame does not list x.
+  -- The state of the id x in an emitted frame, with its time: "01's plain filter run afresh over exactly the
+  -- observations emitted so far under that id, this frame's included, then predicted to this frame's time". Nothing
+  -- where the frame does not list x.
   unfoldable pub fresh_in : ℕ → Sourced → Option Timed
   fresh_in x s = let e = s.frame in cond (has x (listed_ids e)) (timed_if (time_of e) (afresh c (time_of e) x (seen s.past e x))) none
 
@@ -73,8 +75,8 @@ module _ (c : FgoConfig) (d : SmootherConfig) where
   abbrev pub fresh_chain : ℕ → List Sourced → List Timed
   fresh_chain x ss = chain (map (fresh_in x) ss)
 
-  -- "its smoothed form the backward pass over such states": of the track l of the frame s, from the frames ss that follow s back to s. "A failed Cholesky
-  -- leaves the track unchanged."
+  -- "its smoothed form the backward pass over such states": of the track l of the frame s, from the frames ss that
+  -- follow s back to s. "A failed Cholesky leaves the track unchanged."
   unfoldable pub smoothed_state : Sourced → List Sourced → Listed → Estimate Float
   smoothed_state s ss l = replaced (listed_estimate l) (run_back (density d) (fresh_chain l.id (s ∷ ss)))
 
@@ -89,8 +91,9 @@ module _ (c : FgoConfig) (d : SmootherConfig) where
 
 -- ---- the theorem
 
--- The frame o came out after k others. By then acc had been accepted, the first of the frames first; the next in order is source, and window are all that
--- follow it among them: exactly those that were accepted by then and had not come out before. o is the smoothed form of source over them.
+-- The frame o came out after k others. By then acc had been accepted, the first of the frames first; the next in order
+-- is source, and window are all that follow it among them: exactly those that were accepted by then and had not come
+-- out before. o is the smoothed form of source over them.
 pub record Smoothed (c : FgoConfig) (d : SmootherConfig) (first : List Sourced) (acc : List Written) (k : ℕ) (o : Written) : Type 0 where
   pub before : List Sourced
   pub source : Sourced
@@ -102,12 +105,14 @@ pub record Smoothed (c : FgoConfig) (d : SmootherConfig) (first : List Sourced) 
   pub few : length window ≤ lag d
   pub form : o ≡ smoothed_form c d source window
 
--- A refiner has run over the pushes and takes ops, and a new smoother over the pushes and takes os. What the smoother accepted are, in order, the frames first,
--- which are some of those that the refiner emitted, each with its own past: a frame that was not pushed, or was refused and not pushed again, is left out.
+-- A refiner has run over the pushes and takes ops, and a new smoother over the pushes and takes os. What the smoother
+-- accepted are, in order, the frames first, which are some of those that the refiner emitted, each with its own past: a
+-- frame that was not pushed, or was refused and not pushed again, is left out.
 pub record Both (c : FgoConfig) (ops : List (Op Body)) (d : SmootherConfig) (os : List (Op Written)) (first : List Sourced) : Type 0 where
   -- each frame that was accepted has come out or is held
   pub each : length (smoothing d os).emitted + length (smoothing d os).state.frames ≡ length first
-  -- each push or take that puts a frame out: the smoothed form of the next frame in order, over exactly the frames accepted by then
+  -- each push or take that puts a frame out: the smoothed form of the next frame in order, over exactly the frames
+  -- accepted by then
   pub calls :
       (earlier : List (Op Written)) (k : Op Written) (later : List (Op Written)) → os ≡ earlier ++ (k ∷ later) → (o : Written) →
       (smoothing d (earlier ++ (k ∷ []))).emitted ≡ (smoothing d earlier).emitted ++ (o ∷ []) →
@@ -127,5 +132,7 @@ Passes c ops =
 -- the theorems, in proofs/, over every list of pushes and takes that push bytes:
 --   passes : (c : FgoConfig) (ops : List (Op Body)) → All Sent ops → Passes c ops
 --   both :
---     (c : FgoConfig) (ops : List (Op Body)) → All Sent ops → (d : SmootherConfig) (os : List (Op Written)) (marks : List Bool) →
---     let first = picked marks (sourced (run c ops).emitted) in (smoothing d os).accepted ≡ map handed first → Both c ops d os first
+--     (c : FgoConfig) (ops : List (Op Body)) → All Sent ops →
+--     (d : SmootherConfig) (os : List (Op Written)) (marks : List Bool) →
+--     let first = picked marks (sourced (run c ops).emitted) in
+--     (smoothing d os).accepted ≡ map handed first → Both c ops d os first

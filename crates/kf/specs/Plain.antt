@@ -1,5 +1,5 @@
--- Document 01, "the plain filter", over any arithmetic and any list of axes, which share one covariance; each operation once, in the order written.
--- Definitions only.
+-- Document 01, "the plain filter", over any arithmetic and any list of axes, which share one covariance; each operation
+-- once, in the order written. Definitions only.
 use mathlib.Core.List.{List, [], ◌∷◌, map, foldl}
 use Rattle.scalar.specs.Num.{Num}
 

@@ -8,6 +8,8 @@ ghost use Rattle.kf.specs.Filter.{started, predicted, updated, worked, log_of, k
 use bounds::KF;
 use scalar::log;
 
+// What is known of a track at one time: position, velocity, and the variances and covariance of both, which are the
+// same for x and for y.
 #[derive(Clone, Copy)]
 pub struct Kf {
     pub x: f64,
@@ -110,7 +112,8 @@ impl Kf {
         Updated { kf, nll }
     }
 
-    // Predict to the time of a detection, then update with its position: the filter that is lent moves on by one detection.
+    // Predict to the time of a detection, then update with its position: the filter that is lent moves on by one
+    // detection.
     pub fn advance(&mut self, d: Dot, q: f64)
         ensures { self.new ≡ (worked self.old d.t q d.x d.y d.r).kf }
     {

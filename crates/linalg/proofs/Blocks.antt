@@ -1,4 +1,5 @@
--- Four blocks that are multiples of the unit matrix: their entries, sums, products and transposes at exact arithmetic. Assumes nothing.
+-- Four blocks that are multiples of the unit matrix: their entries, sums, products and transposes at exact arithmetic.
+-- Assumes nothing.
 use mathlib.Core.Path.{◌≡◌, refl, sym, ap, ap₂, ◌∙◌}
 use mathlib.Core.Bool.{Bool, true, false, cond}
 use Prim.Native.Nat.{ℕ, ◌+◌, ◌-◌, ◌<◌}

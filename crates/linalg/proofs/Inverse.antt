@@ -1,5 +1,5 @@
--- At exact arithmetic, the factor of a symmetric matrix whose pivots are above 0 is its factor, L Lᵀ = A, and what the two substitutions make of it is its inverse.
--- Assumes nothing.
+-- At exact arithmetic, the factor of a symmetric matrix whose pivots are above 0 is its factor, L Lᵀ = A, and what the
+-- two substitutions make of it is its inverse. Assumes nothing.
 use mathlib.Core.Path.{◌≡◌, refl, sym, ap, ap₂, ◌∙◌}
 use mathlib.Core.Logic.{◌⊎◌, inl, inr}
 use mathlib.Core.Bool.{Bool, true, false}

@@ -1,4 +1,5 @@
--- Matrices at exact arithmetic: products associate, the transpose turns them round, and the half-sum keeps a symmetric matrix. Assumes nothing.
+-- Matrices at exact arithmetic: products associate, the transpose turns them round, and the half-sum keeps a symmetric
+-- matrix. Assumes nothing.
 use mathlib.Core.Path.{◌≡◌, refl, sym, ap, ap₂, ◌∙◌}
 use mathlib.Core.List.{List}
 use Prim.Native.Nat.{ℕ, ◌<◌}

@@ -1,4 +1,5 @@
--- Matrices over an exact arithmetic, as functions of row and column below n: products, the unit matrix, inverses. Assumes nothing.
+-- Matrices over an exact arithmetic, as functions of row and column below n: products, the unit matrix, inverses.
+-- Assumes nothing.
 use mathlib.Core.Path.{◌≡◌, refl, sym, ap₂, ◌∙◌}
 use Prim.Native.Nat.{ℕ, ◌<◌}
 use Rattle.scalar.specs.Num.{Num, Exact}

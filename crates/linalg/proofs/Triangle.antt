@@ -1,4 +1,5 @@
--- At exact arithmetic M Mᵀ is factored wherever M is lower triangular with a diagonal above 0, and its factor is M. Assumes nothing.
+-- At exact arithmetic M Mᵀ is factored wherever M is lower triangular with a diagonal above 0, and its factor is M.
+-- Assumes nothing.
 use mathlib.Core.Path.{◌≡◌, refl, sym, ap, ap₂, ◌∙◌}
 use mathlib.Core.Logic.{◌⊎◌, inl, inr}
 use mathlib.Core.Bool.{Bool, true, false, cond, ◌&&◌}

@@ -50,7 +50,8 @@ module _ (N : Num) where
   unfoldable pub positive : List F → Bool
   positive a = above6 (pivot a 0) (pivot a 1) (pivot a 2) (pivot a 3) (pivot a 4) (pivot a 5)
 
-  -- "per unit column, forward": L y is the unit column c; "known terms subtracted in rising index, then divided by the diagonal"
+  -- "per unit column, forward": L y is the unit column c; "known terms subtracted in rising index, then divided by the
+  -- diagonal"
   unfoldable pub forward : List F → ℕ → List F
   forward l c = grown (λ i y. less (λ k. entry N l i k) (λ k. at N y k) (unit N i c) i ⊘ entry N l i i) 6
 

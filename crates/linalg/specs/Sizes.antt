@@ -1,4 +1,5 @@
--- Vectors and matrices of any size over any arithmetic, as functions of row and column: what counts are the entries below the sizes. Definitions only.
+-- Vectors and matrices of any size over any arithmetic, as functions of row and column: what counts are the entries
+-- below the sizes. Definitions only.
 use Rattle.std.specs.Prelude.{ℕ, zero, suc, ◌-◌, cond, eqb, ltb}
 use Rattle.scalar.specs.Num.{Num}
 

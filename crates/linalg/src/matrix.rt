@@ -33,8 +33,9 @@ fn mul_row(a: &[f64; 36], i: usize, b: &[f64; 36]) -> [f64; 6]
 }
 
 // The product: an entry is the product at index 0, the rest added upwards.
-// As it is: written where it is wanted. Tried by value, a product is copied and takes 464 instructions in place of 381, and so a step of the backward pass
-// 4,352 in place of 4,026. In bench/run's hall with lag 16, smooth makes 82 steps a frame, and would take 26 in 1,000 more. The bar is 10 in 1,000.
+// As it is: written where it is wanted. Tried by value, a product is copied and takes 464 instructions in place of 381,
+// and so a step of the backward pass 4,352 in place of 4,026. In bench/run's hall with lag 16, smooth makes 82 steps a
+// frame, and would take 26 in 1,000 more. The bar is 10 in 1,000.
 pub fn mul6(a: &[f64; 36], b: &[f64; 36], out: &mut [f64; 36])
     ensures { out.new ≡ Matrix.mul f64 a.now b.now }
 {

@@ -1,4 +1,5 @@
--- At exact arithmetic cv_f6 and cv_q6 are the motion and its noise, and both compose: over s and then over t they are those over s + t. Assumes nothing.
+-- At exact arithmetic cv_f6 and cv_q6 are the motion and its noise, and both compose: over s and then over t they are
+-- those over s + t. Assumes nothing.
 use mathlib.Core.Path.{◌≡◌, refl, sym, ap, ap₂, ◌∙◌}
 use mathlib.Core.Bool.{true}
 use Prim.Native.Nat.{ℕ, ◌+◌, ◌<◌}

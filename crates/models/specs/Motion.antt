@@ -1,4 +1,5 @@
--- The model of constant velocity over any arithmetic: the positions along n axes, and then their speeds. Definitions only.
+-- The model of constant velocity over any arithmetic: the positions along n axes, and then their speeds. Definitions
+-- only.
 use Rattle.std.specs.Prelude.{ℕ, List}
 use Rattle.scalar.specs.Num.{Num}
 use Rattle.linalg.specs.Matrix.{matrix}

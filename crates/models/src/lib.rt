@@ -75,8 +75,8 @@ pub fn cv_f6_mul(dt: f64, m: &[f64; 36]) -> [f64; 36]
 }
 
 // A matrix times the transposed motion, row by row.
-// As it is: written where it is wanted. Tried by value, the product is copied: in bench/run's hall with lag 16, smooth takes 1,027,023 instructions a frame in
-// place of 1,012,152, which is 15 in 1,000 more. The bar is 10 in 1,000.
+// As it is: written where it is wanted. Tried by value, the product is copied: in bench/run's hall with lag 16, smooth
+// takes 1,027,023 instructions a frame in place of 1,012,152, which is 15 in 1,000 more. The bar is 10 in 1,000.
 pub fn mul_cv_f6t(m: &[f64; 36], dt: f64, out: &mut [f64; 36])
     ensures { out.new ≡ Matrix.mul f64 m.now (Matrix.transpose f64 (Motion.cv_f f64 dt)) }
 {

@@ -1,4 +1,5 @@
--- The run of a recording: pushes one after another, takes one after another, and both from an opened refiner on. Assumes nothing.
+-- The run of a recording: pushes one after another, takes one after another, and both from an opened refiner on.
+-- Assumes nothing.
 use Prim.Native.Nat.{ℕ, suc, ◌+◌, ◌≤◌, ◌<◌}
 use native.Mathlib.Omega.{arith}
 use mathlib.Core.Path.{◌≡◌, refl, sym, ap, ◌∙◌, subst}

@@ -1,4 +1,5 @@
--- A push and a take of a smoother behind the refiner: what is told of it, where it leads, and that a take leaves one frame fewer. Assumes nothing.
+-- A push and a take of a smoother behind the refiner: what is told of it, where it leads, and that a take leaves one
+-- frame fewer. Assumes nothing.
 use Prim.Native.Nat.{ℕ, suc, ◌<◌}
 use native.Mathlib.Omega.{arith}
 use mathlib.Core.Path.{◌≡◌, refl, sym, ap, ◌∙◌, subst}

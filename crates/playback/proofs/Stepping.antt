@@ -1,5 +1,5 @@
--- A push and a take of the refiner with output buffers that are long enough: where it leads, what can be told of its answer, and that a take leaves one frame
--- fewer. Assumes nothing.
+-- A push and a take of the refiner with output buffers that are long enough: where it leads, what can be told of its
+-- answer, and that a take leaves one frame fewer. Assumes nothing.
 use Prim.Native.Nat.{ℕ, zero, suc, ◌<◌}
 use native.Mathlib.Omega.{arith}
 use mathlib.Core.Path.{◌≡◌, refl, sym, ap, ◌∙◌, subst}

@@ -53,8 +53,8 @@ pub record TakesAll (r : FixedLagRefiner) (m : Memory) (r' : FixedLagRefiner) (m
 abbrev pub Emptied : Smoother → Type 0
 Emptied k = k.state.held ≡ 0
 
--- the n frames of the recording s were pushed to a refiner r as it is opened, then all taken, so that none is held, then all from where its frames go, as
--- emptied says
+-- the n frames of the recording s were pushed to a refiner r as it is opened, then all taken, so that none is held,
+-- then all from where its frames go, as emptied says
 pub record Played {K : Type 0} (emptied : K → Type 0) (s : List ℕ) (n : ℕ) (r : FixedLagRefiner) (p : Player K) : Type 0 where
   pub held : ℕ
   pub reached : Refined.Reached r.config (pushes s n ++ takes held) p.refiner p.memory

@@ -1,4 +1,5 @@
--- What is told of an answer: the text that stands at the start of the lent bytes, ready to be written. Definitions only.
+-- What is told of an answer: the text that stands at the start of the lent bytes, ready to be written. Definitions
+-- only.
 use Rattle.std.specs.Prelude.{ℕ, ◌≡◌, List, [], take, replicate, Float}
 use Rattle.bounds.specs.Bounds.{WORDS, NUMBERS}
 use Rattle.scalar.specs.Digits.{nil}
@@ -33,7 +34,8 @@ module _ (k k' : Smoother) (out' : List ℕ) (end : ℕ) where
     pub state : k'.state ≡ given.state
     pub text : Ready (full_answer given.answer words numbers) out' end
 
-  -- an answer of the refiner, whose frame stands at the front of the words ws and the numbers ns, comes to it: a refusal is told, and a frame is pushed
+  -- an answer of the refiner, whose frame stands at the front of the words ws and the numbers ns, comes to it: a
+  -- refusal is told, and a frame is pushed
   abbrev pub Smooths : Answer → List ℕ → List Float → Type 0
   Smooths (Refused n) ws ns = Puts k k' out' end (refused_line n)
   Smooths Held ws ns = Puts k k' out' end []

@@ -36,7 +36,8 @@ fn run<S: Sink>(rt: &(impl Print + Eprint), s: &[u8], n: usize, player: &mut Pla
 
 // ---- a recording
 
-// A recording, played, its frames printed as the sink has it; or what it is refused for: 11, 12, 1 or what the sink is refused for.
+// A recording, played, its frames printed as the sink has it; or what it is refused for: 11, 12, 1 or what the sink is
+// refused for.
 fn try_play<S: Sink>(rt: &(impl Print + Eprint), s: &[u8]) -> Result<(), Refusal> {
     let start = recording::contents_of(s)?;
     let refiner = fgo::open(start.config)?;

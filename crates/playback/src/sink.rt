@@ -21,7 +21,8 @@ pub trait Sink: Drop {
     // It holds no frame.
     ghost emptied_of: { Self → Type 0 };
 
-    // An answer of the refiner comes to it, with its frame at the front of these words and numbers: what is left of it, and the text, which ends there.
+    // An answer of the refiner comes to it, with its frame at the front of these words and numbers: what is left of it,
+    // and the text, which ends there.
     ghost prints_of: { Self → Self → List ℕ → ℕ → Answer → List ℕ → List Float → Type 0 };
 
     // Opened behind a refiner with these settings; or its refusal.
@@ -74,8 +75,8 @@ impl Sink for Short {
 }
 
 // Into text, in full.
-// As it is: an impl for each form. One for both, over a trait of forms, would need two impls of that trait: each would name the definition, the function and
-// the lemma of its length, which are all that differs here.
+// As it is: an impl for each form. One for both, over a trait of forms, would need two impls of that trait: each would
+// name the definition, the function and the lemma of its length, which are all that differs here.
 #[derive(Drop)]
 pub struct Full;
 

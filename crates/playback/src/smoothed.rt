@@ -1,5 +1,5 @@
-// A smoother behind the refiner, with its window. The text of an answer is put together at the start of text, and a function gives back the place where it
-// ends.
+// A smoother behind the refiner, with its window. The text of an answer is put together at the start of text, and a
+// function gives back the place where it ends.
 ghost use Rattle.std.specs.Prelude.{◌≤◌};
 ghost use Rattle.bounds.specs.Bounds.{WINDOW, VALUES};
 ghost use Rattle.buffers.specs.Answer.{pushed, taken};
@@ -18,7 +18,8 @@ use smoother::FrameRef;
 use smoother_window::size::{WindowSize, window_size};
 use smoother_window::{FixedLagSmoother, SmootherConfig};
 
-// A smoother, and the longest window, of which as much is lent to it as its lag asks for. Pushes and takes have led to them.
+// A smoother, and the longest window, of which as much is lent to it as its lag asks for. Pushes and takes have led to
+// them.
 #[derive(Drop)]
 pub struct Smoother {
     pub state: FixedLagSmoother,

@@ -1,5 +1,5 @@
-// The steps of a run: every frame of a recording is pushed to the refiner, at the end all are taken, then all from the smoother, if there is one. Each answer
-// is printed when it comes.
+// The steps of a run: every frame of a recording is pushed to the refiner, at the end all are taken, then all from the
+// smoother, if there is one. Each answer is printed when it comes.
 ghost use Rattle.std.specs.Prelude.{◌≡◌, [], ◌∷◌, ◌≤◌, length};
 ghost use Rattle.buffers.specs.Answer.{answer_in, pushed, taken};
 ghost use Rattle.engine.specs.declared.types.BodyKind.TheVariants.{Narrow};
@@ -19,7 +19,8 @@ use fgo_state::state::{FixedLagRefiner, Memory};
 use print::answer_ref::AnswerRef;
 use print::lines;
 
-// Where a run stands: the refiner, and where its frames go; the refiner's memory, and its output buffers; the text of an answer; and standard output.
+// Where a run stands: the refiner, and where its frames go; the refiner's memory, and its output buffers; the text of
+// an answer; and standard output.
 #[derive(Drop)]
 pub struct Player<S> {
     pub refiner: FixedLagRefiner,

@@ -1,4 +1,5 @@
--- How long a text is at most: whatever is printed fits a buffer of TEXT bytes, and is what stands at its front. Assumes nothing.
+-- How long a text is at most: whatever is printed fits a buffer of TEXT bytes, and is what stands at its front. Assumes
+-- nothing.
 use Prim.Native.Nat.{ℕ, zero, suc, ◌+◌, ◌*◌, ◌/◌, ◌%◌, ◌^◌, ◌≤◌}
 use native.Mathlib.Nat.{mul-suc}
 use native.Mathlib.Omega.{arith}

@@ -5,7 +5,8 @@ use Rattle.bounds.specs.Bounds.{WORDS, NUMBERS}
 use Rattle.smoother_frame.specs.Frame.{Counts}
 use Rattle.buffers.specs.Answer.{Answer, Refused, Held, Frame}
 
--- a frame of so many words and numbers stands at the front of the words ws and the numbers xs, and is no longer than a frame may be
+-- a frame of so many words and numbers stands at the front of the words ws and the numbers xs, and is no longer than a
+-- frame may be
 pub record Stands (w x : ℕ) (ws : List ℕ) (xs : List Float) : Type 0 where
   pub words : w ≤ length ws
   pub numbers : x ≤ length xs

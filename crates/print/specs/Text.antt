@@ -1,4 +1,5 @@
--- Document 01, "Recording and print": what the programs print, as bytes, in the words and numbers of a frame. Definitions only.
+-- Document 01, "Recording and print": what the programs print, as bytes, in the words and numbers of a frame.
+-- Definitions only.
 use Rattle.std.specs.Prelude.{ℕ, zero, suc, ◌+◌, ◌-◌, ◌*◌, ◌^◌, ◌≤◌, ◌<◌, ◌≡◌, cond, leb, ℤ, pos, negsuc}
 use Rattle.std.specs.Prelude.{List, [], ◌∷◌, ◌++◌, length, take, get_or, Float, Result, Ok, Err}
 use Prim.Native.String.{String}
@@ -25,7 +26,8 @@ ascii (String.◌∷◌ c s) = code c ∷ ascii s
 unfoldable pub put : ℕ → List ℕ → List ℕ → List ℕ
 put n text l = over n (take (length l - n) text) l
 
--- a text is put over the list l from place n on, which leaves l'; r is the place where it ends, or past the list where there is no room for all of it
+-- a text is put over the list l from place n on, which leaves l'; r is the place where it ends, or past the list where
+-- there is no room for all of it
 pub record Puts (text : List ℕ) (n : ℕ) (l l' : List ℕ) (r : ℕ) : Type 0 where
   pub written : l' ≡ put n text l
   pub fits : n + length text ≤ length l → r ≡ n + length text

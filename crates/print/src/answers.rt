@@ -1,6 +1,7 @@
-// An answer of refiner or smoother, from the start of a buffer on: the line of a refusal; nothing where a frame is held; or the frame that it gives.
-// As it is, `put_full` and `put_short` differ in one call. One function of both would take that call, with a clause of its own that is either definition's arms
-// again: longer than the four lines that they share.
+// An answer of refiner or smoother, from the start of a buffer on: the line of a refusal; nothing where a frame is
+// held; or the frame that it gives.
+// As it is, `put_full` and `put_short` differ in one call. One function of both would take that call, with a clause of
+// its own that is either definition's arms again: longer than the four lines that they share.
 ghost use Rattle.buffers.specs.Answer.{answer_in};
 ghost use Rattle.print.specs.Text.{short_answer, full_answer, call_answer, Puts};
 ghost use Rattle.print.specs.Printed.{Counted};

@@ -1,46 +1,18 @@
 -- Document 01, "Recording and print", and what a recording is refused for: 11, 12, then 1. Definitions only.
-use Rattle.std.specs.Prelude.{ℕ, zero, suc, ◌+◌, ◌*◌, List, [], Bool, cond, not, ◌&&◌, ◌||◌, length, take, drop, leb, ltb, eqb, Float, ℤ, Result, Ok, Err}
-use Rattle.std.specs.Float.{binary64}
-use Rattle.std.specs.Float.Ieee.{of_bits}
+use Rattle.std.specs.Prelude.{ℕ, zero, suc, ◌+◌, ◌*◌, List, [], Bool, cond, not, ◌&&◌, ◌||◌, length, take, drop, leb, ltb, eqb, Result, Ok, Err}
 use Rattle.bounds.specs.Bounds.{SETTING, SETTINGS, CONTENTS, ENTRY, FRAMES, RECORDING}
-use Rattle.scalar.specs.Scalar.{signed}
 use Rattle.engine.specs.Little.{little}
 use Rattle.engine.specs.Body.{all}
-use Rattle.engine.specs.Config.{legal}
+use Rattle.engine.specs.Config.{legal, config_by}
 use Rattle.engine.specs.declared.config.FgoConfig.{FgoConfig}
 use Rattle.refusals.specs.declared.Refusal.{Refusal}
 use Rattle.refusals.specs.Refusals.{number_of}
 use Rattle.recording.specs.declared.Contents.{Contents as Start}
 
 module _ (s : List ℕ) where
-  -- field i of the settings, as a number
-  abbrev field : ℕ → ℕ
-  field i = little SETTING s (SETTING * i)
-
-  -- field i as an f64
-  abbrev real : ℕ → Float
-  real i = of_bits binary64 (field i)
-
-  -- field i as an i64
-  abbrev nanoseconds : ℕ → ℤ
-  nanoseconds i = signed (field i)
-
   -- "settings (11 fields of 8 bytes, `FgoConfig` order)"
   unfoldable pub settings : FgoConfig
-  settings =
-      record {
-        lag_frames = field 0;
-        radius_m = real 1;
-        birth_cost = real 2;
-        miss_cost = real 3;
-        clutter_cost = real 4;
-        accel_spectral_density = real 5;
-        position_sigma_m = real 6;
-        initial_velocity_variance = real 7;
-        coast_ns = nanoseconds 8;
-        forget_after_ns = nanoseconds 9;
-        max_passes = field 10;
-      }
+  settings = config_by (λ i. little SETTING s (SETTING * i))
 
   -- "u32 count"
   abbrev pub count : ℕ

@@ -65,8 +65,9 @@ fn is_ill_sized(s: &[u8]) -> bool
 }
 
 // The eleven settings, in the order of `FgoConfig`.
-// As it is: calls_cells's `config_of` lists them too, from words where here they are bytes. One function for both would take an array of words, into which
-// these bytes are read first, which is no plainer.
+// As it is: calls_cells's `config_of` lists them too, from words where here they are bytes; what both mean is defined
+// once, as `config_by` of engine. One function for both would take an array of words, into which these bytes are read
+// first, which is no plainer.
 #[tactic(auto, unfolding(crate::specs::Recording::settings), using(engine::proofs::Bytes::signed_passed))]
 pub fn settings_of(s: &[u8]) -> FgoConfig
     requires { SETTINGS ≤ length s.now }

@@ -1,4 +1,5 @@
-// Plays a recording from standard input through the refiner and prints each emitted frame in short: document 01, "Recording and print".
+// Plays a recording from standard input through the refiner and prints each emitted frame in short: document 01,
+// "Recording and print".
 #![tactic(auto)]
 
 use playback::play;

@@ -4,6 +4,7 @@
 ghost use Rattle.std.specs.Prelude.{◌≡◌};
 ghost use Rattle.refusals.specs.Refusals.{number_of};
 
+// Why a call or a recording is refused; before each stands its number.
 #[derive(Clone, Copy, PartialEq, Eq)]
 pub enum Refusal {
     // 1: a setting is out of bounds or not finite.

@@ -1,5 +1,6 @@
-// Plays recordings from standard input, one after the other, each twice: it prints each emitted frame in full, then in short. Each recording stands after its
-// length, four bytes, little-endian. The sample and its answers are oracle/sample's; the answers came from the published Rust.
+// Plays recordings from standard input, one after the other, each twice: it prints each emitted frame in full, then in
+// short. Each recording stands after its length, four bytes, little-endian. The sample and its answers are
+// oracle/sample's; the answers came from the published Rust.
 #![tactic(auto)]
 
 use engine::little;
@@ -17,8 +18,9 @@ fn both(rt: &(impl Print + Eprint), s: &[u8]) {
 
 fn play_all(rt: &(impl Print + Eprint), s: &[u8]) {
     let mut at = 0;
-    // As it is: a loop by the length that each recording has, which no range says. `replay_bodies` has its twin, for lengths of two bytes; the two programs
-    // share no crate of recordings, and a function of both, with a contract and a definition of a block, would be longer than these ten lines.
+    // As it is: a loop by the length that each recording has, which no range says. `replay_bodies` has its twin, for
+    // lengths of two bytes; the two programs share no crate of recordings, and a function of both, with a contract and
+    // a definition of a block, would be longer than these ten lines.
     while at < s.len() {
         if s.len() - at < 4 {
             return;

@@ -1,4 +1,5 @@
--- One step back at the arithmetic of 23 elements, computed: what the laws of the smoother ask holds there, so they speak of something.
+-- One step back at the arithmetic of 23 elements, computed: what the laws of the smoother ask holds there, so they
+-- speak of something.
 -- The numbers expected are those of the textbook's formulas modulo 23, with (P⁻)⁻¹ by elimination. Assumes nothing.
 use mathlib.Core.Path.{◌≡◌, refl}
 use mathlib.Core.List.{List, [], ◌∷◌}

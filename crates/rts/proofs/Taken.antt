@@ -1,4 +1,5 @@
--- At exact arithmetic a step is taken wherever the predicted covariance is M Mᵀ, M lower triangular with a diagonal above 0. Assumes nothing.
+-- At exact arithmetic a step is taken wherever the predicted covariance is M Mᵀ, M lower triangular with a diagonal
+-- above 0. Assumes nothing.
 use mathlib.Core.Path.{◌≡◌, refl, ap, ◌∙◌}
 use mathlib.Core.Bool.{Bool, true, false, cond}
 use mathlib.Core.List.{List, [], ◌∷◌}

@@ -1,5 +1,5 @@
--- The backward pass over any arithmetic: one step, each operation once, in the order of document 01; and the recursion over a chain of states. Definitions
--- only.
+-- The backward pass over any arithmetic: one step, each operation once, in the order of document 01; and the recursion
+-- over a chain of states. Definitions only.
 use Rattle.std.specs.Prelude.{cond, List, [], ◌∷◌, Float}
 use Rattle.std.proofs.Math.Option.{Option, none, some}
 use Rattle.scalar.specs.Num.{Num}

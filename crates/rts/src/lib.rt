@@ -18,7 +18,8 @@ pub struct TrackState {
 }
 
 // What a step did.
-// As it is: three cases and no Option. What `back` promises tells a step that was skipped from one that smoothed, and it may promise no less.
+// As it is: three cases and no Option. What `back` promises tells a step that was skipped from one that smoothed, and
+// it may promise no less.
 #[derive(Clone, Copy)]
 pub enum Step {
     // The later state is replaced by this one's smoothed form.
@@ -81,7 +82,8 @@ fn smoothed_p(p: &[f64; 36], p_pred: &[f64; 36], g: &[f64; 36], ps: &[f64; 36]) 
     half_sum6(&sum)
 }
 
-// One step back: from the smoothed form of the state dt later to that of the state a, where q is the density of the motion's noise.
+// One step back: from the smoothed form of the state dt later to that of the state a, where q is the density of the
+// motion's noise.
 #[tactic(auto, unfolding(crate::specs::Smoothing::back, crate::specs::Smoothing::smoothed))]
 pub fn back(q: f64, dt: f64, a: &TrackState, later: &mut TrackState) -> Step
     ensures { back_step result (estimate_of later.new) ≡ Smoothing.back f64 q dt (estimate_of a.now) (estimate_of later.old) }

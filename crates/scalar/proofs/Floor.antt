@@ -50,7 +50,8 @@ near_is k n q rem h e g =
 pub root_big : (n q rem : ℕ) → q * q + rem ≡ n → rem ≤ 2 * q → 2 ^ 104 ≤ n → 2 ^ 52 ≤ q
 root_big n q rem e g h = omega (arith, sq_lt (2 ^ 52) (q + 1) (omega (arith, sq_next q)))
 
--- what `near_root` is: (r - 1/2)² < n < (r + 1/2)², multiplied out in whole numbers. So no whole number is as near to the root as r, and there is no tie
+-- what `near_root` is: (r - 1/2)² < n < (r + 1/2)², multiplied out in whole numbers. So no whole number is as near to
+-- the root as r, and there is no tie
 pub record IsNear (n r : ℕ) : Type 0 where
   pub below : 0 < n → r * r < n + r
   pub above : n ≤ r * r + r

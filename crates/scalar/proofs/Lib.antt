@@ -11,3 +11,5 @@ pub mod RootCases
 pub mod Nearest
 pub mod RootLaw
 pub mod Made
+mod RoundingOrder
+pub mod Monotone

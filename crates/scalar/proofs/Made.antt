@@ -1,4 +1,5 @@
--- The entries that `from_fn` makes, where each call of its closure gives what a function says of its index. Assumes nothing.
+-- The entries that `from_fn` makes, where each call of its closure gives what a function says of its index. Assumes
+-- nothing.
 use mathlib.Core.Path.{◌≡◌, subst, ◌∙◌}
 use mathlib.Core.List.{List}
 use Prim.Native.Nat.{ℕ, zero, suc, ◌≤◌, ◌<◌, ◌+◌}

@@ -1,5 +1,5 @@
--- Rounding to 53 digits keeps a fraction on its side of a number that has 53, if it lies less than half a unit of that number beyond it. Nothing here is about roots.
--- Assumes nothing.
+-- Rounding to 53 digits keeps a fraction on its side of a number that has 53, if it lies less than half a unit of that
+-- number beyond it. Nothing here is about roots. Assumes nothing.
 use Rattle.std.proofs.Common.{◌≡◌, ℕ, suc, ◌+◌, ◌*◌, ◌/◌, ◌%◌, ◌^◌, ◌<◌, ◌≤◌, Bool, true, false, leb, sym, refl, ap, ◌∙◌, subst, inl, inr, le_trans, le_of_eq, lt_of_lt_of_le, le_of_suc-le-suc, lt_of_le_of_lt, mul-le-mul_right, mod-lt, mul_assoc, mul_comm, div-lt_iff_lt-mul, add-mul, lt_of_mul-lt-mul_right, eq-or-lt_of_le, mul-pos, div-add-mod', le-div_iff_mul-le, add-one, arith, pow_pos, pow_mono, pow-add, ne_eqb, le-leb, leb-false, leb-true}
 use Prim.Native.Nat.{compare, Ordering}
 use lib.Dec.{is_le, compare_is_eq}

@@ -1,4 +1,5 @@
--- Floats that are not positive: what holds of every zero, or of the NaN, of −∞ and of every number below 0, holds of a float that tests say is such. Assumes nothing.
+-- Floats that are not positive: what holds of every zero, or of the NaN, of −∞ and of every number below 0, holds of a
+-- float that tests say is such. Assumes nothing.
 use Rattle.std.proofs.Common.{◌≡◌, ℕ, zero, suc, ◌*◌, Bool, true, false, ◌&&◌, eqb, ℤ, refl, lt_irrefl, zero-mul, arith, ltb-false, eqb-true}
 use lib.Ieee.{Float, nan, inf, fin, up, down, lt, eq, of_bits}
 use Rattle.scalar.specs.Digits.{nil}

@@ -1,4 +1,5 @@
--- The law of the root: `root_of` of a positive f64 is its real root rounded to the nearest, ties to even. Assumes nothing.
+-- The law of the root: `root_of` of a positive f64 is its real root rounded to the nearest, ties to even. Assumes
+-- nothing.
 use Rattle.std.proofs.Common.{◌≡◌, ℕ, ◌+◌, ◌-◌, ◌*◌, ◌/◌, ◌%◌, ◌^◌, ◌<◌, ◌≤◌, Bool, true, false, cond, T, ltb, sym, ap, ◌∙◌, subst, le_trans, le_of_eq, lt_of_lt_of_le, lt_of_le_of_lt, mul-le-mul_right, mul_assoc, mul_comm, add-mul, mul-lt-mul_of_pos_right, mul-pos, zero-mul, le_of_mul-le-mul_right, mul_left_comm, arith, lit<, ltb→lt, pow_pos, pow-add, lt-ltb}
 use native.Mathlib.Nat.{mul-mul-mul_comm}
 use lib.Count.{count_leading_zeros}

@@ -1,5 +1,5 @@
--- The arithmetic of 23 elements is exact, each law by a test of all elements that is computed: so what the laws of exact arithmetic assume holds somewhere.
--- Assumes nothing.
+-- The arithmetic of 23 elements is exact, each law by a test of all elements that is computed: so what the laws of
+-- exact arithmetic assume holds somewhere. Assumes nothing.
 use Rattle.std.proofs.Common.{◌≡◌, ℕ, zero, suc, ◌<◌, Bool, true, false, not, ◌&&◌, ◌||◌, T, eqb, ltb, sym, refl, ap, ◌∙◌, subst, true≢false, mod-eq_of_lt, arith, eqb→eq, ltb→lt}
 use mathlib.Core.HLevel.{is_prop→PathP}
 use native.Mathlib.Decide.{ℕ_discrete}

@@ -18,7 +18,8 @@ exponent_field b = b % 0x8000_0000_0000_0000 / 0x10_0000_0000_0000
 abbrev pub digits_field : ℕ → ℕ
 digits_field b = b % 0x10_0000_0000_0000
 
--- by the pattern of a float above 0: with exponent 2047 it is +∞, with 0 it has no first digit; else it has one, and y is the exponent less 1
+-- by the pattern of a float above 0: with exponent 2047 it is +∞, with 0 it has no first digit; else it has one, and y
+-- is the exponent less 1
 unfoldable pub digits_in : ℕ → Digits
 digits_in b =
     cond (exponent_field b == 2047) Infinite
@@ -49,7 +50,8 @@ Falls a Infinite = a ≡ inf false
 Falls a Zero = eq a nil ≡ true
 Falls a Other = (lt nil a ≡ false) × (eq a nil ≡ false)
 
--- d · 2^(e - 1126) is q · 2^(y - 1074), with 53 binary digits: q is moved up by so many places, and the exponent down by as many
+-- d · 2^(e - 1126) is q · 2^(y - 1074), with 53 binary digits: q is moved up by so many places, and the exponent down
+-- by as many
 pub record Full (q y d e : ℕ) : Type 0 where
   pub up : ℕ
   pub under : up < 53

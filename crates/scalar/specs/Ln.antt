@@ -54,7 +54,8 @@ unfoldable pub ln_scaled : Float → ℤ → Float
 unfolding ln_near
 ln_scaled m e = cond (lt root_two m) (ln_near (mul binary64 m half) (e +ℤ pos 1)) (ln_near m e)
 
--- "NaN for NaN or below 0, −∞ for either 0, +∞ for +∞. Else a = m·2^e, 1 ≤ m < 2": n · 2^e is n / 2^d times 2^(e + d), where n has d + 1 digits
+-- "NaN for NaN or below 0, −∞ for either 0, +∞ for +∞. Else a = m·2^e, 1 ≤ m < 2": n · 2^e is n / 2^d times 2^(e + d),
+-- where n has d + 1 digits
 unfoldable pub ln_of : Float → Float
 unfolding ln_scaled
 ln_of nan = nan

@@ -1,6 +1,7 @@
--- An arithmetic: a type of numbers with the operations of the filter and of the backward pass, and their constants; and what exact arithmetic is.
--- The filter and the smoother are defined over any arithmetic. At f64 they are what the code computes; at an exact one they are the textbook's.
--- Definitions only.
+-- An arithmetic: a type of numbers with the operations of the filter and of the backward pass, and their constants; and
+-- what exact arithmetic is.
+-- The filter and the smoother are defined over any arithmetic. At f64 they are what the code computes; at an exact one
+-- they are the textbook's. Definitions only.
 use Rattle.std.specs.Prelude.{◌≡◌, Bool, true, ◌≢◌}
 
 -- operations, comparisons and constants

@@ -15,7 +15,8 @@ unfolding floor_root
 near_root k n = let s = floor_root k n in cond (nat_le (n - s * s) s) s (s + 1)
 
 -- m * 2 ^ e is x of the smallest values, 2 ^ -1074 each, and x has i + 1 binary digits.
--- n is x times a power of 4, with 105 or 106 digits: so its root has 53, and rounding that root to a whole number rounds to the format.
+-- n is x times a power of 4, with 105 or 106 digits: so its root has 53, and rounding that root to a whole number
+-- rounds to the format.
 unfoldable pub root_of : Float → Float
 unfolding near_root
 root_of nan = nan
@@ -27,8 +28,9 @@ root_of (fin s (suc m) e) =
     let n = x * 2 ^ (104 + i % 2) / 2 ^ i in
     cond s nan (odd 54 false (near_root 53 n) (i / 2 + 485) 1074)
 
--- The answer is the real root of a = num a / den a, rounded as IEEE 754 rounds: it is an f64, every fraction p / q at or below the root rounds to at most
--- the answer, and every one at or above it to at least the answer. Fractions come as near to the root as one likes, so no other f64 is such.
+-- The answer is the real root of a = num a / den a, rounded as IEEE 754 rounds: it is an f64, every fraction p / q at
+-- or below the root rounds to at most the answer, and every one at or above it to at least the answer. Fractions come
+-- as near to the root as one likes, so no other f64 is such.
 pub record NearestRoot (a : Float) : Type 0 where
   pub held : T (fits binary64 (root_of a))
   pub below : (p q : ℕ) → 0 < q → p * p * den a ≤ num a * (q * q) → T (le (round binary64 false p q) (root_of a))

@@ -1,4 +1,5 @@
--- The field of 23 elements as an arithmetic, in which the squares other than 0 are above 0: one that is exact and computes. Definitions only.
+-- The field of 23 elements as an arithmetic, in which the squares other than 0 are above 0: one that is exact and
+-- computes. Definitions only.
 use Rattle.std.specs.Prelude.{ℕ, ◌+◌, ◌-◌, ◌*◌, ◌%◌, ◌^◌, Bool, ◌||◌, T, List, map, ◌==◌, nat_lt}
 use Rattle.std.proofs.Common.{mod-lt, zero-lt-suc, lt→ltb}
 use Rattle.scalar.specs.Num.{Num}
@@ -16,11 +17,13 @@ residue n = record { value = n % 23; below = lt→ltb (n % 23) 23 (mod-lt n (zer
 abbrev pub residues : List ℕ → List Residue
 residues l = map residue l
 
--- b is above a: b − a is the square of a number other than 0. Those are 1, 2, 3, 4, 6, 8, 9, 12, 13, 16 and 18, whose 11th power is 1
+-- b is above a: b − a is the square of a number other than 0. Those are 1, 2, 3, 4, 6, 8, 9, 12, 13, 16 and 18, whose
+-- 11th power is 1
 abbrev pub under : Residue → Residue → Bool
 under a b = (b.value + (23 - a.value)) ^ 11 % 23 == 1
 
--- sums, differences and products are what they leave over when they are divided by 23; nothing is asked of ln, pi, past and le
+-- sums, differences and products are what they leave over when they are divided by 23; nothing is asked of ln, pi, past
+-- and le
 abbrev pub twenty_three : Num
 twenty_three =
     record {

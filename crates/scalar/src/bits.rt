@@ -10,8 +10,9 @@ pub fn seconds(ns: i64) -> f64
     std::num::nearest_i64_to_f64(ns) * 1e-9
 }
 
-// As it is, here and below: each is one call of std under the document's word, which the definitions use. Of four a caller would say std's longer name; and
-// `is_finite` is public and promises the definitions' `finite`, where std's promises a definition of std's own.
+// As it is, here and below: each is one call of std under the document's word, which the definitions use. Of four a
+// caller would say std's longer name; and `is_finite` is public and promises the definitions' `finite`, where std's
+// promises a definition of std's own.
 
 // Neither a NaN nor an infinity.
 pub fn is_finite(x: f64) -> bool

@@ -5,9 +5,10 @@ ghost use Rattle.scalar.specs.Digits.{digits_of, digits_in, Falls, Full};
 #[derive(Clone, Copy)]
 pub enum Digits {
     // Above 0 and finite: q · 2^(y - 1074).
-    // As it is: no struct with 0 < q, q < 2^53 and y < 2046 as facts. What `digits_of` answers is a value of this type, which its definition makes too,
-    // wherever the code makes it; and the definition goes by `digits_in`, which stands for any pattern, +0 among them, whose q is 0. So the facts would
-    // take a second type beside this one, and a clause between the two: no plainer than `Falls`, which says the facts of this one.
+    // As it is: no struct with 0 < q, q < 2^53 and y < 2046 as facts. What `digits_of` answers is a value of this type,
+    // which its definition makes too, wherever the code makes it; and the definition goes by `digits_in`, which stands
+    // for any pattern, +0 among them, whose q is 0. So the facts would take a second type beside this one, and a clause
+    // between the two: no plainer than `Falls`, which says the facts of this one.
     Finite { q: u64, y: u64 },
     // +∞.
     Infinite,

@@ -1,4 +1,5 @@
--- An id that stands in no scan: it has no window, it is not present, it has no move, and no move of others brings it back. Assumes nothing.
+-- An id that stands in no scan: it has no window, it is not present, it has no move, and no move of others brings it
+-- back. Assumes nothing.
 use Rattle.std.specs.Prelude.{Option, Some, None}
 use Prim.Native.Nat.{ℕ, suc, ◌+◌, ◌<◌}
 use native.Mathlib.Nat.{eq-zero-or-pos}

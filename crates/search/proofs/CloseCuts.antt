@@ -71,6 +71,6 @@ filled_cuts close h =
     cut false d t = absurd t
 
 -- a note for each of SCANS scans
-pub close_long : (q : Float) (dots : List Dot) (a b : List ℕ) → length (close_scans q dots a b) ≡ SCANS
+pub close_long : (radius2 : Float) (dots : List Dot) (a b : List ℕ) → length (close_scans radius2 dots a b) ≡ SCANS
 unfolding close_scans
-close_long q dots a b = map_up_length (close_at q dots a b) 0 SCANS
+close_long radius2 dots a b = map_up_length (close_at radius2 dots a b) 0 SCANS

@@ -20,7 +20,7 @@ use Rattle.fgo_spec.specs.Rule.{All}
 use Rattle.fgo_spec.proofs.Counting.{keep_append, keep_const}
 use Rattle.search_neighbours.specs.Near.{near_slots, close_at, close_scans}
 use Rattle.search_pair.specs.Pair.{cut_at, cuts_of}
-use Rattle.search.specs.Pass.{Scene, view_on, row_on, close_on}
+use Rattle.search.specs.Pass.{Scene, view_on, row_on, radius2_on, close_on}
 use Rattle.fgo_spec.specs.Gathered.{put_back}
 use Rattle.search_rows.proofs.Filled.{map_up_length, map_up_at}
 use Rattle.search.proofs.Standing.{Held, scans_now, Standing, CutRows}
@@ -67,9 +67,9 @@ cut_dets c first ps v w g =
 
 -- ---- past the scans held
 
-none_close : (q : Float) (dots : List Dot) (ra rb : List ℕ) (k : ℕ) → get_or ra k 0 ≡ 0 → get_or rb k 0 ≡ 0 → close_at q dots ra rb k ≡ false
+none_close : (radius2 : Float) (dots : List Dot) (ra rb : List ℕ) (k : ℕ) → get_or ra k 0 ≡ 0 → get_or rb k 0 ≡ 0 → close_at radius2 dots ra rb k ≡ false
 unfolding close_at near_slots
-none_close q dots ra rb k a b = rw (a, b) (go (eqb (get_or ra (k + 1) 0) 0))
+none_close radius2 dots ra rb k a b = rw (a, b) (go (eqb (get_or ra (k + 1) 0) 0))
   where
     go : (t : Bool) → cond t false false ≡ false
     go true = refl
@@ -96,7 +96,7 @@ module _ (e : Scene) (ss : List Scan) (ids : List ℕ) (held : Held e ss) where
     scans_noted = close_on e (row_on e ids a) (row_on e ids b)
 
     abbrev noted : ℕ → Bool
-    noted k = close_at (square (radius e.hall.config)) e.dots (row_on e ids a) (row_on e ids b) k
+    noted k = close_at (radius2_on e) e.dots (row_on e ids a) (row_on e ids b) k
 
     noted-at : (k : ℕ) → get_or scans_noted k false ≡ noted k
     unfolding close_scans
@@ -107,11 +107,11 @@ module _ (e : Scene) (ss : List Scan) (ids : List ℕ) (held : Held e ss) where
         go (no l) =
             let h : SCANS ≤ k = omega (arith, l) in
             get_or-eq_default (map noted (up_from 0 SCANS)) false {n = k} (omega (arith, map_up_length noted 0 SCANS))
-            ∙ sym (none_close (square (radius e.hall.config)) e.dots (row_on e ids a) (row_on e ids b) k (row_past e ids a k h) (row_past e ids b k h))
+            ∙ sym (none_close (radius2_on e) e.dots (row_on e ids a) (row_on e ids b) k (row_past e ids a k h) (row_past e ids b k h))
 
     noted-none : (k : ℕ) → length ss ≤ k → get_or scans_noted k false ≡ false
     noted-none k h =
-        noted-at k ∙ none_close (square (radius e.hall.config)) e.dots (row_on e ids a) (row_on e ids b) k (row-none a k h) (row-none b k h)
+        noted-at k ∙ none_close (radius2_on e) e.dots (row_on e ids a) (row_on e ids b) k (row-none a k h) (row-none b k h)
 
     -- no cut past the scan after the last
     cut-none : (g : ℕ) → suc (length ss) ≤ g → cut_at scans_noted g ≡ false
@@ -148,5 +148,5 @@ cut_rows e next ps ss ids s a b ha hb =
     tests : (g : ℕ) → test (first + g) ≡ cut_at (scans_noted e ss ids s.held a b) g
     tests g =
         cut_dets e.hall.config e.hall.first.0 ps (window a e.hall.first.0 (scans_now e ss ids)) (window b e.hall.first.0 (scans_now e ss ids)) (e.hall.first.0 + g)
-        ∙ (λ i. any (λ d. any (cut_by (square (radius e.hall.config)) (e.hall.first.0 + g) d) (window-rows e next ps ss ids s b hb i)) (window-rows e next ps ss ids s a ha i))
-        ∙ cut_tests (view_on e) (square (radius e.hall.config)) (row_on e ids a) (row_on e ids b) (scans_noted e ss ids s.held a b) (noted-at e ss ids s.held a b) g
+        ∙ (λ i. any (λ d. any (cut_by (radius2_on e) (e.hall.first.0 + g) d) (window-rows e next ps ss ids s b hb i)) (window-rows e next ps ss ids s a ha i))
+        ∙ cut_tests (view_on e) (radius2_on e) (row_on e ids a) (row_on e ids b) (scans_noted e ss ids s.held a b) (noted-at e ss ids s.held a b) g

@@ -78,30 +78,30 @@ between d e = add binary64 (square (sub binary64 d.x e.x)) (square (sub binary64
 
 -- the scan g is a cut by two detections
 abbrev pub cut_by : Float → ℕ → Measurement → Measurement → Bool
-cut_by q g d e =
+cut_by radius2 g d e =
     (eqb g (min d.scan e.scan) || eqb g (suc (min d.scan e.scan)))
-    && (leb d.scan (suc e.scan) && leb e.scan (suc d.scan) && lt (between d e) q)
+    && (leb d.scan (suc e.scan) && leb e.scan (suc d.scan) && lt (between d e) radius2)
 
-module _ (q : Float) (dots : List Dot) where
-  near_is : (a b : ℕ) → near_slots q dots (suc a) (suc b) ≡ lt (apart2 dots a b) q
+module _ (radius2 : Float) (dots : List Dot) where
+  near_is : (a b : ℕ) → near_slots radius2 dots (suc a) (suc b) ≡ lt (apart2 dots a b) radius2
   unfolding near_slots
   near_is a b =
       let p : suc a - 1 ≡ a = omega arith in
       let r : suc b - 1 ≡ b = omega arith in
       rw (ne_eqb (suc a) 0 (λ e. omega arith), ne_eqb (suc b) 0 (λ e. omega arith), p, r)
 
-  pub near_some : (i j : ℕ) → T (near_slots q dots i j) → (a : ℕ) × (b : ℕ) × (i ≡ suc a) × (j ≡ suc b) × T (lt (apart2 dots a b) q)
+  pub near_some : (i j : ℕ) → T (near_slots radius2 dots i j) → (a : ℕ) × (b : ℕ) × (i ≡ suc a) × (j ≡ suc b) × T (lt (apart2 dots a b) radius2)
   unfolding near_slots
   near_some zero j t = absurd t
   near_some (suc a) zero t = absurd (rw (ne_eqb (suc a) 0 (λ e. omega arith)) at t)
   near_some (suc a) (suc b) t = (a, b, refl, refl, subst T (near_is a b) t)
 
-module _ (dots : List Dot) (q : Float) (ra rb : List ℕ) where
+module _ (dots : List Dot) (radius2 : Float) (ra rb : List ℕ) where
   abbrev near : ℕ → ℕ → Bool
-  near i j = near_slots q dots (get_or ra i 0) (get_or rb j 0)
+  near i j = near_slots radius2 dots (get_or ra i 0) (get_or rb j 0)
 
   abbrev closes : ℕ → Bool
-  closes k = close_at q dots ra rb k
+  closes k = close_at radius2 dots ra rb k
 
   -- two detections that are near, in one scan or in consecutive ones, of which k is the earlier
   pub record Meet (k : ℕ) : Type 0 where
@@ -175,28 +175,28 @@ module _ (dots : List Dot) (q : Float) (ra rb : List ℕ) where
 
 -- ---- by the detections of the rows
 
-module _ (v : View) (q : Float) (ra rb : List ℕ) where
+module _ (v : View) (radius2 : Float) (ra rb : List ℕ) where
   abbrev number : ℕ → ℕ
   number i = v.first + (0 + i)
 
   abbrev early : ℕ → ℕ → ℕ → Bool
   early g i j = eqb (v.first + g) (min (number i) (number j)) || eqb (v.first + g) (suc (min (number i) (number j)))
 
-  seen-cut : (g : ℕ) → T (any (λ d. any (cut_by q (v.first + g) d) (measurements v 0 rb)) (measurements v 0 ra)) → Cut v.dots q ra rb g
+  seen-cut : (g : ℕ) → T (any (λ d. any (cut_by radius2 (v.first + g) d) (measurements v 0 rb)) (measurements v 0 ra)) → Cut v.dots radius2 ra rb g
   seen-cut g t =
-      let s = some_in (λ d. any (cut_by q (v.first + g) d) (measurements v 0 rb)) v 0 ra t in
-      let r = some_in (cut_by q (v.first + g) (measurement_at v (0 + s.0) s.1)) v 0 rb s.3 in
+      let s = some_in (λ d. any (cut_by radius2 (v.first + g) d) (measurements v 0 rb)) v 0 ra t in
+      let r = some_in (cut_by radius2 (v.first + g) (measurement_at v (0 + s.0) s.1)) v 0 rb s.3 in
       go s.0 s.1 r.0 r.1 s.2 r.2 r.3
     where
       side : (i j : ℕ) → T (eqb (v.first + g) (min (number i) (number j))) ⊎ T (eqb (v.first + g) (suc (min (number i) (number j)))) → (g ≡ min i j) ⊎ (g ≡ suc (min i j))
       side i j (inl h) = inl (let z : v.first + g ≡ min (number i) (number j) = eqb_yes h in omega arith)
       side i j (inr h) = inr (let z : v.first + g ≡ suc (min (number i) (number j)) = eqb_yes h in omega arith)
 
-      go : (i a j b : ℕ) → get_or ra i 0 ≡ suc a → get_or rb j 0 ≡ suc b → T (cut_by q (v.first + g) (measurement_at v (0 + i) a) (measurement_at v (0 + j) b)) → Cut v.dots q ra rb g
+      go : (i a j b : ℕ) → get_or ra i 0 ≡ suc a → get_or rb j 0 ≡ suc b → T (cut_by radius2 (v.first + g) (measurement_at v (0 + i) a) (measurement_at v (0 + j) b)) → Cut v.dots radius2 ra rb g
       go i a j b e f t =
           let l = leb (number i) (suc (number j)) in
           let r = leb (number j) (suc (number i)) in
-          let n = lt (apart2 v.dots a b) q in
+          let n = lt (apart2 v.dots a b) radius2 in
           let c = and_yes (early g i j) (l && r && n) t in
           let d = and_yes (l && r) n c.1 in
           let h : number i ≤ suc (number j) = leb_yes (and_yes l r d.0).0 in
@@ -210,23 +210,23 @@ module _ (v : View) (q : Float) (ra rb : List ℕ) where
                   low = refl;
                   left = omega arith;
                   right = omega arith;
-                  by = subst T (sym ((λ z. near_slots q v.dots (e z) (f z)) ∙ near_is q v.dots a b)) d.1;
+                  by = subst T (sym ((λ z. near_slots radius2 v.dots (e z) (f z)) ∙ near_is radius2 v.dots a b)) d.1;
                 };
             which = side i j (or_yes (eqb (v.first + g) (min (number i) (number j))) (eqb (v.first + g) (suc (min (number i) (number j)))) c.0);
           }
 
-  cut-seen : (g : ℕ) → Cut v.dots q ra rb g → T (any (λ d. any (cut_by q (v.first + g) d) (measurements v 0 rb)) (measurements v 0 ra))
+  cut-seen : (g : ℕ) → Cut v.dots radius2 ra rb g → T (any (λ d. any (cut_by radius2 (v.first + g) d) (measurements v 0 rb)) (measurements v 0 ra))
   cut-seen g c =
       let i = c.meet.i in
       let j = c.meet.j in
-      let s = near_some q v.dots (get_or ra i 0) (get_or rb j 0) c.meet.by in
+      let s = near_some radius2 v.dots (get_or ra i 0) (get_or rb j 0) c.meet.by in
       let l = leb (number i) (suc (number j)) in
       let r = leb (number j) (suc (number i)) in
-      let n = lt (apart2 v.dots s.0 s.1) q in
+      let n = lt (apart2 v.dots s.0 s.1) radius2 in
       let hl : number i ≤ suc (number j) = omega (arith, c.meet.left) in
       let hr : number j ≤ suc (number i) = omega (arith, c.meet.right) in
-      in_some (λ d. any (cut_by q (v.first + g) d) (measurements v 0 rb)) v 0 ra i s.0 s.2
-      (in_some (cut_by q (v.first + g) (measurement_at v (0 + i) s.0)) v 0 rb j s.1 s.3
+      in_some (λ d. any (cut_by radius2 (v.first + g) d) (measurements v 0 rb)) v 0 ra i s.0 s.2
+      (in_some (cut_by radius2 (v.first + g) (measurement_at v (0 + i) s.0)) v 0 rb j s.1 s.3
       (yes_and (early g i j) (l && r && n) (side i j c.meet.low c.which) (yes_and (l && r) n (yes_and l r (yes_leb hl) (yes_leb hr)) s.4)))
     where
       side : (i j : ℕ) → min i j ≡ c.k → (g ≡ c.k) ⊎ (g ≡ suc c.k) → T (early g i j)
@@ -237,6 +237,6 @@ module _ (v : View) (q : Float) (ra rb : List ℕ) where
           let z : v.first + g ≡ suc (min (number i) (number j)) = omega arith in
           or_right (eqb (v.first + g) (min (number i) (number j))) (eqb (v.first + g) (suc (min (number i) (number j)))) (yes_eqb z)
 
-  pub cut_tests : (close : List Bool) → ((k : ℕ) → get_or close k false ≡ close_at q v.dots ra rb k) → (g : ℕ) →
-      any (λ d. any (cut_by q (v.first + g) d) (measurements v 0 rb)) (measurements v 0 ra) ≡ cut_at close g
-  cut_tests close noted g = same_answer _ (cut_at close g) (λ t. cut-noted v.dots q ra rb close noted g (seen-cut g t)) (λ t. cut-seen g (noted-cut v.dots q ra rb close noted g t))
+  pub cut_tests : (close : List Bool) → ((k : ℕ) → get_or close k false ≡ close_at radius2 v.dots ra rb k) → (g : ℕ) →
+      any (λ d. any (cut_by radius2 (v.first + g) d) (measurements v 0 rb)) (measurements v 0 ra) ≡ cut_at close g
+  cut_tests close noted g = same_answer _ (cut_at close g) (λ t. cut-noted v.dots radius2 ra rb close noted g (seen-cut g t)) (λ t. cut-seen g (noted-cut v.dots radius2 ra rb close noted g t))

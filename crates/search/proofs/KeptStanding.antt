@@ -1,4 +1,5 @@
--- The gathered ids after a move still stand for scans that are regular, and name no id from the next one on. Assumes nothing.
+-- The gathered ids after a move still stand for scans that are regular, and name no id from the next one on. Assumes
+-- nothing.
 use Rattle.std.specs.Prelude.{Some}
 use Prim.Native.Nat.{ℕ, ◌<◌}
 use native.Mathlib.Omega.{arith}

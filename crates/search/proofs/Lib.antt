@@ -13,7 +13,6 @@ pub mod WindowDets
 pub mod RowCosts
 pub mod PairLink
 pub mod TrackLink
-pub mod IdsAscend
 pub mod Meeting
 pub mod PassLaws
 pub mod Absence
@@ -30,3 +29,4 @@ pub mod Sweeps
 pub mod Visits
 pub mod Carrying
 pub mod Passes
+mod Enclosing

@@ -1,5 +1,5 @@
--- The best move of a pair by rows is fgo_spec's, and where it is a merge it keeps one of the pair. Takes as given that rows have the windows' detections
--- and share as many scans.
+-- The best move of a pair by rows is fgo_spec's, and where it is a merge it keeps one of the pair. Takes as given that
+-- rows have the windows' detections and share as many scans.
 use Rattle.std.specs.Prelude.{Option, Some, None}
 use Prim.Native.Nat.{ℕ, ◌+◌, ◌<◌}
 use mathlib.Core.Path.{◌≡◌, refl, sym, ap, ◌∙◌}

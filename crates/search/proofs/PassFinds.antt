@@ -5,6 +5,7 @@ use native.Mathlib.Omega.{arith}
 use mathlib.Core.Path.{◌≡◌, refl, sym, ap, ◌∙◌, subst}
 use mathlib.Core.Bool.{Bool, true, false, ◌&&◌, and-true, and-false}
 use mathlib.Core.List.{List, foldl}
+use mathlib.Core.Logic.{◌⊎◌, inl, inr}
 use lib.ListN.{length}
 use lib.Dec.{T}
 use Rattle.bounds.specs.Bounds.{DETECTIONS, PASSES}
@@ -15,14 +16,19 @@ use Rattle.fgo_spec.specs.Windows.{Scan, Prefix, present}
 use Rattle.fgo_spec.specs.Searching.{Search as Model, Searched, neighbours, pair_step as on_pair, track_step as on_track, pass, passes, improve}
 use Rattle.fgo_spec.proofs.Counting.{has-All, has-keep}
 use Rattle.fgo_spec.proofs.Presence.{present_is}
-use Rattle.search_rows.specs.Rows.{present_in}
+use Rattle.search_rows.specs.declared.moves.Tally.{Tally}
+use Rattle.search_rows.specs.Rows.{Starts, present_in}
 use Rattle.search_rows.specs.Moves.{begun, one_more}
-use Rattle.search.specs.Pass.{Scene, Progress, progress_of, id_of, sweep, visit, pass_over, passes_over}
+use Rattle.search.specs.Pass.{Scene, Progress, progress_of, sweep, visit, pass_over}
 use Rattle.search.specs.Represents.{Represents, Finds}
-use Rattle.search.proofs.Standing.{Standing, scans_now}
-use Rattle.search.proofs.IdsAscend.{Ascends, present_ascends, present-length, ascends_keep, ascends_same}
+use Rattle.search.proofs.Standing.{scans_now, PartsOk}
+use Rattle.search_rows.specs.Rows.{Ascends}
+use Rattle.search_rows.proofs.IdsAscend.{present_ascends, present-length, ascends_keep, ascends_same}
 use Rattle.search.proofs.Absence.{Absent, missing_absent, absent_missing}
+use Rattle.fgo_spec.specs.Rule.{All}
 use Rattle.search.proofs.PassLaws.{PassLaws}
+use Rattle.search.proofs.PassLawsHold.{laws_hold}
+use Rattle.search.proofs.GatheredStanding.{gathered_now, gathered-standing}
 use Rattle.search.proofs.Tying.{Tied, tied_less, model_of, room-less, one_more_lem}
 use Rattle.search.proofs.Sweeping.{sweep_tied, visit_tied}
 
@@ -135,61 +141,97 @@ module _ (e : Scene) (ps : List (ℕ × Prefix)) (ss : List Scan) (laws : PassLa
     unfolding pass_over pass listed begins swept paired
     pass_tied = subst (λ q. Tied e ss None 0 (suc p) n (pass_over e s) (pass e.hall.config e.hall.first.0 ps q)) (sym t.same) pass-ends
 
-  -- ---- all of them
+-- ---- all of them
 
-  passes_are :
-      (k p n : ℕ) (s : Progress) (q : Model) (moved : Bool) → k + p ≤ PASSES → Tied e ss None 0 p (k * moves + n) s q →
-      passes e.hall.config e.hall.first.0 ps k p q moved ≡ record { search = model_of e ss (passes_over e k s moved); ran = (passes_over e k s moved).tally.passes }
-  unfolding passes passes_over
-  passes_are zero p n s q moved h t = λ i. record { search = t.same i; ran = sym t.passes i }
-  passes_are (suc k) p n s q false h t = λ i. record { search = t.same i; ran = sym t.passes i }
-  passes_are (suc k) p n s q true h t =
-      let r =
-      pass_tied p (k * moves + n) s q (tied_less e ss None 0 p (suc k * moves + n) (moves + (k * moves + n)) (omega arith) t) (omega arith) in
-      ap (λ (b : Bool). passes e.hall.config e.hall.first.0 ps k (suc p) (pass e.hall.config e.hall.first.0 ps q) b) (ap (λ (q : Model). q.moved) r.same)
-      ∙ passes_are k (suc p) n (pass_over e s) (pass e.hall.config e.hall.first.0 ps q) (pass_over e s).tally.moved (omega arith) r
+module _ (e : Scene) (ps : List (ℕ × Prefix)) (ss : List Scan) (next : ℕ) (k : FgoCounters) where
+  -- n passes are left, of those of fgo_spec's search with this next id and these counters
+  pub record Follows (n : ℕ) (s : Progress) : Type 0 where
+    pub ran : ℕ
+    pub early : n + ran ≤ PASSES
+    pub model : Model
+    pub tied : Tied e ss None 0 ran (n * moves) s model
+    pub left : improve e.hall.config e.hall.first.0 ps ss next k ≡ passes e.hall.config e.hall.first.0 ps n ran model s.tally.moved
 
--- what the passes find is fgo_spec's
-pub finds :
-    (e : Scene) (next : ℕ) (k : FgoCounters) (ids : List ℕ) (ps : List (ℕ × Prefix)) (ss : List Scan) → PassLaws e ps ss →
-    Standing e next ss ids → scans_now e ss ids ≡ ss → Represents e next k ids ps ss → e.hall.detections ≤ DETECTIONS → (r : Progress) →
-    r ≡ passes_over e (max_passes_of e.hall.config) (progress_of ids (record { next_id = id_of next; counters = k; passes = 0; moved = true })) true →
-    Finds e next k ps ss r.ids r.tally
-finds e next k ids ps ss laws st now g gathered r is =
-    record {
-      scans = ap (λ (f : Searched). f.search.scans) found;
-      next_id = sym (ap (λ (f : Searched). f.search.next_id) found);
-      counters = sym (ap (λ (f : Searched). f.search.counters) found);
-      moved = sym (ap (λ (f : Searched). f.search.moved) found);
-      passes = sym (ap (λ (f : Searched). f.ran) found);
-    }
-  where
-    start : Progress
-    start = progress_of ids (record { next_id = id_of next; counters = k; passes = 0; moved = true })
+module _ {e : Scene} {ps : List (ℕ × Prefix)} {ss : List Scan} {next : ℕ} {k : FgoCounters} {n : ℕ} {s : Progress} where
+  module _ (parts : PartsOk e ps) (few : e.hall.detections ≤ DETECTIONS) (f : Follows e ps ss next k (suc n) s) where
+    one : Tied e ss None 0 f.ran (moves + n * moves) s f.model
+    one = tied_less e ss None 0 f.ran (suc n * moves) (moves + n * moves) (omega arith) f.tied
 
-    spare : (i : ℕ) → i ≤ 2 ^ 61 → i + (max_passes_of e.hall.config * moves + 0) ≤ 2 ^ 62
-    spare i h = let m = g.passes in omega arith
+    soon : f.ran ≤ PASSES
+    soon = omega (arith, f.early)
 
-    tied : Tied e ss None 0 0 (max_passes_of e.hall.config * moves + 0) start (record { scans = ss; next_id = next; counters = k; moved = true })
-    tied =
+    -- the ids that have a window are below the next one
+    pub follows_known : All (λ x. x < s.tally.next_id.0) (present_in e.hall.detections s.ids)
+    unfolding listed low
+    follows_known =
+        has-All (λ x. x < s.tally.next_id.0) (present_in e.hall.detections s.ids)
+        (λ x h. (used e ps ss (laws_hold e ps ss parts) few f.ran (n * moves) s f.model one soon x h).1)
+
+    pub follows_more : s.tally.moved ≡ true → {s' : Progress} → s' ≡ pass_over e s → Follows e ps ss next k n s'
+    unfolding passes
+    follows_more m q =
+        let t = pass_tied e ps ss (laws_hold e ps ss parts) few f.ran (n * moves) s f.model one soon in
+        subst (Follows e ps ss next k n) (sym q)
         record {
-          same = λ i. record { scans = sym now i; next_id = next; counters = k; moved = true };
-          stands = st;
-          from = zero-le;
-          passes = refl;
-          room =
-              record {
-                ids = spare next g.spare.ids;
-                swaps = spare k.swaps g.spare.swaps;
-                merges = spare k.merges g.spare.merges;
-                splits = spare k.splits g.spare.splits;
-                drops = spare k.drops g.spare.drops;
-              };
-          out = λ x h o. absurd o;
+          ran = suc f.ran;
+          early = omega (arith, f.early);
+          model = pass e.hall.config e.hall.first.0 ps f.model;
+          tied = t;
+          left =
+              f.left
+              ∙ ap (passes e.hall.config e.hall.first.0 ps (suc n) f.ran f.model) m
+              ∙ ap (λ (q : Model). passes e.hall.config e.hall.first.0 ps n (suc f.ran) (pass e.hall.config e.hall.first.0 ps f.model) q.moved) t.same;
         }
 
-    found : improve e.hall.config e.hall.first.0 ps ss next k ≡ record { search = model_of e ss r; ran = r.tally.passes }
-    found =
-        unfold improve in
-        (passes_are e ps ss laws gathered (max_passes_of e.hall.config) 0 0 start (record { scans = ss; next_id = next; counters = k; moved = true }) true (let m = g.passes in omega arith) tied
-        ∙ ap (λ (r : Progress). record { search = model_of e ss r; ran = r.tally.passes }) (sym is))
+  -- where none is left, or the last one made no move, it has found what fgo_spec's does
+  pub follows_ends : Follows e ps ss next k n s → (n ≡ 0) ⊎ (s.tally.moved ≡ false) → Finds e next k ps ss s.ids s.tally
+  unfolding passes
+  follows_ends f d =
+      record {
+        scans = ap (λ (f : Searched). f.search.scans) found;
+        next_id = sym (ap (λ (f : Searched). f.search.next_id) found);
+        counters = sym (ap (λ (f : Searched). f.search.counters) found);
+        moved = sym (ap (λ (f : Searched). f.search.moved) found);
+        passes = sym (ap (λ (f : Searched). f.ran) found);
+      }
+    where
+      last : (n : ℕ) (b : Bool) → (n ≡ 0) ⊎ (b ≡ false) → passes e.hall.config e.hall.first.0 ps n f.ran f.model b ≡ record { search = f.model; ran = f.ran }
+      last zero b d = refl
+      last (suc n) false d = refl
+      last (suc n) true (inl z) = absurd (omega arith)
+      last (suc n) true (inr z) = cc
+
+      found : improve e.hall.config e.hall.first.0 ps ss next k ≡ record { search = model_of e ss s; ran = s.tally.passes }
+      found = f.left ∙ last n s.tally.moved d ∙ (λ i. record { search = f.tied.same i; ran = sym f.tied.passes i })
+
+-- the search begins
+pub follows_begins :
+    {e : Scene} {ids : List ℕ} {ps : List (ℕ × Prefix)} {ss : List Scan} (t : Tally) → Starts e.starts → t.passes ≡ 0 → t.moved ≡ true →
+    Represents e t.next_id.0 t.counters ids ps ss → Follows e ps ss t.next_id.0 t.counters (max_passes_of e.hall.config) (progress_of ids t)
+unfolding improve
+follows_begins {e} {ids} {ps} {ss} t begins none m g =
+    record {
+      ran = 0;
+      early = omega (arith, g.passes);
+      model = record { scans = ss; next_id = t.next_id.0; counters = t.counters; moved = true };
+      tied =
+          record {
+            same = λ i. record { scans = sym (gathered_now g) i; next_id = t.next_id.0; counters = t.counters; moved = sym m i };
+            stands = gathered-standing g begins;
+            from = zero-le;
+            passes = none;
+            room =
+                record {
+                  ids = spare t.next_id.0 g.spare.ids;
+                  swaps = spare t.counters.swaps g.spare.swaps;
+                  merges = spare t.counters.merges g.spare.merges;
+                  splits = spare t.counters.splits g.spare.splits;
+                  drops = spare t.counters.drops g.spare.drops;
+                };
+            out = λ x h o. absurd o;
+          };
+      left = ap (passes e.hall.config e.hall.first.0 ps (max_passes_of e.hall.config) 0 (record { scans = ss; next_id = t.next_id.0; counters = t.counters; moved = true })) (sym m);
+    }
+  where
+    spare : (i : ℕ) → i ≤ 2 ^ 61 → i + max_passes_of e.hall.config * moves ≤ 2 ^ 62
+    spare i h = let m = g.passes in omega arith

@@ -95,16 +95,17 @@ by_pair : ByPair ≢ Resting
 by_pair e = cc
 
 -- the rows of two ids of the table change: their costs are worked out anew, and they are marked
-module _ {e : Scene} {n : ℕ} {table ids : List ℕ} {rows : List Row} {costs : List Float} {moved : List Mark} (listed : IdTable n table) (s : Swept e n table rows ids costs moved) (i j : ℕ) (h : i < j) (g : j < n) where
+module _ {e : Scene} {n next : ℕ} {table ids : List ℕ} {rows : List Row} {costs : List Float} {moved : List Mark} (listed : IdTable n table) (s : Swept e n table rows next ids costs moved) (i j : ℕ) (h : i < j) (g : j < n) where
   pub stands_anew :
-      (new : List ℕ) → length new ≡ DETECTIONS →
+      {next' : ℕ} → next' ≡ next → (new : List ℕ) → length new ≡ DETECTIONS →
       ((x : ℕ) → 0 < x → (x ≡ get_or table i 0 → ⊥) → (x ≡ get_or table j 0 → ⊥) → row_on e new x ≡ row_on e ids x) →
       (v w : Float) → v ≡ cost_on e new (get_or table i 0) → w ≡ cost_on e new (get_or table j 0) →
-      Swept e n table rows new (set (set costs i v) j w) (set (set moved i ByPair) j ByPair)
-  stands_anew new l other v w p q =
+      Swept e n table rows next' new (set (set costs i v) j w) (set (set moved i ByPair) j ByPair)
+  stands_anew keeps new l other v w p q =
       record {
         costed = costed_anew listed s.costed i j h g new l other v w p q;
         entered = s.entered;
+        below = λ k b. omega (arith, s.below k b, keeps);
         marks = length-set (set moved i ByPair) j ByPair ∙ length-set moved i ByPair ∙ s.marks;
         same = λ k b z.
             let m = two-marks moved s.marks i j ByPair (omega (arith, listed.within)) (omega (arith, listed.within)) by_pair k z in

@@ -1,4 +1,5 @@
--- The detections of a row: the scans they lie in, and what a test of scans, a cut or a gap leaves of them. Assumes nothing.
+-- The detections of a row: the scans they lie in, and what a test of scans, a cut or a gap leaves of them. Assumes
+-- nothing.
 use Prim.Native.Nat.{ℕ, zero, suc, ◌+◌, ◌≤◌, ◌<◌}
 use native.Mathlib.Nat.{add-zero, zero-add, le_refl}
 use native.Mathlib.Omega.{arith}

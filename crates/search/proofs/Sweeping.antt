@@ -6,16 +6,16 @@ use mathlib.Core.Bool.{Bool, true, false, cond}
 use mathlib.Core.List.{List, [], ◌∷◌, map, foldl, foldl-append}
 use lib.ListN.{length}
 use Rattle.bounds.specs.Bounds.{DETECTIONS}
-use Rattle.engine.specs.Config.{radius}
 use Rattle.fgo_spec.specs.Lists.{keep, cons_if}
 use Rattle.fgo_spec.specs.Windows.{Scan, Prefix}
-use Rattle.fgo_spec.specs.Searching.{Search as Model, Pair, cons_pair, cuts, neighbours_of, neighbours, pair_step as on_pair, track_step as on_track, square}
+use Rattle.fgo_spec.specs.Searching.{Search as Model, Pair, cons_pair, cuts, neighbours_of, neighbours, pair_step as on_pair, track_step as on_track}
 use Rattle.fgo_spec.specs.Rule.{All}
 use Rattle.search_neighbours.specs.Near.{any_close}
 use Rattle.search_pair.specs.Pair.{cuts_of}
-use Rattle.search.specs.Pass.{Scene, Progress, row_on, close_on, pair_if, pair_step_on, track_step_on, sweep_one, sweep, visit}
+use Rattle.search.specs.Pass.{Scene, Progress, row_on, radius2_on, close_on, pair_if, pair_step_on, track_step_on, sweep_one, sweep, visit}
 use Rattle.search.proofs.Standing.{Standing, scans_now}
-use Rattle.search.proofs.IdsAscend.{Ascends, ascends_lower}
+use Rattle.search_rows.specs.Rows.{Ascends}
+use Rattle.search_rows.proofs.IdsAscend.{ascends_lower}
 use Rattle.search.proofs.CloseCuts.{filled, filled_map, filled_cuts, close_long}
 use Rattle.search.proofs.PassLaws.{PassLaws}
 use Rattle.search.proofs.Tying.{Tied, tied_less, pair_tied, track_tied, absent_tied}
@@ -56,7 +56,7 @@ module _ (e : Scene) (ps : List (ℕ × Prefix)) (ss : List Scan) (laws : PassLa
         listed = laws.cut_rows next is st a b ha (omega arith)
 
         noted : filled those ≡ any_close close
-        noted = filled_map (λ (k : ℕ). e.hall.first.0 + k) (cuts_of close) ∙ filled_cuts close (omega (arith, close_long (square (radius e.hall.config)) e.dots (row_on e is a) (row_on e is b)))
+        noted = filled_map (λ (k : ℕ). e.hall.first.0 + k) (cuts_of close) ∙ filled_cuts close (omega (arith, close_long (radius2_on e) e.dots (row_on e is a) (row_on e is b)))
 
         go : (d : Bool) → Tied e ss Out low p n (cond d (pair_step_on e close a b s) s) (cond d (moved those) q)
         go true = pair_tied e ps ss laws Out low p a b ha (omega arith) (λ d. omega arith) ua.0 ub.0 ua.1 ub.1 close n s q t

@@ -10,15 +10,13 @@ use mathlib.Core.Bool.{Bool, true, false, cond, ◌&&◌, true≢false}
 use mathlib.Core.List.{List}
 use lib.ListN.{get_or, take, drop}
 use lib.Ieee.{Float}
-use Rattle.engine.specs.Config.{radius}
 use Rattle.search_rows.specs.declared.moves.Tally.{Tally}
 use Rattle.search_rows.specs.Rows.{no_row, Tabled}
-use Rattle.fgo_spec.specs.Searching.{square}
 use Rattle.search_neighbours.specs.Near.{any_close, meets, row_at, close_rows}
 use Rattle.std.specs.Prelude.{is_some, is_none, Some, None}
 use Rattle.std.specs.Bool.{then_some}
 use Rattle.std.specs.Option.{unwrap_or}
-use Rattle.search.specs.Pass.{Scene, progress_of, row_on, close_on, pair_best, pair_step_on, pair_if, sweep_one, sweep, IdTable, Rests, Grows, Due, Swept}
+use Rattle.search.specs.Pass.{Scene, progress_of, row_on, radius2_on, close_on, pair_best, pair_step_on, pair_if, sweep_one, sweep, IdTable, Rests, Grows, Due, Swept}
 use Rattle.search.proofs.Listing.{listed_next, listed_end}
 use Rattle.search.proofs.Meeting.{table_row, table_close}
 use Rattle.search.proofs.Resting.{rest-passes, stay_rests, apart_rests, grows_on, rests_grow}
@@ -41,7 +39,7 @@ given_some : {A : Type 0} (x y : A) (b : Bool) → Some y ≡ then_some b x → 
 given_some x y true o = (refl, λ i. unwrap_or (o i) x)
 given_some x y false o = absurd (true≢false (ap is_some o))
 
-module _ {e : Scene} {n i j : ℕ} {table ids : List ℕ} {rows : List Row} {costs : List Float} {moved : List Mark} (t : Tally) (h : i < j) (g : j < n) (s : Swept e n table rows ids costs moved) where
+module _ {e : Scene} {n i j : ℕ} {table ids : List ℕ} {rows : List Row} {costs : List Float} {moved : List Mark} (t : Tally) (h : i < j) (g : j < n) (s : Swept e n table rows t.next_id.0 ids costs moved) where
   -- neither row changed since the pair was last looked at
   pub turn_rests :
       {due : List Mark} → Due e n table rows due → (get_or due i Resting ≡ Resting) × (get_or moved i Resting ≡ Resting) × (get_or due j Resting ≡ Resting) × (get_or moved j Resting ≡ Resting) →
@@ -59,10 +57,10 @@ module _ {e : Scene} {n i j : ℕ} {table ids : List ℕ} {rows : List Row} {cos
       (is : List ℕ) → Tabled e.starts is table n rows →
       (meets (get_or rows i no_row) (get_or rows j no_row) && any_close (close_on e (row_at rows i) (row_at rows j)))
       ≡ any_close (close_on e (row_on e is (get_or table i 0)) (row_on e is (get_or table j 0)))
-  is-close is b = table_close (square (radius e.hall.config)) e.dots b i j (omega arith) g
+  is-close is b = table_close (radius2_on e) e.dots b i j (omega arith) g
 
   -- they are close nowhere
-  pub turn_apart : None ≡ close_rows (square (radius e.hall.config)) e.dots (get_or rows i no_row) (get_or rows j no_row) → Turned e n i j table rows ids t ids moved t
+  pub turn_apart : None ≡ close_rows (radius2_on e) e.dots (get_or rows i no_row) (get_or rows j no_row) → Turned e n i j table rows ids t ids moved t
   turn_apart o is b =
       let c = close_on e (row_on e is (get_or table i 0)) (row_on e is (get_or table j 0)) in
       let z : any_close c ≡ false = sym (is-close is b) ∙ given_none _ _ o in (
@@ -76,7 +74,7 @@ module _ {e : Scene} {n i j : ℕ} {table ids : List ℕ} {rows : List Row} {cos
 
   -- its step is made
   pub turn_steps :
-      {close : List Bool} {ids' : List ℕ} {moved' : List Mark} {t' : Tally} → Some close ≡ close_rows (square (radius e.hall.config)) e.dots (get_or rows i no_row) (get_or rows j no_row) →
+      {close : List Bool} {ids' : List ℕ} {moved' : List Mark} {t' : Tally} → Some close ≡ close_rows (radius2_on e) e.dots (get_or rows i no_row) (get_or rows j no_row) →
       progress_of ids' t' ≡ pair_step_on e close (get_or table i 0) (get_or table j 0) (progress_of ids t) → Grows n moved moved' →
       (get_or moved' i Resting ≡ Resting → is_none (pair_best e close (get_or table i 0) (get_or table j 0) ids) ≡ true) → Turned e n i j table rows ids t ids' moved' t'
   turn_steps {close} o step grows stays is b =
@@ -99,7 +97,7 @@ module _ {e : Scene} {n i j : ℕ} {table ids : List ℕ} {rows : List Row} {cos
 pub record SweptOne (e : Scene) (n i : ℕ) (table : List ℕ) (rows : List Row) (ids₀ : List ℕ) (moved₀ : List Mark) (t₀ : Tally) (ids : List ℕ) (costs : List Float) (moved : List Mark) (t : Tally) (j : ℕ) : Type 0 where
   pub after : i < j
   pub within : j ≤ n
-  pub stands : Swept e n table rows ids costs moved
+  pub stands : Swept e n table rows t.next_id.0 ids costs moved
   pub grows : Grows n moved₀ moved
   pub left :
       (is : List ℕ) → Tabled e.starts is table n rows →
@@ -110,7 +108,7 @@ module _ {e : Scene} {n i : ℕ} {table ids₀ : List ℕ} {rows : List Row} {mo
   module _ {ids : List ℕ} {costs : List Float} {moved : List Mark} {t : Tally} {j : ℕ} (o : SweptOne e n i table rows ids₀ moved₀ t₀ ids costs moved t j) where
     pub one_next :
         {ids' : List ℕ} {costs' : List Float} {moved' : List Mark} {t' : Tally} → j < n → Turned e n i j table rows ids t ids' moved' t' →
-        Swept e n table rows ids' costs' moved' → Grows n moved moved' → SweptOne e n i table rows ids₀ moved₀ t₀ ids' costs' moved' t' (j + 1)
+        Swept e n table rows t'.next_id.0 ids' costs' moved' → Grows n moved moved' → SweptOne e n i table rows ids₀ moved₀ t₀ ids' costs' moved' t' (j + 1)
     unfolding sweep_one
     one_next {moved'} h turn s g =
         record {
@@ -144,7 +142,7 @@ module _ {e : Scene} {n i : ℕ} {table ids₀ : List ℕ} {rows : List Row} {mo
 -- the ids before place i are done, each with all after it
 pub record SweptAll (e : Scene) (n : ℕ) (table : List ℕ) (rows : List Row) (ids₀ : List ℕ) (t₀ : Tally) (ids : List ℕ) (costs : List Float) (moved : List Mark) (t : Tally) (i : ℕ) : Type 0 where
   pub within : i ≤ n
-  pub stands : Swept e n table rows ids costs moved
+  pub stands : Swept e n table rows t.next_id.0 ids costs moved
   pub left :
       (is : List ℕ) → Tabled e.starts is table n rows →
       (sweep e is (take n table) (progress_of ids₀ t₀) ≡ sweep e is (drop i (take n table)) (progress_of ids t))
@@ -156,7 +154,7 @@ module _ {e : Scene} {n : ℕ} {table ids₀ : List ℕ} {rows : List Row} {t₀
         {ids' : List ℕ} {costs' : List Float} {moved' : List Mark} {t' : Tally} → i < n →
         ((is : List ℕ) → Tabled e.starts is table n rows →
         (progress_of ids' t' ≡ sweep_one e is (get_or table i 0) (drop (i + 1) (take n table)) (progress_of ids t)) × ((k : ℕ) → i < k → k < n → Rests e table rows moved' i k)) →
-        Swept e n table rows ids' costs' moved' → Grows n moved moved' → SweptAll e n table rows ids₀ t₀ ids' costs' moved' t' (i + 1)
+        Swept e n table rows t'.next_id.0 ids' costs' moved' → Grows n moved moved' → SweptAll e n table rows ids₀ t₀ ids' costs' moved' t' (i + 1)
     unfolding sweep
     all-step {moved'} h step s g =
         record {

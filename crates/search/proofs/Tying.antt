@@ -73,7 +73,8 @@ abbrev pub model_of : Scene → List Scan → Progress → Model
 model_of e ss s = record { scans = scans_now e ss s.ids; next_id = s.tally.next_id.0; counters = s.tally.counters; moved = s.tally.moved }
 
 module _ (e : Scene) (ss : List Scan) (Out : ℕ → Type 0) (low p : ℕ) where
-  -- fgo_spec's search m is that of s; ids below low are in use; p passes have begun; there is room for n more moves; ids of Out stand nowhere
+  -- fgo_spec's search m is that of s; ids below low are in use; p passes have begun; there is room for n more moves;
+  -- ids of Out stand nowhere
   pub record Tied (n : ℕ) (s : Progress) (m : Model) : Type 0 where
     pub same : m ≡ model_of e ss s
     pub stands : Standing e s.tally.next_id.0 ss s.ids

@@ -4,7 +4,6 @@ use Rattle.search.specs.declared.marks.Mark.{Mark}
 use Rattle.search.specs.declared.marks.Mark.TheVariants.{Resting, ByTrack}
 use Rattle.std.specs.Prelude.{◌≢◌}
 use Prim.Native.Nat.{ℕ, ◌+◌, ◌≤◌, ◌<◌}
-use native.Mathlib.Nat.{le_trans}
 use native.Mathlib.Decide.{ℕ_discrete}
 use native.Mathlib.Omega.{arith}
 use mathlib.Core.Path.{◌≡◌, refl, sym, ap, ◌∙◌, subst}
@@ -24,8 +23,8 @@ use Rattle.search.proofs.Resting.{track_passes, grows_on}
 
 -- ---- the step of a track
 
-module _ {e : Scene} {i a : ℕ} {base : Float} {ids : List ℕ} {costs : List Float} {moved : List Mark} (all : length ids ≡ DETECTIONS) (long : length costs ≡ DETECTIONS) (marks : length moved ≡ DETECTIONS) where
-  pub stepped_none : base ≡ cost_on e ids a → track_rest e a (row_on e ids a) ≡ true → TrackStepped e i a base ids costs moved ids costs moved
+module _ {e : Scene} {i a : ℕ} {ids : List ℕ} {costs : List Float} {moved : List Mark} (all : length ids ≡ DETECTIONS) (long : length costs ≡ DETECTIONS) (marks : length moved ≡ DETECTIONS) where
+  pub stepped_none : get_or costs i nan ≡ cost_on e ids a → track_rest e a (row_on e ids a) ≡ true → TrackStepped e i a ids costs moved ids costs moved
   stepped_none q r =
       record {
         all = all;
@@ -33,44 +32,40 @@ module _ {e : Scene} {i a : ℕ} {base : Float} {ids : List ℕ} {costs : List F
         marks = marks;
         costs_other = λ k n. refl;
         marks_other = λ k n. refl;
-        cost = λ p. p ∙ q;
+        cost = q;
         unmarked = λ z. (z, refl);
         rested = λ z. r;
       }
 
 -- ---- a turn of the loop
 
-module _ {e : Scene} {n : ℕ} {table : List ℕ} {rows : List Row} {next i : ℕ} {ids : List ℕ} {costs : List Float} {moved : List Mark} (listed : IdTable n table) (h : i < n) (v : Visits e n table rows next i ids costs moved) where
+module _ {e : Scene} {n : ℕ} {table : List ℕ} {rows : List Row} {i : ℕ} {ids : List ℕ} {costs : List Float} {moved : List Mark} (t : Tally) (listed : IdTable n table) (h : i < n) (v : Visits e n table rows i t.next_id.0 ids costs moved) where
   -- its row did not change since it was last visited
   pub visits_past :
-      {due : List Mark} (t : Tally) → Due e n table rows due → get_or table i 0 < next → (get_or due i Resting ≢ ByTrack) × (get_or moved i Resting ≡ Resting) →
-      (progress_of ids t ≡ track_step_on e (get_or table i 0) (progress_of ids t)) × Visits e n table rows next (i + 1) ids costs moved
-  visits_past t d b m = (
+      {due : List Mark} → Due e n table rows due → (get_or due i Resting ≢ ByTrack) × (get_or moved i Resting ≡ Resting) →
+      (progress_of ids t ≡ track_step_on e (get_or table i 0) (progress_of ids t)) × Visits e n table rows (i + 1) t.next_id.0 ids costs moved
+  visits_past d m = (
     track_passes e (get_or table i 0) ids t rest,
-    record {
-      all = v.all;
-      long = v.long;
-      marks = v.marks;
-      costed = v.costed;
-      same = v.same;
-      rested = λ k l below z. rested k l below z (ℕ_discrete k i);
-    },
+    record { swept = v.swept; rested = λ k l z. rested k l z (ℕ_discrete k i) },
   )
     where
       rest : track_rest e (get_or table i 0) (row_on e ids (get_or table i 0)) ≡ true
-      rest = ap (track_rest e (get_or table i 0)) (v.same i h b m.1) ∙ d.track i h m.0
+      rest = ap (track_rest e (get_or table i 0)) (v.swept.same i h m.1) ∙ d.track i h m.0
 
-      rested : (k : ℕ) → k < i + 1 → get_or table k 0 < next → get_or moved k Resting ≢ ByTrack → Dec (k ≡ i) → track_rest e (get_or table k 0) (row_on e ids (get_or table k 0)) ≡ true
-      rested k l below z (yes q) = ap (λ (m : ℕ). track_rest e (get_or table m 0) (row_on e ids (get_or table m 0))) q ∙ rest
-      rested k l below z (no q) = v.rested k (omega arith) below z
+      rested : (k : ℕ) → k < i + 1 → get_or moved k Resting ≢ ByTrack → Dec (k ≡ i) → track_rest e (get_or table k 0) (row_on e ids (get_or table k 0)) ≡ true
+      rested k l z (yes q) = ap (λ (m : ℕ). track_rest e (get_or table m 0) (row_on e ids (get_or table m 0))) q ∙ rest
+      rested k l z (no q) = v.rested k (omega arith) z
 
   -- its step was made
-  module _ (t : Tally) {t' : Tally} {base : Float} {ids' : List ℕ} {costs' : List Float} {moved' : List Mark} (begins : Starts e.starts) (from : next ≤ t.next_id.0) (step : progress_of ids' t' ≡ track_step_on e (get_or table i 0) (progress_of ids t)) (s : TrackStepped e i (get_or table i 0) base ids costs moved ids' costs' moved') where
+  module _ {t' : Tally} {ids' : List ℕ} {costs' : List Float} {moved' : List Mark} (begins : Starts e.starts) (step : progress_of ids' t' ≡ track_step_on e (get_or table i 0) (progress_of ids t)) (s : TrackStepped e i (get_or table i 0) ids costs moved ids' costs' moved') where
+    others : ((x : ℕ) → 0 < x → (x ≡ get_or table i 0 → ⊥) → x < t.next_id.0 → row_on e ids' x ≡ row_on e ids x) × (t.next_id.0 ≤ t'.next_id.0)
+    others =
+        subst (λ (p : Progress). ((x : ℕ) → 0 < x → (x ≡ get_or table i 0 → ⊥) → x < t.next_id.0 → row_on e p.ids x ≡ row_on e ids x) × (t.next_id.0 ≤ p.tally.next_id.0)) (sym step)
+        (track_step_other e begins (get_or table i 0) (progress_of ids t) v.swept.costed.all)
+
     -- the rows of the others are as before
-    others : (k : ℕ) → k < n → get_or table k 0 < next → (k ≡ i → ⊥) → row_on e ids' (get_or table k 0) ≡ row_on e ids (get_or table k 0)
-    others k b below q =
-        ap (λ (s : Progress). row_on e s.ids (get_or table k 0)) step
-        ∙ (track_step_other e begins (get_or table i 0) (progress_of ids t) v.all).0 (get_or table k 0) (listed.above k b) (listed_apart listed k i b h q) (le_trans below from)
+    other : (k : ℕ) → k < n → (k ≡ i → ⊥) → row_on e ids' (get_or table k 0) ≡ row_on e ids (get_or table k 0)
+    other k b q = others.0 (get_or table k 0) (listed.above k b) (listed_apart listed k i b h q) (omega (arith, v.swept.below k b))
 
     pub visits_grow : Grows n moved moved'
     visits_grow = record { back = λ k b z. go k z (ℕ_discrete k i) }
@@ -79,38 +74,38 @@ module _ {e : Scene} {n : ℕ} {table : List ℕ} {rows : List Row} {next i : �
         go k z (yes q) = ap (λ (m : ℕ). get_or moved m Resting) q ∙ (s.unmarked (sym (ap (λ (m : ℕ). get_or moved' m Resting) q) ∙ z)).0
         go k z (no q) = sym (s.marks_other k q) ∙ z
 
-    costed-on : (k : ℕ) → k < n → get_or table k 0 < next → (get_or table i 0 < next → get_or costs i nan ≡ base) → Dec (k ≡ i) → get_or costs' k nan ≡ cost_on e ids' (get_or table k 0)
-    costed-on k b below paid (yes q) =
-        ap (λ (m : ℕ). get_or costs' m nan) q
-        ∙ s.cost (paid (subst (λ (m : ℕ). get_or table m 0 < next) q below))
-        ∙ ap (λ (m : ℕ). cost_on e ids' (get_or table m 0)) (sym q)
-    costed-on k b below paid (no q) = s.costs_other k q ∙ v.costed k b below ∙ sym (cost-stays e ids' ids (get_or table k 0) (others k b below q))
+    costed-on : (k : ℕ) → k < n → Dec (k ≡ i) → get_or costs' k nan ≡ cost_on e ids' (get_or table k 0)
+    costed-on k b (yes q) = ap (λ (m : ℕ). get_or costs' m nan) q ∙ s.cost ∙ ap (λ (m : ℕ). cost_on e ids' (get_or table m 0)) (sym q)
+    costed-on k b (no q) = s.costs_other k q ∙ v.swept.costed.each k b ∙ sym (cost-stays e ids' ids (get_or table k 0) (other k b q))
 
-    same-on : (k : ℕ) → k < n → get_or table k 0 < next → get_or moved' k Resting ≡ Resting → Dec (k ≡ i) → row_on e ids' (get_or table k 0) ≡ row_at rows k
-    same-on k b below z (yes q) =
+    same-on : (k : ℕ) → k < n → get_or moved' k Resting ≡ Resting → Dec (k ≡ i) → row_on e ids' (get_or table k 0) ≡ row_at rows k
+    same-on k b z (yes q) =
         ap (λ (m : ℕ). row_on e ids' (get_or table m 0)) q
         ∙ (s.unmarked (sym (ap (λ (m : ℕ). get_or moved' m Resting) q) ∙ z)).1
         ∙ ap (λ (m : ℕ). row_on e ids (get_or table m 0)) (sym q)
-        ∙ v.same k b below (visits_grow.back k b z)
-    same-on k b below z (no q) = others k b below q ∙ v.same k b below (visits_grow.back k b z)
+        ∙ v.swept.same k b (visits_grow.back k b z)
+    same-on k b z (no q) = other k b q ∙ v.swept.same k b (visits_grow.back k b z)
 
-    rested-on : (k : ℕ) → k < i + 1 → get_or table k 0 < next → get_or moved' k Resting ≢ ByTrack → Dec (k ≡ i) → track_rest e (get_or table k 0) (row_on e ids' (get_or table k 0)) ≡ true
-    rested-on k l below z (yes q) =
+    rested-on : (k : ℕ) → k < i + 1 → get_or moved' k Resting ≢ ByTrack → Dec (k ≡ i) → track_rest e (get_or table k 0) (row_on e ids' (get_or table k 0)) ≡ true
+    rested-on k l z (yes q) =
         ap (λ (m : ℕ). track_rest e (get_or table m 0) (row_on e ids' (get_or table m 0))) q
         ∙ s.rested (subst (λ (m : ℕ). get_or moved' m Resting ≢ ByTrack) q z)
-    rested-on k l below z (no q) =
-        ap (track_rest e (get_or table k 0)) (others k (omega arith) below q)
-        ∙ v.rested k (omega arith) below (subst (λ (m : Mark). m ≢ ByTrack) (s.marks_other k q) z)
+    rested-on k l z (no q) =
+        ap (track_rest e (get_or table k 0)) (other k (omega arith) q)
+        ∙ v.rested k (omega arith) (subst (λ (m : Mark). m ≢ ByTrack) (s.marks_other k q) z)
 
-    pub visits_on : (get_or table i 0 < next → get_or costs i nan ≡ base) → Visits e n table rows next (i + 1) ids' costs' moved'
-    visits_on paid =
+    pub visits_on : Visits e n table rows (i + 1) t'.next_id.0 ids' costs' moved'
+    visits_on =
         record {
-          all = s.all;
-          long = s.long;
-          marks = s.marks;
-          costed = λ k b below. costed-on k b below paid (ℕ_discrete k i);
-          same = λ k b below z. same-on k b below z (ℕ_discrete k i);
-          rested = λ k l below z. rested-on k l below z (ℕ_discrete k i);
+          swept =
+              record {
+                below = λ k b. omega (arith, v.swept.below k b, others.1);
+                costed = record { all = s.all; long = s.long; each = λ k b. costed-on k b (ℕ_discrete k i) };
+                entered = v.swept.entered;
+                marks = s.marks;
+                same = λ k b z. same-on k b z (ℕ_discrete k i);
+              };
+          rested = λ k l z. rested-on k l z (ℕ_discrete k i);
         }
 
 -- ---- the loop
@@ -118,22 +113,20 @@ module _ {e : Scene} {n : ℕ} {table : List ℕ} {rows : List Row} {next i : �
 -- those before place i are done
 pub record Visited (e : Scene) (n : ℕ) (table : List ℕ) (rows : List Row) (ids₀ : List ℕ) (moved₀ : List Mark) (t₀ : Tally) (ids : List ℕ) (costs : List Float) (moved : List Mark) (t : Tally) (i : ℕ) : Type 0 where
   pub within : i ≤ n
-  pub from : t₀.next_id.0 ≤ t.next_id.0
-  pub visits : Visits e n table rows t₀.next_id.0 i ids costs moved
+  pub visits : Visits e n table rows i t.next_id.0 ids costs moved
   pub grows : Grows n moved₀ moved
   pub left : visit e (take n table) (progress_of ids₀ t₀) ≡ visit e (drop i (take n table)) (progress_of ids t)
 
 module _ {e : Scene} {n : ℕ} {table ids₀ : List ℕ} {rows : List Row} {moved₀ : List Mark} {t₀ : Tally} (listed : IdTable n table) where
   module _ {ids : List ℕ} {costs : List Float} {moved : List Mark} {t : Tally} {i : ℕ} (o : Visited e n table rows ids₀ moved₀ t₀ ids costs moved t i) where
     pub visit-step :
-        {ids' : List ℕ} {costs' : List Float} {moved' : List Mark} {t' : Tally} → Starts e.starts → i < n →
-        progress_of ids' t' ≡ track_step_on e (get_or table i 0) (progress_of ids t) → Visits e n table rows t₀.next_id.0 (i + 1) ids' costs' moved' → Grows n moved moved' →
+        {ids' : List ℕ} {costs' : List Float} {moved' : List Mark} {t' : Tally} → i < n →
+        progress_of ids' t' ≡ track_step_on e (get_or table i 0) (progress_of ids t) → Visits e n table rows (i + 1) t'.next_id.0 ids' costs' moved' → Grows n moved moved' →
         Visited e n table rows ids₀ moved₀ t₀ ids' costs' moved' t' (i + 1)
     unfolding visit
-    visit-step begins h step v g =
+    visit-step h step v g =
         record {
           within = omega arith;
-          from = le_trans o.from (subst (λ (s : Progress). t.next_id.0 ≤ s.tally.next_id.0) (sym step) (track_step_other e begins (get_or table i 0) (progress_of ids t) o.visits.all).1);
           visits = v;
           grows = grows_on o.grows g;
           left =
@@ -142,11 +135,11 @@ module _ {e : Scene} {n : ℕ} {table ids₀ : List ℕ} {rows : List Row} {move
               ∙ ap (visit e (drop (i + 1) (take n table))) (sym step);
         }
 
-    pub visit_done : n ≤ i → (progress_of ids t ≡ visit e (take n table) (progress_of ids₀ t₀)) × Visits e n table rows t₀.next_id.0 n ids costs moved × Grows n moved₀ moved
+    pub visit_done : n ≤ i → (progress_of ids t ≡ visit e (take n table) (progress_of ids₀ t₀)) × Visits e n table rows n t.next_id.0 ids costs moved × Grows n moved₀ moved
     unfolding visit
     visit_done h =
         let q : i ≡ n = omega (arith, o.within) in (
           sym (o.left ∙ ap (λ (l : List ℕ). visit e l (progress_of ids t)) (ap (λ (k : ℕ). drop k (take n table)) q ∙ listed_end listed)),
-          subst (λ (k : ℕ). Visits e n table rows t₀.next_id.0 k ids costs moved) q o.visits,
+          subst (λ (k : ℕ). Visits e n table rows k t.next_id.0 ids costs moved) q o.visits,
           o.grows,
         )

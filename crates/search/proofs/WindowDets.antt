@@ -1,4 +1,5 @@
--- A window whose detections are a row's: its parts have those of the row's parts, and two joined those of the merged rows. Assumes nothing.
+-- A window whose detections are a row's: its parts have those of the row's parts, and two joined those of the merged
+-- rows. Assumes nothing.
 use Prim.Native.Nat.{ℕ, zero, suc, ◌+◌, ◌≤◌}
 use native.Mathlib.Nat.{add-suc}
 use native.Mathlib.Omega.{arith}

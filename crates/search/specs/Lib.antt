@@ -1,4 +1,5 @@
 pub mod Pass
 pub mod Lent
+pub mod Extents
 pub mod Represents
 pub mod Stands

@@ -1,5 +1,5 @@
 -- The passes of the search over the gathered ids: the pairs, then the tracks. Definitions only.
-use Rattle.std.specs.Prelude.{ℕ, zero, suc, ◌≤◌, ◌<◌, ◌≡◌, ◌≢◌, Bool, true, false}
+use Rattle.std.specs.Prelude.{ℕ, ◌≤◌, ◌<◌, ◌≡◌, ◌≢◌, Bool, true}
 use Rattle.std.specs.Prelude.{cond, List, [], ◌∷◌, length, get_or, Float, Option, Some, None, is_none}
 use Rattle.std.specs.Float.{nan, binary64}
 use Rattle.std.specs.Float.Ieee.{add}
@@ -73,9 +73,13 @@ row_on e ids x = row_of e.starts ids x
 abbrev pub cost_on : Scene → List ℕ → ℕ → Float
 cost_on e ids x = row_cost e.hall.config (view_on e) (fold_on e x) (row_on e ids x)
 
+-- "radius²"
+abbrev pub radius2_on : Scene → Float
+radius2_on e = square (radius e.hall.config)
+
 -- the scans in which two rows are close
 abbrev pub close_on : Scene → List ℕ → List ℕ → List Bool
-close_on e a b = close_scans (square (radius e.hall.config)) e.dots a b
+close_on e a b = close_scans (radius2_on e) e.dots a b
 
 -- ---- a pair
 
@@ -141,12 +145,6 @@ pass_over e s =
     let l = present_in e.hall.detections s.ids in
     visit e l (sweep e s.ids l (progress_of s.ids (begun s.tally)))
 
--- "The passes end when max_passes have run or when one made no move"
-unfoldable pub passes_over : Scene → ℕ → Progress → Bool → Progress
-passes_over e zero s moved = s
-passes_over e (suc n) s false = s
-passes_over e (suc n) s true = let t = pass_over e s in passes_over e n t t.tally.moved
-
 -- ---- what the inner functions ask
 
 -- n ids above 0, ascending
@@ -185,67 +183,61 @@ pub record Rests (e : Scene) (table : List ℕ) (rows : List Row) (marks : List 
 pub record Grows (n : ℕ) (marks marks' : List Mark) : Type 0 where
   pub back : (k : ℕ) → k < n → get_or marks' k Resting ≡ Resting → get_or marks k Resting ≡ Resting
 
--- by the rows at the beginning of the pass: where nothing is due neither the pairs nor the track need a look, and the track needs none either where only its
--- pairs are due
+-- by the rows at the beginning of the pass: where nothing is due neither the pairs nor the track need a look, and the
+-- track needs none either where only its pairs are due
 pub record Due (e : Scene) (n : ℕ) (table : List ℕ) (rows : List Row) (due : List Mark) : Type 0 where
   pub long : length due ≡ DETECTIONS
   pub pair : (i j : ℕ) → i < j → j < n → Rests e table rows due i j
   pub track : (i : ℕ) → i < n → get_or due i Resting ≢ ByTrack → track_rest e (get_or table i 0) (row_at rows i) ≡ true
 
--- where the pairs are swept: costs kept, the table of rows, and at each place that did not move in this pass its row
-pub record Swept (e : Scene) (n : ℕ) (table : List ℕ) (rows : List Row) (ids : List ℕ) (costs : List Float) (moved : List Mark) : Type 0 where
+-- where the pairs are swept: the ids listed are below the next one; what each costs is kept; the table of rows says
+-- where each begins and ends, and has the row as it is now of each place that did not move in this pass
+pub record Swept (e : Scene) (n : ℕ) (table : List ℕ) (rows : List Row) (next : ℕ) (ids : List ℕ)
+    (costs : List Float) (moved : List Mark) : Type 0 where
+  pub below : (k : ℕ) → k < n → get_or table k 0 < next
   pub costed : Costed e n table ids costs
   pub entered : (k : ℕ) → k < n → Entered (get_or rows k no_row)
   pub marks : length moved ≡ DETECTIONS
   pub same : (k : ℕ) → k < n → get_or moved k Resting ≡ Resting → row_on e ids (get_or table k 0) ≡ row_at rows k
 
--- where the tracks before place i have been visited: the same of each id below next, which no other track is given meanwhile
-pub record Visits (e : Scene) (n : ℕ) (table : List ℕ) (rows : List Row) (next i : ℕ) (ids : List ℕ)
+-- where the tracks before place i have been visited: the same still, since a split gives its tail the next id, which
+-- none listed has; and those before place i that their own step did not move have nothing to move
+pub record Visits (e : Scene) (n : ℕ) (table : List ℕ) (rows : List Row) (i next : ℕ) (ids : List ℕ)
     (costs : List Float) (moved : List Mark) : Type 0 where
-  pub all : length ids ≡ DETECTIONS
-  pub long : length costs ≡ DETECTIONS
-  pub marks : length moved ≡ DETECTIONS
-  pub costed : (k : ℕ) → k < n → get_or table k 0 < next → get_or costs k nan ≡ cost_on e ids (get_or table k 0)
-  pub same : (k : ℕ) → k < n → get_or table k 0 < next → get_or moved k Resting ≡ Resting → row_on e ids (get_or table k 0) ≡ row_at rows k
-  pub rested : (k : ℕ) → k < i → get_or table k 0 < next → get_or moved k Resting ≢ ByTrack →
-      track_rest e (get_or table k 0) (row_on e ids (get_or table k 0)) ≡ true
+  pub swept : Swept e n table rows next ids costs moved
+  pub rested : (k : ℕ) → k < i → get_or moved k Resting ≢ ByTrack → track_rest e (get_or table k 0) (row_on e ids (get_or table k 0)) ≡ true
 
 -- the step of the track a at place i: its own cost and mark, and no other's
-pub record TrackStepped (e : Scene) (i a : ℕ) (base : Float) (ids : List ℕ) (costs : List Float) (moved : List Mark)
+pub record TrackStepped (e : Scene) (i a : ℕ) (ids : List ℕ) (costs : List Float) (moved : List Mark)
     (ids' : List ℕ) (costs' : List Float) (moved' : List Mark) : Type 0 where
   pub all : length ids' ≡ DETECTIONS
   pub long : length costs' ≡ DETECTIONS
   pub marks : length moved' ≡ DETECTIONS
   pub costs_other : (k : ℕ) → (k ≡ i → ⊥) → get_or costs' k nan ≡ get_or costs k nan
   pub marks_other : (k : ℕ) → (k ≡ i → ⊥) → get_or moved' k Resting ≡ get_or moved k Resting
-  pub cost : get_or costs i nan ≡ base → get_or costs' i nan ≡ cost_on e ids' a
+  pub cost : get_or costs' i nan ≡ cost_on e ids' a
   pub unmarked : get_or moved' i Resting ≡ Resting → (get_or moved i Resting ≡ Resting) × (row_on e ids' a ≡ row_on e ids a)
   pub rested : get_or moved' i Resting ≢ ByTrack → track_rest e a (row_on e ids' a) ≡ true
 
--- what a pass leaves of the ids that it listed, those below next: their costs; and where a place did not move, nothing to move
-pub record Left (e : Scene) (n next : ℕ) (table ids : List ℕ) (costs : List Float) (moved : List Mark) : Type 0 where
+-- what a pass leaves of the ids that it listed: their costs; and where a place did not move, nothing to move
+pub record Left (e : Scene) (n : ℕ) (table ids : List ℕ) (costs : List Float) (moved : List Mark) : Type 0 where
   pub listed : IdTable n table
-  pub all : length ids ≡ DETECTIONS
-  pub long : length costs ≡ DETECTIONS
+  pub costed : Costed e n table ids costs
   pub marks : length moved ≡ DETECTIONS
-  pub costed : (k : ℕ) → k < n → get_or table k 0 < next → get_or costs k nan ≡ cost_on e ids (get_or table k 0)
-  pub pair : (i j : ℕ) → i < j → j < n → get_or table i 0 < next → get_or table j 0 < next →
-      get_or moved i Resting ≡ Resting → get_or moved j Resting ≡ Resting →
+  pub pair : (i j : ℕ) → i < j → j < n → get_or moved i Resting ≡ Resting → get_or moved j Resting ≡ Resting →
       pair_rest e (get_or table i 0) (get_or table j 0) (row_on e ids (get_or table i 0)) (row_on e ids (get_or table j 0)) ≡ true
-  pub track : (k : ℕ) → k < n → get_or table k 0 < next → get_or moved k Resting ≢ ByTrack →
-      track_rest e (get_or table k 0) (row_on e ids (get_or table k 0)) ≡ true
+  pub track : (k : ℕ) → k < n → get_or moved k Resting ≢ ByTrack → track_rest e (get_or table k 0) (row_on e ids (get_or table k 0)) ≡ true
 
 -- the id x stood at a place of the last pass, with the mark m
-pub record From (n next : ℕ) (old : List ℕ) (moved : List Mark) (x : ℕ) (m : Mark) : Type 0 where
+pub record From (n : ℕ) (old : List ℕ) (moved : List Mark) (x : ℕ) (m : Mark) : Type 0 where
   pub place : ℕ
   pub within : place < n
-  pub below : x < next
   pub is : get_or old place 0 ≡ x
   pub mark : get_or moved place Resting ≡ m
 
 -- the first i places of a pass that begins: what they cost, and what is due of those that stood in the last
-pub record Carried (e : Scene) (n next : ℕ) (old : List ℕ) (moved : List Mark) (table ids : List ℕ)
+pub record Carried (e : Scene) (n : ℕ) (old : List ℕ) (moved : List Mark) (table ids : List ℕ)
     (i : ℕ) (costs : List Float) (due : List Mark) : Type 0 where
   pub costed : Costed e i table ids costs
   pub long : length due ≡ DETECTIONS
-  pub from : (k : ℕ) → k < i → get_or due k Resting ≢ ByTrack → From n next old moved (get_or table k 0) (get_or due k Resting)
+  pub from : (k : ℕ) → k < i → get_or due k Resting ≢ ByTrack → From n old moved (get_or table k 0) (get_or due k Resting)

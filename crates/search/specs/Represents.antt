@@ -49,6 +49,10 @@ pub record Represents (e : Scene) (next : ℕ) (k : FgoCounters) (ids : List ℕ
   pub passes : max_passes_of e.hall.config ≤ PASSES
   pub spare : Spare next k
 
+-- there are held scans and frozen parts of which the detections were gathered
+abbrev pub Searchable : Scene → ℕ → FgoCounters → List ℕ → Type 0
+Searchable e next k ids = (ps : List (ℕ × Prefix)) × ((ss : List Scan) × Represents e next k ids ps ss)
+
 -- what the search finds is fgo_spec's: its scans, next id, counters, passes, and whether the last one moved
 pub record Finds (e : Scene) (next : ℕ) (k : FgoCounters) (ps : List (ℕ × Prefix)) (ss : List Scan) (ids : List ℕ) (t : Tally) : Type 0 where
   pub scans : (improve e.hall.config e.hall.first.0 ps ss next k).search.scans ≡ put_back e.starts ids 0 ss

@@ -1,6 +1,7 @@
 -- How a pass stands, by what it is lent and what goes on changing in it. Definitions only.
-use Rattle.std.specs.Prelude.{ℕ, List, get_or, take}
-use Rattle.search_rows.specs.Rows.{Tabled}
+use Rattle.std.specs.Prelude.{ℕ, ◌<◌, List, get_or, take}
+use Rattle.fgo_spec.specs.Rule.{All}
+use Rattle.search_rows.specs.Rows.{present_in, Tabled}
 use Rattle.search.specs.declared.marks.Mark.{Mark}
 use Rattle.search.specs.declared.tables.PassState.{PassState}
 use Rattle.search.specs.declared.listed.Pass.{Pass}
@@ -15,7 +16,11 @@ progress_in c = progress_of c.ids c.tally
 
 -- the last pass has left it so
 abbrev pub LeftIn : SceneRef → Listing → PassState → Type 0
-LeftIn s l c = Left (scene_in s) l.count c.first_given.0 l.table c.ids c.costs c.moved
+LeftIn s l c = Left (scene_in s) l.count l.table c.ids c.costs c.moved
+
+-- the ids that have a window are below the next one
+abbrev pub KnownIn : SceneRef → PassState → Type 0
+KnownIn s c = All (λ x. x < c.tally.next_id.0) (present_in s.detections c.ids)
 
 -- the scene that a pass goes over
 abbrev pub scene_under : Pass → Scene
@@ -39,8 +44,8 @@ RestsIn p marks i j = Rests (scene_under p) p.list.now.table p.list.now.rows mar
 
 -- its pairs are being swept
 abbrev pub SweptIn : Pass → PassState → Type 0
-SweptIn p c = Swept (scene_under p) p.list.now.count p.list.now.table p.list.now.rows c.ids c.costs c.moved
+SweptIn p c = Swept (scene_under p) p.list.now.count p.list.now.table p.list.now.rows c.tally.next_id.0 c.ids c.costs c.moved
 
 -- its tracks before place i have been visited
-abbrev pub VisitsIn : Pass → ℕ → ℕ → PassState → Type 0
-VisitsIn p next i c = Visits (scene_under p) p.list.now.count p.list.now.table p.list.now.rows next i c.ids c.costs c.moved
+abbrev pub VisitsIn : Pass → ℕ → PassState → Type 0
+VisitsIn p i c = Visits (scene_under p) p.list.now.count p.list.now.table p.list.now.rows i c.tally.next_id.0 c.ids c.costs c.moved

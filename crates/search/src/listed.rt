@@ -1,18 +1,22 @@
 // What a pass lists, and the rows of it as they are now.
 ghost use Rattle.std.specs.Prelude.{◌≡◌};
-ghost use Rattle.search.specs.Pass.{IdTable, Due};
+ghost use Rattle.search.specs.Pass.{radius2_on, IdTable, Due};
+ghost use Rattle.search.specs.Extents.{EnclosesEach};
 ghost use Rattle.search.specs.Lent.{scene_in};
 
 use crate::marks::Mark;
 use crate::scene::SceneRef;
 use bounds::{DETECTIONS, SCANS};
 use engine::types::RefinedId;
+use search_neighbours::extent::{Extent, Span};
 use search_rows::rows::Row;
 use std::array::from_fn;
 
-// What a pass lists and does not change: how many ids have a window, these, ascending, their rows, and what is due of each.
-// As it is: the ids, their rows and what is due stand beside each other. As structs they are no plainer: `present` sorts ids alone, `place_from` seeks among
-// them, the next pass keeps them alone, and the definitions compare them as a list; each of these would first take the ids out of the structs.
+// What a pass lists and does not change: how many ids have a window, these, ascending, their rows, and what is due of
+// each.
+// As it is: the ids, their rows and what is due stand beside each other. As structs they are no plainer: `present`
+// sorts ids alone, `place_from` seeks among them, the next pass keeps them alone, and the definitions compare them as a
+// list; each of these would first take the ids out of the structs.
 #[derive(Drop)]
 pub struct Listing {
     pub count: usize,
@@ -21,13 +25,20 @@ pub struct Listing {
     pub due: [Mark; DETECTIONS],
 }
 
-// A pass over a scene, with what it lists. The ids ascend, and what is due is so by their rows.
+// A pass over a scene, with what it lists, the extents of the rows along x and along y, and the square of the radius
+// within which detections of a pair are close. The ids ascend, what is due is so by their rows, and each extent holds
+// the detections of its row.
 #[derive(Drop)]
 pub struct Pass<'a> {
     pub scene: &'a SceneRef<'a>,
     pub list: &'a Listing,
+    pub xs: &'a [Span; DETECTIONS],
+    pub ys: &'a [Span; DETECTIONS],
+    pub radius2: f64,
+    pub ghost squared: { radius2 ≡ radius2_on (scene_in scene.now) },
     pub ghost ids: { IdTable list.now.count list.now.table },
     pub ghost due: { Due (scene_in scene.now) list.now.count list.now.table list.now.rows list.now.due },
+    pub ghost enclosed: { EnclosesEach (scene_in scene.now).dots list.now.count list.now.rows xs.now ys.now },
 }
 
 // The entries of a row, as places.
@@ -41,6 +52,7 @@ impl Pass<'_> {
     ghost use Rattle.std.specs.Prelude.{◌≡◌, true, ◌<◌};
     ghost use Rattle.bounds.specs.Bounds.{DETECTIONS};
     ghost use Rattle.search_neighbours.specs.Near.{row_at};
+    ghost use Rattle.search_neighbours.specs.Extents.{Encloses};
     ghost use Rattle.search.specs.Pass.{row_on};
     ghost use Rattle.search.specs.Stands.{scene_under, listed_at};
 
@@ -53,5 +65,16 @@ impl Pass<'_> {
             return slots_of(&self.list.rows[i]);
         }
         self.scene.row_of(RefinedId(self.list.table[i]), ids)
+    }
+
+    // The extent of the row at place i of the table of rows.
+    pub fn extent_at(&self, i: usize) -> Extent
+        requires { i < self.now.list.now.count }
+        ensures { Encloses (scene_under self.now).dots (row_at self.now.list.now.rows i) result }
+    {
+        Extent {
+            x: self.xs[i],
+            y: self.ys[i],
+        }
     }
 }

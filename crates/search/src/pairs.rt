@@ -1,9 +1,8 @@
 // A pass over the pairs of tracks that come close.
 ghost use Rattle.std.specs.Prelude.{◌≡◌, true, List, ℕ, ◌+◌, ◌-◌, ◌<◌, max, min, get_or, drop, is_none};
 ghost use Rattle.bounds.specs.Bounds.{DETECTIONS, SCANS};
-ghost use Rattle.engine.specs.Config.{radius};
-ghost use Rattle.fgo_spec.specs.Searching.{square};
 ghost use Rattle.search_neighbours.specs.Near.{close_rows, Entered};
+ghost use Rattle.search_rows.specs.Rows.{no_row};
 ghost use Rattle.search.specs.Pass.{row_on, close_on, pair_best, pair_step_on, pair_if, sweep_one, sweep, Grows};
 ghost use Rattle.search.specs.Stands.{progress_in, scene_under, listed_in, listed_at, TabledIn, RestsIn, SweptIn};
 ghost use Rattle.search.specs.declared.marks.Mark.TheVariants.{Resting};
@@ -12,16 +11,16 @@ use crate::listed::{Listing, Pass};
 use crate::marks::Mark;
 use crate::tables::PassState;
 use bounds::SCANS;
-use cost::prices::Prices;
 use cost_row::window::Window;
 use engine::types::RefinedId;
+use search_neighbours::extent::is_far;
 use search_rows::moves;
 use search_rows::moves::PairWithRows;
-use search_rows::rows::Row;
 
 // Makes the best move, if there is one, of the pair at two places of the table; only the costs of these two change.
-// As it is: here and in what sweeps and visits it is asked how the state stands to the pass (`SweptIn`, `VisitsIn`), and told how to the one before (`Grows`).
-// A struct that held both would hold the state as `&mut`, and of such a struct no fact says what it holds afterwards.
+// As it is: here and in what sweeps and visits it is asked how the state stands to the pass (`SweptIn`, `VisitsIn`),
+// and told how to the one before (`Grows`). A struct that held both would hold the state as `&mut`, and of such a
+// struct no fact says what it holds afterwards.
 fn pair_step(pass: &Pass<'_>, i: usize, j: usize, close: &[bool; SCANS], state: &mut PassState)
     requires { (i < j) × (j < pass.now.list.now.count) × SweptIn pass.now state.old }
     ensures step { let p = pass.now in
@@ -75,28 +74,36 @@ fn close_to(a: u8, b: u8) -> usize
     usize::from(a.min(b))
 }
 
-// For each scan whether two rows are close in it, if they are close in any. Most pairs have no scan in common or beside each other; the others are looked at
-// only in such scans. It asks that the rows say where they begin and end.
-fn close_rows(prices: &Prices<'_>, a: &Row, b: &Row) -> Option<[bool; SCANS]>
-    requires { Entered a.now × Entered b.now }
-    ensures { result ≡ close_rows (square (radius prices.now.config)) prices.now.dots.now a.now b.now }
+// For each scan whether the rows at two places of the table are close in it, if they are close in any. Most pairs have
+// no scan in common or beside each other, or lie far apart on the floor; the others are looked at only where both may
+// have a detection. It asks that the rows say where they begin and end.
+fn close_rows(pass: &Pass<'_>, i: usize, j: usize) -> Option<[bool; SCANS]>
+    requires { let l = pass.now.list.now in
+        (i < l.count) × (j < l.count) × Entered (get_or l.rows i no_row) × Entered (get_or l.rows j no_row) }
+    ensures { let p = pass.now in let rows = p.list.now.rows in
+        result ≡ close_rows p.radius2 (scene_under p).dots (get_or rows i no_row) (get_or rows j no_row) }
 {
-    if !search_neighbours::meet(a, b) {
+    let a = &pass.list.rows[i];
+    let b = &pass.list.rows[j];
+    if !search_neighbours::meet(a, b)
+        || is_far(pass.radius2, &pass.extent_at(i), &pass.extent_at(j))
+    {
         return None;
     }
     search_neighbours::close_scans(
-        prices.config.radius_m * prices.config.radius_m,
+        pass.radius2,
         &a.slots,
         &b.slots,
         close_from(a.first, b.first),
         close_to(a.end, b.end),
-        prices.dots,
+        pass.scene.prices.dots,
     )
 }
 
 // Nothing is due of the row at place i: it has not changed since its pairs were last looked at.
-// As it is: that a place is below DETECTIONS is asked here, in `pair_rests` and in `row_now`. Of the two places of a pair `pair_turn` and `pair_step` ask that
-// `i < j` and `j < count`, from which the bound follows; with a struct for each place, like `Turn` of a track, they would ask that still.
+// As it is: that a place is below DETECTIONS is asked here, in `pair_rests` and in `row_now`. Of the two places of a
+// pair `pair_turn` and `pair_step` ask that `i < j` and `j < count`, from which the bound follows; with a struct for
+// each place, like `Turn` of a track, they would ask that still.
 fn row_rests(list: &Listing, state: &PassState, i: usize) -> bool
     requires { i < DETECTIONS }
     ensures { result ≡ true → (get_or list.now.due i Resting ≡ Resting) × (get_or state.now.moved i Resting ≡ Resting) }
@@ -113,9 +120,11 @@ fn pair_rests(list: &Listing, state: &PassState, i: usize, j: usize) -> bool
     row_rests(list, state, i) && row_rests(list, state, j)
 }
 
-// Makes the best move of the pair at two places of the table, if one of the rows has changed and they are close somewhere.
-// As it is: that the rows listed are those of the ids `is` is a premise of what the turns and the sweeps tell (`TabledIn`), and no fact of the pass: the ids
-// as they were when it began are kept nowhere, and a pass that lent them would first copy them.
+// Makes the best move of the pair at two places of the table, if one of the rows has changed and they are close
+// somewhere.
+// As it is: that the rows listed are those of the ids `is` is a premise of what the turns and the sweeps tell
+// (`TabledIn`), and no fact of the pass: the ids as they were when it began are kept nowhere, and a pass that lent them
+// would first copy them.
 fn pair_turn(pass: &Pass<'_>, i: usize, j: usize, state: &mut PassState)
     requires { (i < j) × (j < pass.now.list.now.count) × SweptIn pass.now state.old }
     ensures turned { let p = pass.now in let e = scene_under p in let a = listed_at p i in let b = listed_at p j in
@@ -128,8 +137,7 @@ fn pair_turn(pass: &Pass<'_>, i: usize, j: usize, state: &mut PassState)
     if pair_rests(pass.list, state, i, j) {
         return;
     }
-    let rows = &pass.list.rows;
-    if let Some(close) = close_rows(pass.scene.prices, &rows[i], &rows[j]) {
+    if let Some(close) = close_rows(pass, i, j) {
         pair_step(pass, i, j, &close, state);
     }
 }

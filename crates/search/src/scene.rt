@@ -1,6 +1,6 @@
 // What a search does not change, and what it tells of a track.
-ghost use Rattle.std.specs.Prelude.{◌≤◌};
-ghost use Rattle.bounds.specs.Bounds.{DETECTIONS};
+ghost use Rattle.std.specs.Prelude.{◌≡◌, get_or};
+ghost use Rattle.bounds.specs.Bounds.{SCANS};
 
 use bounds::{DETECTIONS, FILTERS, SCANS};
 use cost::Fold;
@@ -12,7 +12,8 @@ use fgo_part::FrozenTracks;
 use search_rows::rows;
 use search_rows::starts::StartsRef;
 
-// What prices windows; how many detections are gathered, and where those of each scan begin; and the frozen tracks, in the words and numbers that are lent.
+// What prices windows; how many detections are gathered, and where those of each scan begin; and the frozen tracks, in
+// the words and numbers that are lent.
 #[derive(Drop)]
 pub struct SceneRef<'a> {
     pub prices: &'a Prices<'a>,
@@ -20,7 +21,7 @@ pub struct SceneRef<'a> {
     pub starts: &'a StartsRef<'a>,
     pub frozen: &'a FrozenTracks<'a>,
     pub filters: &'a [f64; FILTERS],
-    pub ghost few: { detections ≤ DETECTIONS },
+    pub ghost ends: { detections ≡ get_or starts.now.places.now SCANS 0 },
 }
 
 impl SceneRef<'_> {

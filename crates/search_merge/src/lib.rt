@@ -15,8 +15,8 @@ use fgo_spec::moves::PairMove;
 use search_rows::moves::better;
 use std::array::from_fn;
 
-// The detection in a scan that the merged track keeps: the keeper's x or the other's y, of which 0 is none. Where both have one, it is the keeper's if `own`
-// says so, else the other's.
+// The detection in a scan that the merged track keeps: the keeper's x or the other's y, of which 0 is none. Where both
+// have one, it is the keeper's if `own` says so, else the other's.
 fn kept_slot(own: bool, x: usize, y: usize) -> usize
     ensures { result ≡ kept_slot own x y }
 {
@@ -44,9 +44,10 @@ fn only_has(x: usize, y: usize) -> u64
     u64::from(x != 0 && y == 0)
 }
 
-// How two rows lie to each other: in how many scans both have a detection, in how many only the first, and in how many only the second.
-// As it is: `mine` and `theirs` are counts, though only whether they are 0 is asked. As flags they would be no plainer: the three are counted alike, by one
-// definition over both rows, beside which flags would want a second one.
+// How two rows lie to each other: in how many scans both have a detection, in how many only the first, and in how many
+// only the second.
+// As it is: `mine` and `theirs` are counts, though only whether they are 0 is asked. As flags they would be no plainer:
+// the three are counted alike, by one definition over both rows, beside which flags would want a second one.
 #[derive(Clone, Copy)]
 pub struct Overlap {
     pub shared: u64,
@@ -86,8 +87,9 @@ pub fn overlap_of(a: &[usize; SCANS], b: &[usize; SCANS]) -> Overlap
     }
 }
 
-// A window, the keeper's, that may take the detections of another row: how the two rows lie to each other, and what the keeper would cost with the other's,
-// which is right at least where there is no scan in which only the keeper has a detection.
+// A window, the keeper's, that may take the detections of another row: how the two rows lie to each other, and what the
+// keeper would cost with the other's, which is right at least where there is no scan in which only the keeper has a
+// detection.
 #[derive(Drop)]
 pub struct Merging<'a> {
     pub prices: &'a Prices<'a>,
@@ -117,7 +119,8 @@ impl Merging<'_> {
         cost_row::row_cost(self.prices, &self.keeper.from, &row, logs)
     }
 
-    // The cost of the merged row that keeps the keeper's own detections: what the keeper costs now, if there is no scan in which only the other has one.
+    // The cost of the merged row that keeps the keeper's own detections: what the keeper costs now, if there is no scan
+    // in which only the other has one.
     fn own_cost(&self, logs: &mut Logs) -> f64
         ensures { result ≡ merged_cost self.now true }
     {
@@ -127,7 +130,8 @@ impl Merging<'_> {
         self.merged_cost(true, logs)
     }
 
-    // The cost of the merged row that keeps the other's detections: that of the rows exchanged, if there is no scan in which only the keeper has one.
+    // The cost of the merged row that keeps the other's detections: that of the rows exchanged, if there is no scan in
+    // which only the keeper has one.
     fn other_cost(&self, logs: &mut Logs) -> f64
         ensures { result ≡ merged_cost self.now false }
     {
@@ -150,8 +154,8 @@ impl Merging<'_> {
         }
     }
 
-    // The best so far or one of the two merges into the keeper; base is what both windows cost now. Where no scan is shared both are the same row, and its
-    // cost is worked out once.
+    // The best so far or one of the two merges into the keeper; base is what both windows cost now. Where no scan is
+    // shared both are the same row, and its cost is worked out once.
     pub fn better_merge(
         &self,
         best: Option<PairMove>,

@@ -25,8 +25,8 @@ fn is_cut(close: &[bool; SCANS], k: usize) -> bool
     (k < SCANS && close[k]) || (0 < k && close[k - 1])
 }
 
-// Two windows and the scans in which they are close. `base` is what both cost now; the exchanged costs are what each would cost with the other's row, and are
-// right at least where there is a cut before all scans.
+// Two windows and the scans in which they are close. `base` is what both cost now; the exchanged costs are what each
+// would cost with the other's row, and are right at least where there is a cut before all scans.
 #[derive(Drop)]
 struct Pair<'a> {
     prices: &'a Prices<'a>,
@@ -66,7 +66,8 @@ impl Pair<'_> {
         x + y - self.base
     }
 
-    // The best swap, at each cut: the folds over both rows go on from cut to cut. A swap at or past the end of both would change nothing.
+    // The best swap, at each cut: the folds over both rows go on from cut to cut. A swap at or past the end of both
+    // would change nothing.
     fn best_swap(&self, logs: &mut Logs) -> Option<PairMove>
         ensures { let p = self.now.prices.now in let a = self.now.a.now in let b = self.now.b.now in
             result ≡ best_swap_row p.config (view_in p) a.from b.from self.now.close.now a.row.slots.now b.row.slots.now self.now.base }
@@ -93,9 +94,11 @@ impl Pair<'_> {
     }
 }
 
-// What the window `mine` would cost with the row of `other`. A swap reads it if there is a `cut` before all scans, and a merge if `mine` has no scan `alone`,
-// one in which `other` has no detection; else nobody does, and the answer is 0.0.
-// As it is: no Option, since who reads the answer knows by the cut, or by the scans alone, that it was asked for, and would have a None that never comes.
+// What the window `mine` would cost with the row of `other`. A swap reads it if there is a `cut` before all scans, and
+// a merge if `mine` has no scan `alone`, one in which `other` has no detection; else nobody does, and the answer is
+// 0.0.
+// As it is: no Option, since who reads the answer knows by the cut, or by the scans alone, that it was asked for, and
+// would have a None that never comes.
 fn exchanged_cost(
     prices: &Prices<'_>,
     mine: &Window<'_>,
@@ -113,7 +116,8 @@ fn exchanged_cost(
     0.0
 }
 
-// The best move of a pair of windows, or none; `close` says in which scans they are close. It asks that the cost of each is that of its row.
+// The best move of a pair of windows, or none; `close` says in which scans they are close. It asks that the cost of
+// each is that of its row.
 pub fn best_of_pair(
     prices: &Prices<'_>,
     close: &[bool; SCANS],

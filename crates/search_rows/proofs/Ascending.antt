@@ -1,22 +1,20 @@
 -- Ascending lists held at the start of an array. Assumes nothing.
 use mathlib.Core.Path.{◌≡◌, refl, sym, ap, ◌∙◌}
-use mathlib.Core.List.{List, [], ◌∷◌, ◌++◌, foldr}
+use mathlib.Core.List.{List, [], ◌∷◌, ◌++◌}
 use mathlib.Core.Bool.{Bool, true, false, cond}
-use Prim.Native.Nat.{ℕ, zero, suc, ◌+◌, ◌-◌, ◌≤◌, ◌<◌, suc-le-suc, compare, Ordering}
+use Prim.Native.Nat.{ℕ, zero, suc, ◌+◌, ◌≤◌, ◌<◌, suc-le-suc, compare, Ordering}
 use native.Mathlib.Nat.{not-suc-le-zero, le_of_suc-le-suc}
 use native.Mathlib.Numerals.{add-one}
 use native.Mathlib.Omega.{arith}
 use lib.ListN.{length, get_or, take, drop, set, length-set}
-use lib.Seq.{length-take-le, take-take, take-set-lt, get_or-take, set_split, take_at}
+use lib.Seq.{length-take-le, take-take, take-set-lt, get_or-take, set_split}
 use lib.Dec.{ltb}
-use Rattle.std.specs.List.{push}
-use Rattle.std.proofs.lemmas.List.{length_push, get_or_push}
-use borrow.Author.Tests.{lt-ltb, le-ltb, ltb-true, ltb-false}
+use borrow.Author.Tests.{ltb-true, ltb-false}
 use Rattle.bounds.specs.Bounds.{DETECTIONS}
-use Rattle.fgo_spec.specs.Lists.{cons_if, keep, insert, insert_by, segment, place_in}
+use Rattle.fgo_spec.specs.Lists.{insert, insert_by, segment, place_in}
 use Rattle.fgo_spec.proofs.Counting.{eq_compare, lt_compare, gt_compare}
-use Rattle.search_rows.specs.Rows.{present_in, Begins}
-use Rattle.search_rows.proofs.Segments.{segment_none, segment-cons, segment_cut}
+use Rattle.search_rows.specs.Rows.{Begins}
+use Rattle.search_rows.proofs.Segments.{segment_cut}
 
 -- a number written into the place p, from which on the entries up to n have moved up by one place
 laid : (n p x : ℕ) (a₀ a : List ℕ) → p ≤ n → n < DETECTIONS → length a ≡ DETECTIONS → take p a ≡ take p a₀ → segment (p + 1) (n + 1) a ≡ segment p n a₀ →
@@ -114,87 +112,3 @@ inserted_new x n p a₀ a h size e d long low high =
           laid n p x a₀ a (place_fits x n p a₀ (omega arith) e) h long low high
           ∙ sym (insert-new x (take n a₀) p e (λ g q. d (omega arith) (sym (get_or-take n a₀ p 0 (omega arith)) ∙ q)));
     }
-
--- ---- the ids that have a window, gathered from the last to the first
-
-abbrev sorted : List ℕ → List ℕ
-sorted l = foldr insert [] (keep (ltb 0) l)
-
--- rest holds the ids that are still to come, the last of them first
-pub record Presenting (n : ℕ) (ids table : List ℕ) (m : ℕ) (rest : List ℕ) : Type 0 where
-  pub whole : n ≤ DETECTIONS
-  pub size : length ids ≡ DETECTIONS
-  pub within : length rest ≤ n
-  pub left : rest ≡ take (length rest) ids
-  pub few : m ≤ n - length rest
-  pub begins : Begins (sorted (segment (length rest) n ids)) m table
-
-module _ (n : ℕ) (ids : List ℕ) where
-  pub presenting_start : {table rest : List ℕ} → n ≤ DETECTIONS → length ids ≡ DETECTIONS → length table ≡ DETECTIONS → rest ≡ take n ids → Presenting n ids table 0 rest
-  unfolding keep
-  presenting_start {table} {rest} h e f q =
-      let l : length rest ≡ n = ap length q ∙ length-take-le n ids (omega arith) in
-      record {
-        whole = h;
-        size = e;
-        within = omega arith;
-        left = q ∙ sym (ap (λ (k : ℕ). take k ids) l);
-        few = omega arith;
-        begins = record { within = omega arith; long = f; is = sym (ap sorted (segment_none (length rest) n ids (omega arith))) };
-      }
-
-  module _ (less : List ℕ) (x : ℕ) {table : List ℕ} {m : ℕ} {rest : List ℕ} (o : Presenting n ids table m rest) (e : rest ≡ push less x) where
-    one-less : length rest ≡ length less + 1
-    one-less = ap length e ∙ length_push less x
-
-    pub presenting_more : m < DETECTIONS
-    presenting_more = omega (arith, o.few, o.whole, o.within, one-less)
-
-    left-less : less ≡ take (length less) ids
-    left-less = sym (take_at less (x ∷ []) (length less) refl) ∙ ap (take (length less)) (sym e ∙ o.left) ∙ take-take (length less) (length rest) ids (omega (arith, one-less))
-
-    stands : get_or ids (length less) 0 ≡ x
-    stands =
-        sym (get_or-take (length rest) ids (length less) 0 (omega (arith, one-less)))
-        ∙ ap (λ (l : List ℕ). get_or l (length less) 0) (sym o.left ∙ e)
-        ∙ get_or_push less x 0 (length less) refl
-
-    next : segment (length less) n ids ≡ x ∷ segment (length rest) n ids
-    next =
-        segment-cons (length less) n ids 0 (omega (arith, o.within, one-less)) (omega (arith, o.whole, o.size))
-        ∙ (λ i. stands i ∷ segment ((let q : suc (length less) ≡ length rest = omega (arith, one-less) in q) i) n ids)
-
-    pub presenting_some : {r : List ℕ} {k : ℕ} → 0 < x → Begins (insert x (take m table)) k r → Presenting n ids r k less
-    unfolding keep
-    presenting_some {r} {k} g b =
-        let lk : length (take k r) ≡ k = length-take-le k r (omega (arith, b.within, b.long)) in
-        let lm : length (take m table) ≡ m = length-take-le m table (omega (arith, o.begins.within, o.begins.long)) in
-        let s : insert x (take m table) ≡ sorted (segment (length less) n ids) =
-        ap (insert x) o.begins.is ∙ sym (ap sorted next ∙ ap (λ (t : Bool). foldr insert [] (cons_if t x (keep (ltb 0) (segment (length rest) n ids)))) (lt-ltb 0 x g)) in
-        record {
-          whole = o.whole;
-          size = o.size;
-          within = omega (arith, o.within, one-less);
-          left = left-less;
-          few = omega (arith, insert-length x (take m table), ap length b.is, o.few, o.within, one-less);
-          begins = record { within = b.within; long = b.long; is = b.is ∙ s };
-        }
-
-    pub presenting_none : x ≤ 0 → Presenting n ids table m less
-    unfolding keep
-    presenting_none g =
-        let s : sorted (segment (length rest) n ids) ≡ sorted (segment (length less) n ids) =
-        sym (ap sorted next ∙ ap (λ (t : Bool). foldr insert [] (cons_if t x (keep (ltb 0) (segment (length rest) n ids)))) (le-ltb 0 x g)) in
-        record {
-          whole = o.whole;
-          size = o.size;
-          within = omega (arith, o.within, one-less);
-          left = left-less;
-          few = omega (arith, o.few, o.within, one-less);
-          begins = record { within = o.begins.within; long = o.begins.long; is = o.begins.is ∙ s };
-        }
-
-  pub presenting_end : {table rest : List ℕ} {m : ℕ} → Presenting n ids table m rest → length rest ≡ 0 → Begins (present_in n ids) m table
-  unfolding present_in
-  presenting_end o e =
-      record { within = o.begins.within; long = o.begins.long; is = o.begins.is ∙ ap (λ (k : ℕ). sorted (segment k n ids)) e ∙ ap sorted (segment_cut 0 n ids) }

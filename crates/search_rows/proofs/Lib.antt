@@ -5,3 +5,5 @@ pub mod Ascending
 pub mod RowSlots
 pub mod RowEnds
 pub mod Renamed
+pub mod IdsAscend
+pub mod Joining

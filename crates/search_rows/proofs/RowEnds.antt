@@ -22,15 +22,6 @@ first_by (x ∷ r) (suc k) h = go (ltb 0 x) (first_by r k h)
     go true i = omega arith
     go false i = omega arith
 
-pub first-within : (r : List ℕ) → first_in r ≤ length r
-unfolding first_in
-first-within [] = le_refl 0
-first-within (x ∷ r) = go (ltb 0 x) (first-within r)
-  where
-    go : (b : Bool) → first_in r ≤ length r → cond b 0 (suc (first_in r)) ≤ suc (length r)
-    go true i = omega arith
-    go false i = omega arith
-
 end_keeps : (n e : ℕ) (r : List ℕ) → e ≤ n → e ≤ end_from n e r
 unfolding end_from
 end_keeps n e [] h = le_refl e
@@ -60,7 +51,7 @@ end_empty r k h = go (get_or r k 0) (λ g. end_past 0 0 r k (le_refl 0) g)
     go (suc x) f = absurd (omega (arith, f (omega arith)))
 
 -- and where there is none from t on, the end is t at the latest
-end-under : (n e t : ℕ) (r : List ℕ) → e ≤ t → ((j : ℕ) → t ≤ n + j → get_or r j 0 ≤ 0) → end_from n e r ≤ t
+pub end-under : (n e t : ℕ) (r : List ℕ) → e ≤ t → ((j : ℕ) → t ≤ n + j → get_or r j 0 ≤ 0) → end_from n e r ≤ t
 unfolding end_from
 end-under n e t [] h z = h
 end-under n e t (x ∷ r) h z = go (ltb 0 x) (λ p. z 0 p) (λ p. ltb-true 0 x p) (λ d l. end-under (suc n) d t r l (λ j g. z (suc j) (omega arith)))

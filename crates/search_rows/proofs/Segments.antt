@@ -18,7 +18,7 @@ module _ {A : Type 0} where
   length-segment a b l h = length-take-le (b - a) (drop a l) (omega (arith, length-drop a l))
 
   -- one entry more at the end
-  segment-more : (a b : ℕ) (l : List A) (z : A) → a ≤ b → b < length l → segment a (b + 1) l ≡ segment a b l ++ (get_or l b z ∷ [])
+  pub segment-more : (a b : ℕ) (l : List A) (z : A) → a ≤ b → b < length l → segment a (b + 1) l ≡ segment a b l ++ (get_or l b z ∷ [])
   segment-more a b l z h g =
       let e : b + 1 - a ≡ suc (b - a) = omega arith in
       let q : a + (b - a) ≡ b = omega arith in

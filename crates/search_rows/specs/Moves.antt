@@ -18,12 +18,14 @@ retarget a b t i = cond (eqb a i) t.a.0 (cond (eqb b i) t.b.0 i)
 abbrev pub become : ℕ → ℕ → Targets
 become a b = record { a = record { 0 = a }; b = record { 0 = b } }
 
--- what becomes of the keeper k in a scan of a merge, where its own detection is kept or else the other's; ho says whether the other has one
+-- what becomes of the keeper k in a scan of a merge, where its own detection is kept or else the other's; ho says
+-- whether the other has one
 abbrev pub keeper_target : Bool → Bool → ℕ → ℕ
 keeper_target true ho k = k
 keeper_target false ho k = cond ho 0 k
 
--- what becomes of the other: its detection goes to the keeper k, or to clutter where k's own is kept; hk says whether k has one
+-- what becomes of the other: its detection goes to the keeper k, or to clutter where k's own is kept; hk says whether k
+-- has one
 abbrev pub other_target : Bool → Bool → ℕ → ℕ
 other_target true hk k = cond hk 0 k
 other_target false hk k = k

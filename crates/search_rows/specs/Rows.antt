@@ -1,5 +1,6 @@
--- The detections of the held windows, gathered: their ids in one list, scan by scan, and where each scan's begin. Definitions only.
-use Rattle.std.specs.Prelude.{ℕ, suc, ◌≤◌, ◌<◌, ◌≡◌, cond, length, get_or, take, eqb, ltb}
+-- The detections of the held windows, gathered: their ids in one list, scan by scan, and where each scan's begin.
+-- Definitions only.
+use Rattle.std.specs.Prelude.{ℕ, suc, ◌≤◌, ◌<◌, ◌≡◌, cond, length, get_or, slice_set, take, eqb, ltb}
 use mathlib.Core.List.{List, [], ◌∷◌, map, foldr}
 use Rattle.bounds.specs.Bounds.{DETECTIONS, SCANS, STARTS}
 use Rattle.fgo_spec.specs.Lists.{keep, up_from, insert}
@@ -28,6 +29,15 @@ row_of starts ids x = map (row_entry starts ids x) (up_from 0 SCANS)
 -- the ids that have a window, ascending
 unfoldable pub present_in : ℕ → List ℕ → List ℕ
 present_in n ids = foldr insert [] (keep (ltb 0) (take n ids))
+
+-- a list that ascends from above k on
+abbrev pub Ascends : ℕ → List ℕ → Type 0
+Ascends k [] = Unit {0}
+Ascends k (x ∷ l) = (k < x) × Ascends x l
+
+-- the row r with the detection at place i in scan k, unless it has one there
+abbrev pub row_with : List ℕ → ℕ → ℕ → List ℕ
+row_with r k i = cond (ltb 0 (get_or r k 0)) r (slice_set r k (suc i))
 
 -- the first scan in which a row has a detection, its length where there is none
 unfoldable pub first_in : List ℕ → ℕ

@@ -127,7 +127,8 @@ pub fn better<M: Candidate>(best: Option<M>, m: M) -> Option<M>
 }
 
 // What becomes of two ids in one scan; 0 is clutter.
-// As it is: the gathered ids are numbers, of which 0 is clutter, as in the published columns that they are put back into.
+// As it is: the gathered ids are numbers, of which 0 is clutter, as in the published columns that they are put back
+// into.
 #[derive(Clone, Copy)]
 pub struct Targets {
     pub a: RefinedId,

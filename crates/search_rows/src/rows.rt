@@ -1,8 +1,8 @@
 // Rows: for each scan one more than the place of a track's detection among those gathered, 0 where it has none.
-ghost use Rattle.std.specs.Prelude.{◌≡◌, ℕ, ◌+◌, ◌^◌, ◌≤◌, ◌<◌, get_or, take, drop, length};
+ghost use Rattle.std.specs.Prelude.{◌≡◌, ℕ, ◌+◌, ◌≤◌, ◌<◌, get_or, take, drop, length};
 ghost use Rattle.bounds.specs.Bounds.{DETECTIONS, SCANS};
 ghost use Rattle.fgo_spec.specs.Lists.{insert as inserted, segment, place_in};
-ghost use Rattle.search_rows.specs.Rows.{row_entry, row_of, present_in, first_in, end_from, entry_of, Tabled, Begins};
+ghost use Rattle.search_rows.specs.Rows.{row_entry, row_of, present_in, Ascends, end_from, row_with, entry_of, no_row, Tabled, Begins};
 
 use crate::starts::StartsRef;
 use bounds::{DETECTIONS, SCANS};
@@ -10,8 +10,8 @@ use engine::types::RefinedId;
 use std::array::from_fn;
 
 // The first place, from one on, whose id is not below x; the table's length where there is none.
-// As it is: `position`, here and so in `insert`, and no `partition_point` or `binary_search`: what it promises is of any table, and these would ask for an
-// ascending one; and a pass seeks in the table of the last one from the place found before, a few steps on.
+// As it is: `position` and no `partition_point` or `binary_search`: what is sought lies mostly a few steps on from the
+// place found before. And what it promises is of any table, where these would ask for an ascending one.
 pub fn place_from(x: RefinedId, from: usize, table: &[u64]) -> usize
     requires { from ≤ length table.now }
     ensures { result ≡ from + place_in x.0 (drop from table.now) }
@@ -31,12 +31,22 @@ fn move_up(p: usize, n: usize, l: &mut [u64; DETECTIONS])
     l.copy_within(p..n, p + 1);
 }
 
-// An id added to the first n of an ascending table, once.
-fn insert(x: RefinedId, n: usize, l: &mut [u64; DETECTIONS]) -> usize
-    requires { n < DETECTIONS }
+// The first place in an ascending table whose id is not below x, sought from a place near it on.
+fn place_near(x: RefinedId, near: usize, table: &[u64]) -> usize
+    requires { Ascends 0 table.now }
+    ensures { result ≡ place_in x.0 table.now }
+{
+    if near < table.len() && table[near] <= x.0 {
+        return place_from(x, near, table);
+    }
+    place_from(x, 0, table)
+}
+
+// An id put in its place p among the first n of an ascending table, once.
+fn insert(x: RefinedId, p: usize, n: usize, l: &mut [u64; DETECTIONS]) -> usize
+    requires { (n < DETECTIONS) × (p ≡ place_in x.0 (take n l.old)) }
     ensures { Begins (inserted x.0 (take n l.old)) result l.new }
 {
-    let p = place_from(x, 0, &l[..n]);
     if p < n && l[p] == x.0 {
         return n;
     }
@@ -46,16 +56,19 @@ fn insert(x: RefinedId, n: usize, l: &mut [u64; DETECTIONS]) -> usize
 }
 
 // The ids that have a window, ascending, at the start of the table: of the first n, DETECTIONS at most.
-// As it is: here and in `fill_rows` a count stands beside a list of ids. The scene has that of the ids gathered and a pass that of its table, so a struct of
-// ids with their count would be made at each call of what these keep; and of a slice the room for its ids or rows would be asked in the same words.
+// As it is: here and in `fill_rows` a count stands beside a list of ids. The scene has that of the ids gathered and a
+// pass that of its table, so a struct of ids with their count would be made at each call of what these keep; and of a
+// slice the room for its ids or rows would be asked in the same words.
 pub fn present(n: usize, ids: &[u64; DETECTIONS], table: &mut [u64; DETECTIONS]) -> usize
     requires { n ≤ DETECTIONS }
     ensures { Begins (present_in n ids.now) result table.new }
 {
     let mut m: usize = 0;
-    for x in ids[..n].iter().rev() {
+    let mut p: usize = 0;
+    for x in &ids[..n] {
         if 0 < *x {
-            m = insert(RefinedId(*x), m, table);
+            p = place_near(RefinedId(*x), p, &table[..m]);
+            m = insert(RefinedId(*x), p, m, table);
         }
     }
     m
@@ -80,13 +93,6 @@ pub fn row_of(x: RefinedId, starts: &StartsRef<'_>, ids: &[u64; DETECTIONS]) -> 
     from_fn(|k| slot_in(x, starts, k, ids))
 }
 
-// The first scan in which the row has a detection, SCANS where there is none.
-fn first_in(row: &[usize; SCANS]) -> usize
-    ensures { result ≡ first_in row.now }
-{
-    row.iter().position(|x| 0 < *x).unwrap_or(SCANS)
-}
-
 // One more than the last scan in which the row has a detection, 0 where there is none.
 pub fn end_of(row: &[usize; SCANS]) -> usize
     ensures { result ≡ end_from 0 0 row.now }
@@ -95,8 +101,8 @@ pub fn end_of(row: &[usize; SCANS]) -> usize
 }
 
 // A row with its first scan and its end, all as bytes.
-// As it is: an entry is DETECTIONS at most and a scan SCANS, so each fits a byte; as words the table of all rows, whose rows are compared pair by pair,
-// would be eight times as large.
+// As it is: an entry is DETECTIONS at most and a scan SCANS, so each fits a byte; as words the table of all rows, whose
+// rows are compared pair by pair, would be eight times as large.
 #[derive(Clone, Copy)]
 pub struct Row {
     pub slots: [u8; SCANS],
@@ -105,20 +111,60 @@ pub struct Row {
 }
 
 impl Row {
-    // It asks for a row whose entries fit a byte.
-    fn new(row: &[usize; SCANS]) -> Row
-        requires { (k : ℕ) → k < SCANS → get_or row.now k 0 < 2 ^ 8 }
-        ensures { result ≡ entry_of row.now }
+    // A row without detections.
+    const EMPTY: Row = Row {
+        slots: [0; SCANS],
+        first: SCANS as u8,
+        end: 0,
+    };
+
+    // The detection at place i joins in scan k, unless the row has one there.
+    fn join(&mut self, k: usize, i: usize)
+        requires { (k < SCANS) × (i < DETECTIONS) × (self.old ≡ entry_of self.old.slots) }
+        ensures { self.new ≡ entry_of (row_with self.old.slots k i) }
     {
-        Row {
-            slots: from_fn(|k| row[k] as u8),
-            first: first_in(row) as u8,
-            end: end_of(row) as u8,
+        if 0 < self.slots[k] {
+            return;
+        }
+        self.slots[k] = (i + 1) as u8;
+        self.first = self.first.min(k as u8);
+        self.end = self.end.max((k + 1) as u8);
+    }
+}
+
+// The detections of scan k join the rows of their ids, where those of the scans before it have. The first n of the
+// table are the ids that have a window.
+fn fill_scan(
+    k: usize,
+    starts: &StartsRef<'_>,
+    ids: &[u64; DETECTIONS],
+    n: usize,
+    table: &[u64; DETECTIONS],
+    rows: &mut [Row; DETECTIONS],
+)
+    requires { let ends = starts.now.places.now in
+        (k < SCANS) × Begins (present_in (get_or ends SCANS 0) ids.now) n table.now × Tabled ends (take (get_or ends k 0) ids.now) table.now n rows.old }
+    ensures { let ends = starts.now.places.now in Tabled ends (take (get_or ends (k + 1) 0) ids.now) table.now n rows.new }
+{
+    let mut p: usize = 0;
+    for i in starts.places[k]..starts.places[k + 1] {
+        if 0 < ids[i] {
+            p = place_near(RefinedId(ids[i]), p, &table[..n]);
+            rows[p].join(k, i);
         }
     }
 }
 
-// The rows of the first n ids of a table, DETECTIONS at most.
+// Rows without detections.
+fn clear(rows: &mut [Row])
+    ensures { (i : ℕ) → i < length rows.new → get_or rows.new i no_row ≡ Row.EMPTY }
+{
+    for row in rows.iter_mut() {
+        *row = Row::EMPTY;
+    }
+}
+
+// The rows of the first n ids of a table. It asks that they are those that have a window.
 pub fn fill_rows(
     n: usize,
     table: &[u64; DETECTIONS],
@@ -126,11 +172,11 @@ pub fn fill_rows(
     ids: &[u64; DETECTIONS],
     rows: &mut [Row; DETECTIONS],
 )
-    requires { n ≤ DETECTIONS }
+    requires { Begins (present_in (get_or starts.now.places.now SCANS 0) ids.now) n table.now }
     ensures { Tabled starts.now.places.now ids.now table.now n rows.new }
 {
-    // As it is: the id is read by its place. Tried: of what is written through `table[..n].iter().zip(&mut rows[..n])` the proof learns nothing.
-    for (i, row) in rows[..n].iter_mut().enumerate() {
-        *row = Row::new(&row_of(RefinedId(table[i]), starts, ids));
+    clear(&mut rows[..n]);
+    for k in 0..SCANS {
+        fill_scan(k, starts, ids, n, table, rows);
     }
 }

@@ -41,10 +41,10 @@ fn drop_gain(prices: &Prices<'_>, w: &Window<'_>, f: &Fold, k: usize, logs: &mut
     cost_row::rest_cost(prices, f, &w.row, k + 1, logs) + prices.config.clutter_cost - w.cost
 }
 
-// The best split, after the first detection, the second and so on, so before each detection but the first; and for each detection what its drop gains. The fold
-// over the row goes on from one to the next.
-// As it is: what the drops gain stands beside the row, a number for each scan. As an array of Options it says no more: a scan without a detection has no drop,
-// and `best_drop`, which goes by the same row, reads none of it.
+// The best split, after the first detection, the second and so on, so before each detection but the first; and for each
+// detection what its drop gains. The fold over the row goes on from one to the next.
+// As it is: what the drops gain stands beside the row, a number for each scan. As an array of Options it says no more:
+// a scan without a detection has no drop, and `best_drop`, which goes by the same row, reads none of it.
 fn best_split(
     prices: &Prices<'_>,
     w: &Window<'_>,
@@ -73,8 +73,9 @@ fn best_split(
 }
 
 // The best so far, or the drop of a single detection, by what each gains.
-// As it is: as `filter` and `fold` over the range it was tried, and is as long. The closures are proved, but that the fold is the definition's was not found;
-// the scans from the end of the row on, which the definition goes over too, would want a lemma of their own.
+// As it is: as `filter` and `fold` over the range it was tried, and is as long. The closures are proved, but that the
+// fold is the definition's was not found; the scans from the end of the row on, which the definition goes over too,
+// would want a lemma of their own.
 fn best_drop(
     first: ScanIndex,
     w: &Window<'_>,

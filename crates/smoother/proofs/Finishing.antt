@@ -1,5 +1,5 @@
--- "`finish` is take, repeated until 13": takes give the held frames, smoothed, oldest first, and then 13; and a take that 2, 3 and 4 do not refuse leaves what
--- they do not refuse. Assumes nothing.
+-- "`finish` is take, repeated until 13": takes give the held frames, smoothed, oldest first, and then 13; and a take
+-- that 2, 3 and 4 do not refuse leaves what they do not refuse. Assumes nothing.
 use Prim.Native.Nat.{ℕ, zero, suc}
 use mathlib.Core.Path.{◌≡◌, refl, ap, ◌∙◌}
 use mathlib.Core.Bool.{true, cond, ◌&&◌}

@@ -72,8 +72,9 @@ later_refusal s w words numbers =
 unfoldable pub due : FixedLagSmoother → Window → Op Written → List ℕ → List Float → Reply Written × State
 due s w o ws ns = checked (later_refusal s w (length ws) (length ns)) (state_in s w) (reply (state_in s w) o)
 
--- A call of o that is given the struct s, the window w and the output buffers ws and ns gives p and leaves w', ws' and ns': answer, state and output. Of a
--- window only what it stands for is promised, unless the call is refused; and all buffers keep their lengths.
+-- A call of o that is given the struct s, the window w and the output buffers ws and ns gives p and leaves w', ws' and
+-- ns': answer, state and output. Of a window only what it stands for is promised, unless the call is refused; and all
+-- buffers keep their lengths.
 pub record Promised (o : Op Written) (s : FixedLagSmoother) (w : Window) (ws : List ℕ) (ns : List Float)
     (p : Pushed) (w' : Window) (ws' : List ℕ) (ns' : List Float) : Type 0 where
   pub ends : Ends (λ f. f) state_in (due s w o ws ns) s w ws ns p.answer p.state w' ws' ns'
@@ -86,7 +87,8 @@ pub record Promised (o : Op Written) (s : FixedLagSmoother) (w : Window) (ws : L
 abbrev pub refused_as : FixedLagSmoother → ℕ → Pushed
 refused_as s n = record { answer = Refused n; state = s }
 
--- the oldest frame may leave: one is held, no more than there are slots, and the counts in each slot in use are in bounds
+-- the oldest frame may leave: one is held, no more than there are slots, and the counts in each slot in use are in
+-- bounds
 pub record Ready (s : FixedLagSmoother) (w : Window) : Type 0 where
   pub fits : Fitting s w.words w.numbers
   pub few : s.held ≤ lag s.config + 1

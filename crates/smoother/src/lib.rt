@@ -1,8 +1,9 @@
-// Fixed-lag smoothing of refined frames, over window buffers that the caller lends: open, push and take, and what they refuse.
+// Fixed-lag smoothing of refined frames, over window buffers that the caller lends: open, push and take, and what they
+// refuse.
 //
-// As it is: words and numbers, and window and values, go to each function side by side. Of a struct of `&mut` slices it is not known what is written through
-// them, so with one the proofs do not close; fgo_emit's `put_frame` says the same. Window and values are `&mut` in push, so a struct of two `&` would serve
-// open and take alone.
+// As it is: words and numbers, and window and values, go to each function side by side. Of a struct of `&mut` slices it
+// is not known what is written through them, so with one the proofs do not close; fgo_emit's `put_frame` says the same.
+// Window and values are `&mut` in push, so a struct of two `&` would serve open and take alone.
 #![tactic(auto)]
 
 ghost use Rattle.std.specs.Prelude.{◌≡◌, ◌≤◌, length};
@@ -44,8 +45,8 @@ fn window_fits(c: SmootherConfig, size: WindowSize) -> bool
     window_size(c.lag_frames, c.max_tracks) == size
 }
 
-// Whether a smoother may be opened. Refused are settings out of bounds or not finite (`Setting`), then window buffers that are not as long as these settings
-// ask (`Window`).
+// Whether a smoother may be opened. Refused are settings out of bounds or not finite (`Setting`), then window buffers
+// that are not as long as these settings ask (`Window`).
 fn check_open(c: SmootherConfig, size: WindowSize) -> Result<(), Refusal>
     ensures { refused result ≡ Smoother.open_refusal c size.words size.numbers }
 {
@@ -67,8 +68,8 @@ fn rule_ok(window: &WindowRef<'_>) -> bool
         && window.all_formed()
 }
 
-// What push and take ask alike. Refused are settings out of bounds or a window that is not as long as they ask (`Window`), then a state that breaks its rule
-// (`State`), then output buffers without room for any frame (`Output`).
+// What push and take ask alike. Refused are settings out of bounds or a window that is not as long as they ask
+// (`Window`), then a state that breaks its rule (`State`), then output buffers without room for any frame (`Output`).
 fn check_call(
     s: FixedLagSmoother,
     win: &[u64],
@@ -129,7 +130,8 @@ fn emit_oldest(
     size
 }
 
-// A smoother that holds nothing, over these window buffers, into which it writes nothing yet. The density must be the tracker's.
+// A smoother that holds nothing, over these window buffers, into which it writes nothing yet. The density must be the
+// tracker's.
 pub fn open(
     config: SmootherConfig,
     window: &[u64],
@@ -180,10 +182,12 @@ pub fn push(
 }
 
 // The next frame, over so much of the longest window; the rest of it stays.
-// As it is: a function of its own, to which a caller lends both arrays of its struct whole. It was tried to cut them where `push` is called, and the proof did
-// not close: of two fields of a struct of which parts are lent in one call, the check does not know what the call leaves there.
-// As it is: a size within WINDOW and VALUES is asked here and in calls_smoother's `LentWindow::lend`, and is a fact of those who keep one. It is no fact of
-// `WindowSize`, which is also made of the lengths that a caller lends, and these may be any: `window_fits` compares them.
+// As it is: a function of its own, to which a caller lends both arrays of its struct whole. It was tried to cut them
+// where `push` is called, and the proof did not close: of two fields of a struct of which parts are lent in one call,
+// the check does not know what the call leaves there.
+// As it is: a size within WINDOW and VALUES is asked here and in calls_smoother's `LentWindow::lend`, and is a fact of
+// those who keep one. It is no fact of `WindowSize`, which is also made of the lengths that a caller lends, and these
+// may be any: `window_fits` compares them.
 pub fn push_over(
     s: &mut FixedLagSmoother,
     size: WindowSize,

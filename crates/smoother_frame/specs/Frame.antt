@@ -42,7 +42,8 @@ module _ (w : List ℕ) where
   abbrev pub smoothed_as : ℕ → List ℕ
   smoothed_as flag = set w 5 flag
 
-  -- "per track id, lifecycle (0 tentative, 1 confirmed), last time, age, class (2^32 if none), count": last time and age are free
+  -- "per track id, lifecycle (0 tentative, 1 confirmed), last time, age, class (2^32 if none), count": last time and
+  -- age are free
   abbrev pub id_word : ℕ → ℕ
   id_word i = get_or w (HEAD + TRACK * i) 0
 

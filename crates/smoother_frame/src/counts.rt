@@ -34,8 +34,8 @@ impl FrameCounts {
     }
 
     // The counts of a frame's words, where their head is in bounds and counts at most `most` tracks.
-    // As it is: `most` ≤ TRACKS is asked here, in `Frame::well_formed`, of a window's size and of its words. A type that holds it is no plainer: any number
-    // may stand in a caller's settings, so each call would make that type anew.
+    // As it is: `most` ≤ TRACKS is asked here, in `Frame::well_formed`, of a window's size and of its words. A type
+    // that holds it is no plainer: any number may stand in a caller's settings, so each call would make that type anew.
     pub fn checked(words: &[u64], most: usize) -> Option<FrameCounts>
         requires { most ≤ TRACKS }
         ensures { MatchOption result (head_ok most words.now ≡ false) (λ c. (head_ok most words.now ≡ true) × CountsOf words.now c) }

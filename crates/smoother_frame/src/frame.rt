@@ -15,8 +15,8 @@ use scalar::bits;
 use std::marker::Model;
 
 // A frame whose counts are in bounds, in two lists as long as they ask for. A clause sees the two lists.
-// As it is: words and numbers by their places, codes and present words as numbers, and no struct for a track or an association, since these lists are
-// the public format that a caller hands over.
+// As it is: words and numbers by their places, codes and present words as numbers, and no struct for a track or an
+// association, since these lists are the public format that a caller hands over.
 #[derive(Drop)]
 pub struct Frame<'a> {
     counts: FrameCounts,
@@ -140,8 +140,8 @@ impl<'a> Frame<'a> {
     }
 
     // Outcome, cost present and cost of association j.
-    // As it is, here and in `Head::is_ok`: the tests of engine_check's `code_ok` and `present_ok`, of a word where those are of a byte. One function for both
-    // is no plainer: each test is one line.
+    // As it is, here and in `Head::is_ok`: the tests of engine_check's `code_ok` and `present_ok`, of a word where
+    // those are of a byte. One function for both is no plainer: each test is one line.
     #[tactic(auto, unfolding(crate::specs::Frame::association_ok, engine::specs::Body::code_ok, engine::specs::Body::present_ok))]
     fn association_ok(&self, j: usize) -> bool
         requires { j < association_count self.now.words }

@@ -1,5 +1,6 @@
 // The head of a frame's words.
-// As it is: the counts, codes and flag by their places and as numbers, since the words are the public format that a caller hands over.
+// As it is: the counts, codes and flag by their places and as numbers, since the words are the public format that a
+// caller hands over.
 ghost use Rattle.std.specs.Prelude.{◌≡◌, ◌+◌, ◌*◌, ◌≤◌, length};
 ghost use Rattle.bounds.specs.Bounds.{HEAD, TRACK};
 ghost use Rattle.smoother_frame.specs.Frame.{time, track_count, association_count, sensor_count, id_word, smoothed_as, head_ok};

@@ -1,7 +1,7 @@
 // The oldest held frame, smoothed, into the output buffers.
 //
-// As it is: a function for the words and one for the numbers. Of a struct of both as `&mut` slices it is not known what is written through them, so with one
-// the proofs do not close; fgo_emit's `put_frame` says the same.
+// As it is: a function for the words and one for the numbers. Of a struct of both as `&mut` slices it is not known what
+// is written through them, so with one the proofs do not close; fgo_emit's `put_frame` says the same.
 ghost use Rattle.std.specs.Prelude.{◌≡◌, ◌++◌, ◌+◌, ◌*◌, ◌≤◌, length, drop};
 ghost use Rattle.bounds.specs.Bounds.{STATE, WORDS, NUMBERS, LAG, TRACKS, words_for};
 ghost use Rattle.buffers.specs.Buffers.{over};
@@ -43,8 +43,9 @@ fn put_states(out: &mut [f64], held: &HeldFrames<'_>)
     }
 }
 
-// The words of the oldest held frame, with the flag that it is smoothed where the lag is not 0; how many there are. It asks that the window's words have the
-// length that lag and C ask for, that the counts in the frame's slot are in bounds, and that words has room for any frame.
+// The words of the oldest held frame, with the flag that it is smoothed where the lag is not 0; how many there are. It
+// asks that the window's words have the length that lag and C ask for, that the counts in the frame's slot are in
+// bounds, and that words has room for any frame.
 pub fn emit_words(words: &mut [u64], s: FixedLagSmoother, window: &[u64]) -> usize
     requires lags { lag s.config ≤ LAG }
     requires tracks { most s.config ≤ TRACKS }
@@ -61,7 +62,8 @@ pub fn emit_words(words: &mut [u64], s: FixedLagSmoother, window: &[u64]) -> usi
     frame.len()
 }
 
-// The numbers of the oldest held frame: its tracks smoothed, then its costs as they were; how many there are. It asks that numbers has room for any frame.
+// The numbers of the oldest held frame: its tracks smoothed, then its costs as they were; how many there are. It asks
+// that numbers has room for any frame.
 pub fn emit_numbers(numbers: &mut [f64], held: &HeldFrames<'_>) -> usize
     requires { NUMBERS ≤ length numbers.old }
     ensures many { result ≡ length (oldest (state_of held.now) held.now.window.words.now held.now.window.values.now).numbers }

@@ -49,8 +49,9 @@ fn step_back(q: f64, dt: f64, a: &TrackState, later: Option<TrackState>) -> Opti
 }
 
 // The pass over the held frames from the k-th on, which has the id at track i; nothing where a Cholesky fails.
-// As it is: a recursion, which goes back over the chain as it returns. A fold back from the chain's last frame is no plainer: to know that frame, the id is
-// first looked for in each frame, and then once more in the fold; or an array of states is filled and walked back.
+// As it is: a recursion, which goes back over the chain as it returns. A fold back from the chain's last frame is no
+// plainer: to know that frame, the id is first looked for in each frame, and then once more in the fold; or an array of
+// states is filled and walked back.
 fn pass(held: &HeldFrames<'_>, id: RefinedId, k: usize, i: usize) -> Option<TrackState>
     requires there { k < (state_of held.now).held }
     requires found { last_at id.0 (frame_of held.now k).words (track_count (frame_of held.now k).words) ≡ some i }

@@ -1,4 +1,5 @@
--- The window: where each held frame lies in the lent buffers. Slots of equal size go round, one frame in each. Definitions only.
+-- The window: where each held frame lies in the lent buffers. Slots of equal size go round, one frame in each.
+-- Definitions only.
 use Rattle.std.specs.Prelude.{ℕ, zero, suc, ◌+◌, ◌-◌, ◌*◌, ◌%◌, ◌≤◌, ◌<◌, ◌≡◌}
 use Rattle.std.specs.Prelude.{Bool, true, ◌&&◌, List, [], ◌∷◌, ◌++◌, length, take, drop, Float}
 use Rattle.bounds.specs.Bounds.{LAG, TRACKS, ASSOCIATIONS, SENSORS, words_for, numbers_for}

@@ -5,8 +5,8 @@ ghost use Rattle.bounds.specs.Bounds.{LAG, TRACKS, words_for, numbers_for};
 use bounds::{ASSOCIATIONS, BESIDE, STATE, TRACK};
 
 // So many words, and so many numbers.
-// As it is: a type beside a frame's `FrameSize`, for a window's size and for a slot's. One type for all is no plainer, since it would let a frame's size be
-// lent as a window's; a slot's is made and read in this crate alone.
+// As it is: a type beside a frame's `FrameSize`, for a window's size and for a slot's. One type for all is no plainer,
+// since it would let a frame's size be lent as a window's; a slot's is made and read in this crate alone.
 #[derive(Clone, Copy, PartialEq, Eq)]
 pub struct WindowSize {
     pub words: usize,

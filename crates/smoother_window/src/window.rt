@@ -14,9 +14,10 @@ use smoother_frame::frame::Frame;
 
 impl FixedLagSmoother {
     // The slot of the k-th held frame.
-    // As it is: lag ≤ LAG is asked here, of a window's words, in `drop_oldest`, in `store` as a part of `Fitting`, in `window_size`, in smoother's
-    // `window_fits` and in playback's `Sink::open`. A type that holds it is no plainer: this, `store` and `drop_oldest` are methods of the state, whose
-    // settings are fields to which a caller may write any number, so no fact can stand in it.
+    // As it is: lag ≤ LAG is asked here, of a window's words, in `drop_oldest`, in `store` as a part of `Fitting`, in
+    // `window_size`, in smoother's `window_fits` and in playback's `Sink::open`. A type that holds it is no plainer:
+    // this, `store` and `drop_oldest` are methods of the state, whose settings are fields to which a caller may write
+    // any number, so no fact can stand in it.
     #[tactic(auto, using(crate::proofs::Slots::turned_in))]
     pub(crate) fn slot(self, k: usize) -> usize
         requires { lag self.config ≤ LAG }
@@ -27,7 +28,8 @@ impl FixedLagSmoother {
         (self.first % slots + k % slots) % slots
     }
 
-    // A frame put into the next free slot. It asks that there is one, that the window has its length, and that the frame fits a slot.
+    // A frame put into the next free slot. It asks that there is one, that the window has its length, and that the
+    // frame fits a slot.
     pub fn store(&mut self, words: &mut [u64], values: &mut [f64], frame: &Frame<'_>)
         requires fitting { Fitting self.old words.old values.old }
         requires free { self.old.held ≤ lag self.old.config }
@@ -55,7 +57,8 @@ impl FixedLagSmoother {
         slot_at(words, at, size.words)
     }
 
-    // The words of the k-th held frame, of a window's words alone. It asks that these have their length, and that the counts in the slot are in bounds.
+    // The words of the k-th held frame, of a window's words alone. It asks that these have their length, and that the
+    // counts in the slot are in bounds.
     #[tactic(auto, unfolding(crate::specs::Window::words_in))]
     pub fn frame_words(self, words: &[u64], k: usize) -> &[u64]
         requires lags { lag self.config ≤ LAG }

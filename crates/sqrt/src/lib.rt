@@ -46,7 +46,8 @@ fn newton(x: f64, y: f64) -> f64 {
     0.5 * (y + x / y)
 }
 
-// A guess at the root of m * 2^52, rounded down, for m from 2^52 to 2^54: that root or one less, though nothing is promised but that it is below 2^53.
+// A guess at the root of m * 2^52, rounded down, for m from 2^52 to 2^54: that root or one less, though nothing is
+// promised but that it is below 2^53.
 #[tactic(auto, using(scalar::proofs::RootScale::no_nan))]
 fn root_guess(m: u64) -> u64
     requires { m < 2 ^ 54 }

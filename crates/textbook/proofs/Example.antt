@@ -1,4 +1,5 @@
--- A run of the filter at the arithmetic of 23 elements, computed: what the law asks holds there, so it speaks of something.
+-- A run of the filter at the arithmetic of 23 elements, computed: what the law asks holds there, so it speaks of
+-- something.
 -- The numbers expected are those of the textbook's matrices modulo 23. Assumes nothing.
 use mathlib.Core.Path.{◌≡◌, refl}
 use mathlib.Core.List.{List, [], ◌∷◌}

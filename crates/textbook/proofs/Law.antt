@@ -1,4 +1,5 @@
--- At exact arithmetic the plain filter's run over any list of observations, along any number of axes, is the textbook's. Assumes nothing.
+-- At exact arithmetic the plain filter's run over any list of observations, along any number of axes, is the
+-- textbook's. Assumes nothing.
 use mathlib.Core.Path.{◌≡◌, refl, ◌∙◌}
 use mathlib.Core.List.{List, [], ◌∷◌, foldl}
 use Prim.Native.Nat.{ℕ}

@@ -1,4 +1,5 @@
--- At exact arithmetic the plain filter's update is the textbook's: S, its inverse, K, ν, x = x⁻ + K ν, P = (I − K H) P⁻ and the likelihood. Assumes nothing.
+-- At exact arithmetic the plain filter's update is the textbook's: S, its inverse, K, ν, x = x⁻ + K ν, P = (I − K H) P⁻
+-- and the likelihood. Assumes nothing.
 use mathlib.Core.Path.{◌≡◌, refl, sym, ap, ap₂, ◌∙◌}
 use mathlib.Core.Bool.{true}
 use Prim.Native.Nat.{ℕ, ◌+◌, ◌<◌}

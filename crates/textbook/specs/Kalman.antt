@@ -1,7 +1,9 @@
--- The Kalman filter of the textbooks, at constant velocity along n axes. The state x has 2n numbers, the positions and after them the speeds. From a state x
--- with the covariance P, an observation z that comes dt later leads to x' and P' by
+-- The Kalman filter of the textbooks, at constant velocity along n axes. The state x has 2n numbers, the positions and
+-- after them the speeds. From a state x with the covariance P, an observation z that comes dt later leads to x' and P'
+-- by
 --     x⁻ = F x,  P⁻ = F P Fᵀ + Q,  S = H P⁻ Hᵀ + R,  K = P⁻ Hᵀ S⁻¹,  ν = z − H x⁻,  x' = x⁻ + K ν,  P' = (I − K H) P⁻.
--- Vectors and matrices are functions of row and column; equations between them hold of the entries below their sizes. Definitions only.
+-- Vectors and matrices are functions of row and column; equations between them hold of the entries below their sizes.
+-- Definitions only.
 use Rattle.std.specs.Prelude.{◌≡◌, true, List, [], ◌∷◌, ℕ, ◌+◌, ◌<◌, length, get_or}
 use Rattle.scalar.specs.Num.{Num}
 use Rattle.linalg.specs.Matrix.{at, unit}
@@ -96,7 +98,8 @@ pub record Prior (N : Num) (n : ℕ) (v : N.F) (o : Observed N.F) (a : Estimate 
   pub time : a.t ≡ o.t
 
 module _ (N : Num) (n : ℕ) (q : N.F) where
-  -- from the state a to b, and the sum of the negative log-likelihoods from l to l': each observation is one step from the state before it
+  -- from the state a to b, and the sum of the negative log-likelihoods from l to l': each observation is one step from
+  -- the state before it
   abbrev pub Over : Estimate N.F → N.F → List (Observed N.F) → Estimate N.F → N.F → Type 0
   Over a l [] b l' = (b ≡ a) × (l' ≡ l)
   Over a l (o ∷ os) b l' = (c : Estimate N.F) × (k : N.F) × Kalman N n q a o.t o.r (z N o) c k × Over c (N.add l k) os b l'
@@ -128,5 +131,5 @@ abbrev pub AllAlong : {F : Type 0} → ℕ → List (Observed F) → Type 0
 AllAlong n [] = Unit {0}
 AllAlong n (o ∷ os) = (length o.at ≡ n) × AllAlong n os
 
--- The laws, in proofs/, at exact arithmetic: Predicting: predict is Predicted. Updating: track work is Kalman. Law: run is Published, for any n and any
--- observations along n axes, where p00 + r is above 0 at each update.
+-- The laws, in proofs/, at exact arithmetic: Predicting: predict is Predicted. Updating: track work is Kalman. Law: run
+-- is Published, for any n and any observations along n axes, where p00 + r is above 0 at each update.

@@ -9,9 +9,9 @@ use borrow.Author.Tests.{eq-eqb, ne_eqb}
 use Rattle.std.proofs.Common.{rules, tests}
 use Rattle.std.specs.Prelude.{Option, None, Some}
 use Rattle.std.specs.Option.{MatchOption}
-use Rattle.std.proofs.lemmas.Iterator.{first_from_Range}
 use Rattle.cost.specs.declared.Fold.TheVariants.{Fresh}
 use Rattle.fgo_part.specs.Parts.{part_id}
+use Rattle.fgo_part.proofs.Places.{rises_below}
 use Rattle.cost_row.specs.Price.{frozen_at, fold_after}
 use Rattle.cost_row.proofs.fold_from.Goals as goal
 
@@ -43,8 +43,6 @@ returns c =
     let ts = f.tracks.now in
     let fs = c.args.filters.now in
     let x = c.args.x.0 in
-    either c.find.result
-    (first_from_Range _ _ _ _ (λ k. x ≡ part_id ts k) (λ k. x ≡ part_id ts k → ⊥) c.find.ensures.ran (λ k q t. search (rules, tests)) (λ k q t. search (rules, tests)))
-    c.map_or.ensures
-    (λ none r. r ∙ sym (lacking ts fs x 0 f.count (λ k h l. none k h (omega arith))))
-    (λ i first r. let v : c.map_or.result ≡ frozen_at ts fs i = search (rules, tests) in v ∙ sym (found ts fs x 0 f.count i (omega arith) (omega arith) first.2 first.3))
+    either c.find.result c.find.ensures c.map_or.ensures
+    (λ none r. r ∙ sym (lacking ts fs x 0 f.count (λ k h l. none k (omega arith))))
+    (λ i there r. let v : c.map_or.result ≡ frozen_at ts fs i = search (rules, tests) in v ∙ sym (found ts fs x 0 f.count i (omega arith) (omega arith) there.1 (λ k h l e. omega (arith, rises_below f.rises k i l there.0))))

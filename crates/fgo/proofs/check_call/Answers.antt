@@ -1,22 +1,22 @@
 use Rattle.fgo.proofs.Answering.{sound_is}
 use Rattle.fgo.specs.Promise.{later_refusal}
-use mathlib.Core.Path.{sym, ◌∙◌}
+use mathlib.Core.Path.{refl, sym, ◌∙◌}
 use Rattle.fgo.proofs.check_call.Goals as goal
 
-pub returns-then-not-is_sound : goal.returns-then-not-is_sound
+pub returns-in_default-clause-refusal : goal.returns-in_default-clause-refusal
 unfolding later_refusal
-returns-then-not-is_sound c =
+returns-in_default-clause-refusal c =
     let g = c.args in
-    rw (sound_is g.r.now g.memory.now c.is_sound.ensures (c.if-not-is_sound.true))
+    rw (sound_is g.r.now g.memory.now c.in_default.ensures.sound refl)
 
-pub returns-then-not-is_roomy : goal.returns-then-not-is_roomy
+pub returns-then-not-is_roomy-clause-refusal : goal.returns-then-not-is_roomy-clause-refusal
 unfolding later_refusal
-returns-then-not-is_roomy c =
+returns-then-not-is_roomy-clause-refusal c =
     let g = c.args in
-    rw (sound_is g.r.now g.memory.now c.is_sound.ensures (c.if-not-is_sound.false), sym c.is_roomy.ensures ∙ c.if-not-is_roomy.true)
+    rw (sound_is g.r.now g.memory.now c.in-Some.ensures.sound refl, sym c.is_roomy.ensures ∙ c.if-not-is_roomy.true)
 
-pub returns : goal.returns
+pub returns-clause-refusal : goal.returns-clause-refusal
 unfolding later_refusal
-returns c =
+returns-clause-refusal c =
     let g = c.args in
-    rw (sound_is g.r.now g.memory.now c.is_sound.ensures (c.if-not-is_sound.false), sym c.is_roomy.ensures ∙ c.if-not-is_roomy.false)
+    rw (sound_is g.r.now g.memory.now c.in-Some.ensures.sound refl, sym c.is_roomy.ensures ∙ c.if-not-is_roomy.false)

@@ -1,7 +1,7 @@
 use Prim.Native.Nat.{ℕ, ◌+◌}
 use native.Mathlib.Omega.{arith}
 use mathlib.Core.Path.{◌≡◌, ap}
-use Rattle.fgo.proofs.Leaving.{freezes, puts, time-is, forgets, kept-few, leaving_ends}
+use Rattle.fgo.proofs.Leaving.{freezes, puts, time-is, forgets, kept-parts, leaving_ends}
 use Rattle.fgo.proofs.freeze_oldest.Goals as goal
 
 pub freeze_scan-many-requires : goal.freeze_scan-many-requires
@@ -30,7 +30,8 @@ live_in-live-requires c =
     let pre = c.requires in
     let h = c.held_in-held.ensures in
     let forgot = rw (h.0, h.1, h.2, c.later-r.ensures) at c.forget-r.ensures in
-    (omega (arith, pre.0.early), kept-few _ _ pre.0 pre.2 c.freeze_scan-many.new.parts.tracks c.freeze_scan-many.new.parts.filters c.freeze_scan-many.result c.freeze_scan-many.ensures c.forget-r.new.parts.tracks c.forget-r.new.parts.filters c.forget-r.result (time-is _ _ pre.0 pre.2 c.body.ensures c.time-time.ensures.1) forgot)
+    let kept = kept-parts _ _ pre.0 pre.2 c.freeze_scan-many.new.parts.tracks c.freeze_scan-many.new.parts.filters c.freeze_scan-many.result c.freeze_scan-many.ensures c.forget-r.new.parts.tracks c.forget-r.new.parts.filters c.forget-r.result (time-is _ _ pre.0 pre.2 c.body.ensures c.time-time.ensures.1) forgot in
+    (omega (arith, pre.0.early), kept.0, kept.1)
 
 pub keep_owners-r-requires : goal.keep_owners-r-requires
 keep_owners-r-requires c = c.requires.0.owners

@@ -10,17 +10,17 @@ use native.Mathlib.Omega.{arith}
 use mathlib.Core.Path.{sym}
 use Rattle.fgo.proofs.push.Goals as goal
 
-pub returns-in_err-check_call : goal.returns-in_err-check_call
-returns-in_err-check_call c = let a = c.args in
+pub returns-in_err-gathered : goal.returns-in_err-gathered
+returns-in_err-gathered c = let a = c.args in
     let m = a.memory.now in
-    let r = c.in_err-check_call.field-0.0 in
+    let r = c.in_err-gathered.field-0.0 in
     let p = err_from_is_err_and c.from_residual.result c.from_residual.ensures.1 in
-    rw (p.1, p.2) (refusal_ends a.r.now m a.words.now a.numbers.now (due_refused a.r.now m a.words.now a.numbers.now (pushed (body_of a.b.now)) c.in_err-check_call.ensures (eqb-false _ 0 (numbered r))))
+    rw (p.1, p.2) (refusal_ends a.r.now m a.words.now a.numbers.now (due_refused a.r.now m a.words.now a.numbers.now (pushed (body_of a.b.now)) c.in_err-gathered.ensures.refusal (eqb-false _ 0 (numbered r))))
 
 pub check_push-requires : goal.check_push-requires
 check_push-requires c = let a = c.args in
     let m = a.memory.now in
-    let e = c.in_ok-check_call.ensures in
+    let e = c.in_ok-gathered.ensures.refusal in
     refuses a.r.now m (later_none a.r.now m a.words.now a.numbers.now (sym e)).0
 
 pub returns-in_err-check_push : goal.returns-in_err-check_push
@@ -29,25 +29,28 @@ returns-in_err-check_push c = let a = c.args in
     let b = body_of a.b.now in
     let r = c.in_err-check_push.field-0.0 in
     let p = err_from_is_err_and c.from_residual-in_err-check_push.result c.from_residual-in_err-check_push.ensures.1 in
-    let due = push_numbered a.r.now m b a.words.now a.numbers.now (sym c.in_ok-check_call.ensures) (number_of r) c.in_err-check_push.ensures (eqb-false _ 0 (numbered r)) in
+    let due = push_numbered a.r.now m b a.words.now a.numbers.now (sym c.in_ok-gathered.ensures.refusal) (number_of r) c.in_err-check_push.ensures (eqb-false _ 0 (numbered r)) in
     rw (p.1, p.2) (refusal_ends a.r.now m a.words.now a.numbers.now due)
 
 pub arrive-requires : goal.arrive-requires
 arrive-requires c = let a = c.args in
     let m = a.memory.now in
-    let e = c.in_ok-check_call.ensures in
-    record { sound = (later_none a.r.now m a.words.now a.numbers.now (sym e)).0; accepted = sym c.in_ok-check_push.ensures }
+    let e = c.in_ok-gathered.ensures.refusal in
+    record {
+      arrives = record { sound = (later_none a.r.now m a.words.now a.numbers.now (sym e)).0; accepted = sym c.in_ok-check_push.ensures };
+      gathered = c.in_ok-gathered.ensures.gathered;
+    }
 
 pub freeze_oldest-requires : goal.freeze_oldest-requires
 freeze_oldest-requires c = let a = c.args in
     let m = a.memory.now in
-    let e = c.in_ok-check_call.ensures in
+    let e = c.in_ok-gathered.ensures.refusal in
     (c.arrive.ensures.arrived.ready, (later_none a.r.now m a.words.now a.numbers.now (sym e)).1, omega (arith, c.if-r.true))
 
 pub returns-then-r : goal.returns-then-r
 returns-then-r c = let a = c.args in
     let m = a.memory.now in
-    let e = c.in_ok-check_call.ensures in
+    let e = c.in_ok-gathered.ensures.refusal in
     let b = body_of a.b.now in
     let none = sym e in
     push_leaves a.r.now m b a.words.now a.numbers.now none (sym c.in_ok-check_push.ensures) _ _ c.arrive.ensures.arrived c.if-r.true c.freeze_oldest.ensures.promised
@@ -55,7 +58,7 @@ returns-then-r c = let a = c.args in
 pub returns : goal.returns
 returns c = let a = c.args in
     let m = a.memory.now in
-    let e = c.in_ok-check_call.ensures in
+    let e = c.in_ok-gathered.ensures.refusal in
     let b = body_of a.b.now in
     let none = sym e in
     push-held a.r.now m b a.words.now a.numbers.now none (sym c.in_ok-check_push.ensures) _ _ c.arrive.ensures.arrived c.if-r.false

@@ -4,9 +4,15 @@ use native.Mathlib.Omega.{arith}
 use Rattle.engine.proofs.Ids.{same_id, other_id}
 use Rattle.fgo_part.specs.Parts.{part_id}
 use Rattle.fgo_freeze.specs.Frozen.{detection_by}
+use Rattle.fgo_freeze.proofs.Order.{ordered_rises}
 use Rattle.fgo_freeze.proofs.FrozenOne.{can_move, one_moved, one-begun}
 use Rattle.fgo_freeze.proofs.freeze_one.Goals as goal
 use Rattle.fgo_freeze.proofs.freeze_one.Goals.{else-k-frozen-via-then-k-frozen+else-eq, else-k-frozen-via-else-k-frozen}
+
+pub invariant_of-tracks-clause-rises : goal.invariant_of-tracks-clause-rises
+invariant_of-tracks-clause-rises c =
+    let a = c.args in
+    ordered_rises c.requires.most a.parts.now.tracks a.parts.now.filters a.frozen c.requires.ordered
 
 pub freeze-requires : goal.freeze-requires
 freeze-requires c =

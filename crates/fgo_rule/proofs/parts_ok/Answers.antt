@@ -7,6 +7,6 @@ pub returns : goal.returns
 unfolding parts_ok
 returns c =
     let a = c.args in
-    let n = a.frozen.now.count in
-    let test = part_ok a.first.0 a.next.0 a.frozen.now.tracks.now in
+    let n = a.frozen in
+    let test = part_ok a.first.0 a.next.0 a.tracks.now in
     all_of_range test n refl c.all.ensures.ran (λ i b q t. search (rules, tests))

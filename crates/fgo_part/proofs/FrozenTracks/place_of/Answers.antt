@@ -1,25 +1,31 @@
-use Rattle.std.proofs.Common.{◌≡◌, ℕ, ◌<◌, ◌≤◌, refl, sym, ap, ◌∙◌, arith, rules, tests}
-use mathlib.Core.List.{map}
-use Rattle.std.proofs.lemmas.Iterator.{YieldsList-from_range, IsFirst-from_position, index_from_first}
-use Rattle.std.proofs.lemmas.List.FromFn.{length-range_with_len}
-use Rattle.std.specs.List.{range_with_len}
-use Rattle.std.specs.Option.{unwrap_or}
-use Rattle.fgo_spec.specs.Lists.{place_in}
-use Rattle.fgo_part.specs.Parts.{part_id, part_ids}
-use Rattle.fgo_part.proofs.Places.{rows_range, place_nowhere, place-here, place-past, place-few}
-use Rattle.engine.proofs.Passing.{length-rows}
+use native.Mathlib.Nat.{zero-add}
+use native.Mathlib.Omega.{arith}
+use Prim.Native.Nat.{ℕ, ◌+◌, ◌-◌, ◌/◌, ◌≤◌, ◌<◌}
+use mathlib.Core.Path.{◌≡◌}
+use Rattle.engine.proofs.Ids.{id_to, id_past}
+use Rattle.fgo_part.specs.Parts.{part_id}
+use Rattle.fgo_part.proofs.Places.{place_within, place_until, place_later}
 use Rattle.fgo_part.proofs.FrozenTracks.place_of.Goals as goal
 
-pub returns : goal.returns
-returns c =
+pub loop-low-init : goal.loop-low-init
+loop-low-init c =
     let s = c.args.self.now in
-    let x = c.args.id.0 in
-    let g : ℕ → ℕ = part_id s.tracks.now in
-    let l = range_with_len 0 s.count in
-    let first = IsFirst-from_position _ _ _ (λ k. x ≤ g k) (λ k. g k < x) c.position.ensures.ran (YieldsList-from_range 0 s.count s.count refl (omega arith)) (λ k q t. search (rules, tests)) (λ k q t. search (rules, tests)) in
-    let is : c.unwrap_or.result ≡ place_in x (part_ids s.tracks.now s.count) =
-    c.unwrap_or.ensures
-    ∙ ap (unwrap_or c.position.result) (sym (length-range_with_len 0 s.count))
-    ∙ sym (index_from_first (λ ks. place_in x (map g ks)) (λ k. x ≤ g k) (λ k. g k < x) (place_nowhere x) (λ k ks. place-here x (g k) (map g ks)) (λ k ks. place-past x (g k) (map g ks)) l c.position.result first)
-    ∙ ap (place_in x) (sym (rows_range g 0 s.count)) in
-    (is, rw is (omega (arith, place-few x (part_ids s.tracks.now s.count), length-rows g 0 s.count)))
+    (omega arith, place_within (part_id s.tracks.now) c.args.id.0 0 s.count, omega arith)
+
+pub loop-low-preserved-then-le : goal.loop-low-preserved-then-le
+loop-low-preserved-then-le c =
+    let s = c.args.self.now in
+    let v = c.loop-low in
+    let m : ℕ = v.low + (v.high - v.low) / 2 in
+    let z : 0 + m ≡ m = zero-add m in
+    let h : m < s.count = omega arith in
+    let l : c.args.id.0 ≤ part_id s.tracks.now (0 + m) = rw z (omega (arith, id_to c.args.id.0 c.part_id.result.0 c.le.ensures c.if-le.true, c.part_id.ensures)) in
+    (omega arith, place_until (part_id s.tracks.now) c.args.id.0 0 s.count m h l, omega arith)
+
+pub loop-low-preserved : goal.loop-low-preserved
+loop-low-preserved c =
+    let s = c.args.self.now in
+    let v = c.loop-low in
+    let m : ℕ = v.low + (v.high - v.low) / 2 in
+    let h : m < s.count = omega arith in
+    (place_later s.rises c.args.id.0 m h (omega (arith, id_past c.args.id.0 c.part_id.result.0 c.le.ensures c.if-le.false, c.part_id.ensures)), omega arith, omega arith)

@@ -15,8 +15,8 @@ loop-k-preserved c = let f = c.args in
       omega arith,
       v.1,
       elim c.match-latest.branch [
-        | in-Some w ↦ (let s = from_some _ w.in-Some.x (sym c.latest.ensures ∙ w.in-Some.is) in changed f.gathered.now.ids f.gathered.now.engines f.gathered.now.starts f.gathered.now.held f.owners.now l.k l.owners v.2 c.engine_at-e.ensures (sym s.0) few s.1 (w.owners-is ∙ w.put_owner.ensures))
-        | in_default w ↦ (let s = from_none _ (sym c.latest.ensures ∙ w.in_default.is) in rw w.owners-is (kept f.gathered.now.ids f.gathered.now.engines f.gathered.now.starts f.gathered.now.held f.owners.now l.k l.owners v.2 c.engine_at-e.ensures (sym s) (omega arith)))
+        | in-Some w ↦ (let s = from_some _ w.in-Some.x (sym c.latest.ensures ∙ w.in-Some.is) in changed f.gathered.now.ids f.engines.now.ids.now f.gathered.now.starts f.gathered.now.held f.owners.now l.k l.owners v.2 c.engine_at-e.ensures (sym s.0) few s.1 (w.owners-is ∙ w.put_owner.ensures))
+        | in_default w ↦ (let s = from_none _ (sym c.latest.ensures ∙ w.in_default.is) in rw w.owners-is (kept f.gathered.now.ids f.engines.now.ids.now f.gathered.now.starts f.gathered.now.held f.owners.now l.k l.owners v.2 c.engine_at-e.ensures (sym s) (omega arith)))
       ],
     )
 
@@ -24,4 +24,4 @@ pub returns : goal.returns
 returns c = let f = c.args in
     let l = c.loop-k in
     let v = c.loop-k.invariant in
-    all_told f.gathered.now.ids f.gathered.now.engines f.gathered.now.starts f.gathered.now.held f.owners.now f.owned l.k l.owners c.loop-k-test.false v.2
+    all_told f.gathered.now.ids f.engines.now.ids.now f.gathered.now.starts f.gathered.now.held f.owners.now f.owned l.k l.owners c.loop-k-test.false v.2

@@ -1,6 +1,8 @@
 use native.Mathlib.Omega.{arith}
+use mathlib.Core.Path.{ap}
 use lib.ListN.{get_or}
 use lib.Ieee.{binary64, add}
+use Rattle.search_rows.specs.declared.moves.Tally.{Tally}
 use Rattle.search_rows.specs.Moves.{pair_ids}
 use Rattle.search.specs.Stands.{scene_under}
 use Rattle.search.proofs.Costing.{row_fit}
@@ -51,6 +53,6 @@ returns-in-Some-clause-swept c =
     let p = c.requires in
     let begins = s.pass.now.scene.now.starts.now.rise in
     let long = pair_long e begins a b s.state.now.ids p.2.costed.all c.in-Some.m c.row_now-ra.result c.row_now-rb.result c.apply.ensures in
-    stands_anew s.pass.now.ids p.2 s.i s.j p.0 p.1 _ long
+    stands_anew s.pass.now.ids p.2 s.i s.j p.0 p.1 (ap (λ (t : Tally). t.next_id.0) c.count-state.ensures) _ long
     (pair_leaves e begins a b s.state.now.ids p.2.costed.all c.in-Some.m c.row_now-ra.result c.row_now-rb.result c.apply.ensures)
     c.track_cost.result c.track_cost-in-Some.result c.track_cost.ensures c.track_cost-in-Some.ensures

@@ -12,9 +12,9 @@ pub returns-in-Some-clause-turned : goal.returns-in-Some-clause-turned
 returns-in-Some-clause-turned c =
     let p = c.requires in
     let r = c.pair_step.ensures in
-    turn_steps c.args.state.now.tally p.0 p.1 p.2 (sym c.in-Some.is ∙ c.close_rows.ensures) r.step r.grows r.rests
+    turn_steps c.args.state.now.tally p.0 p.1 p.2 (sym c.in-Some.is ∙ rw c.args.pass.now.squared at c.close_rows.ensures) r.step r.grows r.rests
 
 pub returns-in_default-clause-turned : goal.returns-in_default-clause-turned
 returns-in_default-clause-turned c =
     let p = c.requires in
-    turn_apart c.args.state.now.tally p.0 p.1 p.2 (sym c.in_default.is ∙ c.close_rows.ensures)
+    turn_apart c.args.state.now.tally p.0 p.1 p.2 (sym c.in_default.is ∙ rw c.args.pass.now.squared at c.close_rows.ensures)

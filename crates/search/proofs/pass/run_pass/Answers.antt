@@ -1,16 +1,16 @@
-use mathlib.Core.Path.{ap, ◌∙◌}
+use mathlib.Core.Path.{refl, ap, ◌∙◌}
 use lib.ListN.{take}
 use Rattle.search_rows.specs.Moves.{begun}
 use Rattle.search.specs.Lent.{scene_in}
 use Rattle.search.specs.Pass.{Progress, progress_of, sweep, visit}
-use Rattle.search.proofs.IdsAscend.{present_listed}
+use Rattle.search.proofs.Listing.{present_listed}
 use Rattle.search.proofs.Passes.{pass_is, pass_leaves}
 use Rattle.search.proofs.pass.run_pass.Goals as goal
 
 pub invariant_of-pass : goal.invariant_of-pass
 invariant_of-pass c =
     let b = c.begin_pass.ensures in
-    record { ids = present_listed c.args.scene.now.detections c.args.state.now.ids _ _ b.listed; due = b.due }
+    record { squared = refl; ids = present_listed c.args.scene.now.detections c.args.state.now.ids _ _ b.listed; due = b.due; enclosed = c.fill_extents.ensures }
 
 pub returns-clause-passed : goal.returns-clause-passed
 returns-clause-passed c =

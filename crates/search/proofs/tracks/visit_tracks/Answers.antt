@@ -6,7 +6,7 @@ pub loop-i-preserved : goal.loop-i-preserved
 loop-i-preserved c =
     let p = c.args.pass.now in
     let r = c.track_turn.ensures in
-    visit-step p.ids c.loop-i.invariant p.scene.now.starts.now.rise c.loop-i-test.true r.step r.visits r.grows
+    visit-step p.ids c.loop-i.invariant c.loop-i-test.true r.step r.visits r.grows
 
 pub returns-clause-visited : goal.returns-clause-visited
 returns-clause-visited c = (visit_done c.args.pass.now.ids c.loop-i.invariant (omega arith)).0

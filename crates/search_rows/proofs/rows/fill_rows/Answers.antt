@@ -1,25 +1,24 @@
-use mathlib.Core.Path.{◌≡◌, ap, ◌∙◌}
-use mathlib.Core.List.{List}
+use mathlib.Core.Path.{◌≡◌, ◌∙◌, subst}
 use Prim.Native.Nat.{ℕ}
 use native.Mathlib.Omega.{arith}
-use lib.ListN.{length, get_or, take, drop, get_or-append, length-append, length-drop}
+use lib.ListN.{length, get_or, take, drop, length-append, length-drop, get_or-append}
 use lib.Seq.{length-take-le}
-use Rattle.search_rows.specs.Rows.{no_row}
-use Rattle.search_rows.proofs.RowSlots.{row_within}
+use Rattle.bounds.specs.Bounds.{SCANS}
+use Rattle.search_rows.specs.Rows.{no_row, Tabled}
+use Rattle.search_rows.proofs.Joining.{table_empty, table_whole}
 use Rattle.search_rows.proofs.rows.fill_rows.Goals as goal
 
-pub new-requires : goal.new-requires
-new-requires c =
+pub loop-k-init : goal.loop-k-init
+loop-k-init c =
     let s = c.args in
-    λ k h. omega (arith, ap (λ (r : List ℕ). get_or r k 0) c.row_of.ensures, row_within s.starts.now.places.now s.ids.now (get_or s.table.now c.loop-i.i 0) s.starts.now.rise k h)
+    let l = s.rows.now in
+    let made = c.clear.new.rows in
+    let long : length made ≡ s.n = c.clear.auto.rows ∙ length-take-le s.n l (omega (arith, c.requires.within, c.told-rows)) in
+    table_empty s.starts.now.rise s.ids.now (omega arith) (omega (arith, length-append made (drop s.n l), length-drop s.n l, c.requires.within, c.told-rows))
+    (λ j h. get_or-append made (drop s.n l) no_row j (omega arith) ∙ c.clear.ensures j (omega arith))
 
 pub returns : goal.returns
 returns c =
-    let l = c.args.rows.now in
-    let made = c.loop-i.row-items in
-    let first : length (take c.args.n l) ≡ c.args.n = length-take-le c.args.n l (omega (arith, c.told-rows)) in
-    let long : length made ≡ c.args.n = c.loop-i.auto.row-items ∙ first in
-    record {
-      long = omega (arith, length-append made (drop c.args.n l), length-drop c.args.n l, c.told-rows);
-      each = λ k h. get_or-append made (drop c.args.n l) no_row k (omega arith) ∙ c.loop-i.invariant k (omega (arith, c.loop-i-test.false));
-    }
+    let s = c.args in
+    let q : c.loop-k.k ≡ SCANS = omega arith in
+    table_whole s.starts.now.rise s.ids.now (omega arith) (subst (λ (k : ℕ). Tabled s.starts.now.places.now (take (get_or s.starts.now.places.now k 0) s.ids.now) s.table.now s.n c.loop-k.rows) q c.loop-k.invariant)

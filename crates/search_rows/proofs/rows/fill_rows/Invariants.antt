@@ -1,8 +1,8 @@
-use Prim.Native.Nat.{ℕ, ◌<◌}
-use mathlib.Core.Path.{◌≡◌}
-use lib.ListN.{get_or}
-use Rattle.search_rows.specs.Rows.{entry_of, row_of, no_row}
+use lib.ListN.{get_or, take}
+use Rattle.search_rows.specs.Rows.{Tabled}
 use Rattle.search_rows.proofs.rows.fill_rows.Given as goal
 
-abbrev pub invariant-loop-i : goal.invariant-loop-i
-invariant-loop-i l = (k : ℕ) → k < l.i → get_or l.row-items k no_row ≡ entry_of (row_of l.starts.places.now l.ids (get_or l.table k 0))
+abbrev pub invariant-loop-k : goal.invariant-loop-k
+invariant-loop-k l =
+    let ends = l.starts.places.now in
+    Tabled ends (take (get_or ends l.k 0) l.ids) l.table l.n l.rows

@@ -1,5 +1,5 @@
-use Rattle.search_rows.proofs.Ascending.{Presenting}
+use Rattle.search_rows.specs.Rows.{present_in, Begins}
 use Rattle.search_rows.proofs.rows.present.Given as goal
 
 abbrev pub invariant-loop-x : goal.invariant-loop-x
-invariant-loop-x l = Presenting l.n l.ids l.table l.m l.x-iterator.iter.rest.now
+invariant-loop-x l = Begins (present_in l.x-index l.ids) l.m l.table

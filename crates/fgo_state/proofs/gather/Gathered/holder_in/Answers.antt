@@ -45,12 +45,12 @@ unfolding holder_of
 returns c =
     let a = c.args in
     let s = a.self.now in
-    let p : ℕ → Bool = λ i. eqb a.e.0 (get_or s.engines i 0) in
+    let p : ℕ → Bool = λ i. eqb a.e.0 (get_or a.engines.now i 0) in
     let g : ℕ → ℕ = λ i. get_or s.ids i 0 in
     let l = range_with_len a.a (a.b - a.a) in
     let found = reduce_from_yields_List (λ x z. max_by_ordering (nat_cmp x z) x z) _ c.max.result c.max.ensures.ran
     (YieldsList-from_map _ g (YieldsList-from_filter _ p (YieldsList-from_range a.a a.b (a.b - a.a) (ap (λ s. s.iter) c.map.ensures.source ∙ c.filter.ensures.source) refl) (ap (λ s. s.p) c.map.ensures.source ∙ c.filter.ensures.closure) (λ j b q t. search (rules, tests))) c.map.ensures.closure (λ i t q k. search (rules, tests))) in
-    let most : unwrap_or c.max.result 0 ≡ holder_of a.e.0 s.ids s.engines a.a a.b =
+    let most : unwrap_or c.max.result 0 ≡ holder_of a.e.0 s.ids a.engines.now a.a a.b =
     ap (λ o. unwrap_or o 0) found
     ∙ max_of_map g (filter p l)
     ∙ greatest p g a.a (a.b - a.a) 0

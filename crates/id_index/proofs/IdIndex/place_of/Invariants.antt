@@ -1,0 +1,15 @@
+use Rattle.std.proofs.Common.{◌≡◌, ℕ, ◌-◌, ◌<◌, length, get_or}
+use Rattle.id_index.specs.Index.{residue}
+use Rattle.id_index.proofs.IdIndex.place_of.Given as goal
+
+-- every place with the id lies below p, and p is 0 or tells a place with its residue
+abbrev pub invariant-loop-p : goal.invariant-loop-p
+invariant-loop-p l =
+    let ids = l.self.ids.now in
+    record {
+      none_past : (i : ℕ) → i < length ids → l.x ≡ get_or ids i 0 → i < l.p;
+      stands : 0 < l.p → (l.p - 1 < length ids) × (residue (get_or ids (l.p - 1) 0) ≡ residue l.x);
+    }
+
+abbrev pub decreases-loop-p : goal.decreases-loop-p
+decreases-loop-p l = l.p

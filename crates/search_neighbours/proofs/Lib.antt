@@ -1,0 +1,2 @@
+mod Far
+mod Enclosing
