@@ -166,6 +166,10 @@ STARTS = SCANS + 1
 abbrev pub KEPT : ℕ
 KEPT = 256
 
+-- What an id is divided by in an index of ids: each residue has a chain.
+abbrev pub RESIDUES : ℕ
+RESIDUES = 64
+
 -- ---- an emitted frame
 
 -- Tracks of a frame at most.

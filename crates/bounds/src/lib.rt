@@ -134,6 +134,9 @@ pub const STARTS: usize = SCANS + 1;
 // Logarithms that are kept at most.
 pub const KEPT: usize = 256;
 
+// What an id is divided by in an index of ids: each residue has a chain.
+pub const RESIDUES: usize = 64;
+
 // ---- an emitted frame
 
 // Tracks of a frame at most.

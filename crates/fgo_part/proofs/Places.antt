@@ -3,7 +3,7 @@ use Prim.Native.Nat.{ℕ, zero, suc, ◌+◌, ◌-◌, ◌≤◌, ◌<◌}
 use native.Mathlib.Nat.{zero-add, add-zero, eq-or-lt_of_le}
 use native.Mathlib.Numerals.{add-one}
 use native.Mathlib.Omega.{arith}
-use mathlib.Core.Path.{◌≡◌, refl, sym, ap}
+use mathlib.Core.Path.{◌≡◌, refl, sym, ap, ◌∙◌}
 use mathlib.Core.Logic.{⊎_elim}
 use mathlib.Core.Bool.{Bool, true, false, cond, ◌||◌, or-true}
 use mathlib.Core.List.{List, ◌∷◌, map}
@@ -13,6 +13,8 @@ use Rattle.std.specs.List.{range_with_len, list_any}
 use Rattle.std.specs.Prelude.{Option, None, Some}
 use Rattle.std.specs.Option.{is_some}
 use Rattle.engine.specs.Body.{rows}
+use Rattle.engine.proofs.Passing.{length-rows, row_at}
+use Rattle.fgo_spec.proofs.Having.{has_at, has_nowhere}
 use Rattle.fgo_spec.specs.Lists.{any, has, place_in}
 use Rattle.fgo_part.specs.Parts.{part_id, part_ids, Rises, IsPartOf}
 
@@ -60,22 +62,6 @@ module _ (g : ℕ → ℕ) (x : ℕ) where
       let r = place_past (suc o) n m (omega arith) (λ k t. let e : o + suc k ≡ suc o + k = omega arith in rw e at (h (suc k) (omega arith))) in
       rw (lt-ltb (g o) x q) (omega (arith, r))
 
--- ---- a number stands in a list
-
-pub has_there : (g : ℕ → ℕ) (x o n m : ℕ) → m < n → x ≡ g (o + m) → has x (rows g o n) ≡ true
-unfolding rows any
-has_there g x o zero m l e = absurd (omega arith)
-has_there g x o (suc n) zero l e = let q : x ≡ g o = rw add-zero at e in rw (eq-eqb x (g o) q) refl
-has_there g x o (suc n) (suc m) l e =
-    let q : o + suc m ≡ suc o + m = omega arith in
-    let h = has_there g x (suc o) n m (omega arith) (rw q at e) in
-    rw h (or-true (eqb x (g o)))
-
-pub has_nowhere : (g : ℕ → ℕ) (x o n : ℕ) → ((k : ℕ) → o ≤ k → k < o + n → x ≡ g k → ⊥) → has x (rows g o n) ≡ false
-unfolding rows any
-has_nowhere g x o zero h = refl
-has_nowhere g x o (suc n) h = rw (ne_eqb x (g o) (h o (omega arith) (omega arith))) (has_nowhere g x (suc o) n (λ k a b. h k (omega arith) (omega arith)))
-
 -- ---- among rising ids
 
 module _ {tracks : List ℕ} {n : ℕ} (r : Rises tracks n) where
@@ -104,5 +90,6 @@ module _ {tracks : List ℕ} {n : ℕ} (r : Rises tracks n) where
 
 -- what finding a part says of whether there is one
 pub part_has : (tracks : List ℕ) (n x : ℕ) (r : Option ℕ) → IsPartOf tracks n x r → is_some r ≡ has x (part_ids tracks n)
-part_has tracks n x None h = sym (has_nowhere (part_id tracks) x 0 n (λ k a b. h k (omega arith)))
-part_has tracks n x (Some k) h = sym (has_there (part_id tracks) x 0 n k h.0 (let z : 0 + k ≡ k = zero-add k in rw z h.1))
+part_has tracks n x None h =
+    sym (has_nowhere x (part_ids tracks n) (λ k a e. let l : k < n = rw length-rows at a in h k l (e ∙ row_at (part_id tracks) n k 0 l)))
+part_has tracks n x (Some k) h = sym (has_at x (part_ids tracks n) k (rw length-rows h.0) (h.1 ∙ sym (row_at (part_id tracks) n k 0 h.0)))

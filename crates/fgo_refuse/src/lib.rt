@@ -30,12 +30,12 @@ fn id_count(b: &CheckedBody<'_>) -> usize
 
 // The engine ids of a frame that no owner entry has, each once: the first `count`.
 #[derive(Drop)]
-struct Joined {
+struct NewEngines {
     all: [u64; ASSOCIATIONS],
     count: usize,
 }
 
-impl Joined {
+impl NewEngines {
     // One more, unless an entry has it or it is among them.
     fn join(&mut self, owners: &IdIndex<'_>, e: EngineId)
         requires { self.old.count < ASSOCIATIONS }
@@ -57,7 +57,7 @@ fn joined_count(o: &OwnersRef<'_>, b: &CheckedBody<'_>) -> usize
     let mut keys = [0; OWNED];
     o.keys(&mut keys);
     let owners = IdIndex::of(&keys[..o.owned]);
-    let mut joined = Joined {
+    let mut joined = NewEngines {
         all: [0; ASSOCIATIONS],
         count: 0,
     };

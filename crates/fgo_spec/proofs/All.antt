@@ -1,12 +1,21 @@
 -- What holds of all elements of a list. Assumes nothing.
+use Prim.Native.Nat.{ℕ, zero, suc, ◌<◌}
+use native.Mathlib.Omega.{arith}
 use mathlib.Core.Path.{◌≡◌, refl, sym, subst}
 use mathlib.Core.Logic.{◌⊎◌, inl, inr}
 use mathlib.Core.Bool.{Bool, true, false}
 use mathlib.Core.List.Memᴰ
 use mathlib.Core.List.{List, [], ◌∷◌, ◌++◌, map, foldl, Memᴰ}
 use lib.Dec.{T}
+use lib.ListN.{length, get_or}
 use Rattle.fgo_spec.specs.Lists.{keep, cons_if}
 use Rattle.fgo_spec.specs.Rule.{All}
+
+-- it holds of each place
+pub All_at : {A : Type 0} (P : A → Type 0) (l : List A) (d : A) → All P l → (k : ℕ) → k < length l → P (get_or l k d)
+All_at P [] d h k g = absurd (omega arith)
+All_at P (a ∷ l) d h zero g = h.0
+All_at P (a ∷ l) d h (suc k) g = All_at P l d h.1 k (omega arith)
 
 module _ {A : Type 0} where
   pub All_weaken : (P Q : A → Type 0) (l : List A) → ((a : A) → P a → Q a) → All P l → All Q l

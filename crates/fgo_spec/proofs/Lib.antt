@@ -1,4 +1,5 @@
 pub mod All
+pub mod Having
 pub mod Counting
 pub mod Tables
 pub mod Renaming

@@ -21,7 +21,9 @@ from f w = keep (λ d. leb f d.scan) w
 -- ---- two windows as one
 
 -- by which of two detections has the earlier scan; own says whose is kept in equal scans
-abbrev pub beside_by : Ordering → Bool → Detection → Detection → (List Detection → List Detection) → List Detection → List Detection → List Detection
+abbrev pub beside_by :
+    Ordering → Bool → Detection → Detection → (List Detection → List Detection) →
+    List Detection → List Detection → List Detection
 beside_by Ordering.lt own d e later w r = d ∷ later (e ∷ w)
 beside_by Ordering.eq own d e later w r = cond own d e ∷ later w
 beside_by Ordering.gt own d e later w r = e ∷ r

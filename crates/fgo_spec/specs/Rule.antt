@@ -4,7 +4,8 @@
 -- windows hold only held associations". That they hold them "rising in scan", and that "each held association lies in
 -- exactly one window or in clutter", is `complete` and `apart` of `ColumnRule`: an id for each association, and no
 -- track twice in a scan.
-use Rattle.std.specs.Prelude.{ℕ, zero, suc, ◌+◌, ◌≤◌, ◌<◌, ◌≡◌, Bool, true, false, ◌&&◌, ◌||◌, not, List, [], ◌∷◌, map, length, T, leb, ltb, eqb, None, Some}
+use Rattle.std.specs.Prelude.{ℕ, zero, suc, ◌+◌, ◌≤◌, ◌<◌, ◌≡◌, Bool, true, false, ◌&&◌, ◌||◌, not, leb, ltb, eqb}
+use Rattle.std.specs.Prelude.{List, [], ◌∷◌, map, length, T, None, Some}
 use Rattle.std.proofs.Math.Option.{Option, none, some}
 use Rattle.bounds.specs.Bounds.{ACCEPTED, DETECTIONS, OWNED, HEIGHTS}
 use Rattle.engine.specs.declared.config.FgoConfig.{FgoConfig}

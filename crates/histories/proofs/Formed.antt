@@ -19,6 +19,7 @@ use Rattle.engine.specs.Frame.{Frame, mode_number, Cost}
 use Rattle.engine.specs.Body.{code_ok, present_ok, time_ok}
 use Rattle.engine.proofs.Every.{all_true}
 use Rattle.engine.specs.Encode.{cost_present}
+use Rattle.fgo_spec.proofs.All.{All_at}
 use Rattle.fgo_spec.specs.Rule.{All}
 use Rattle.fgo_spec.specs.Emitting.{Listed, Emitted, lifecycle, class_word, outcome_word, cost_number, words_of, numbers_of, written}
 use Rattle.smoother_frame.specs.Frame as Form
@@ -69,12 +70,6 @@ lifecycle_code n = go (leb 2 n)
     go true = omega arith
     go false = omega arith
 
--- what holds of all of a list holds of each place in it
-All-at : (P : ℕ → Type 0) (l : List ℕ) → All P l → (k : ℕ) → k < length l → P (get_or l k 0)
-All-at P [] h k g = absurd (omega arith)
-All-at P (a ∷ l) h zero g = h.0
-All-at P (a ∷ l) h (suc k) g = All-at P l h.1 k (omega arith)
-
 -- ---- the tests
 
 module _ (e : Emitted) (f : Fine e) where
@@ -124,7 +119,7 @@ module _ (e : Emitted) (f : Fine e) where
   unfolding sensor_ok words_of
   sensor-passes k h =
       let p : Form.sensor_word w k ≡ get_or fr.sensors k 0 = sensor_word_lem e f.complete k in
-      rw (p, lt-ltb (get_or fr.sensors k 0) (2 ^ 32) (All-at (λ v. v < 2 ^ 32) fr.sensors f.bounded.small k h))
+      rw (p, lt-ltb (get_or fr.sensors k 0) (2 ^ 32) (All_at (λ v. v < 2 ^ 32) fr.sensors 0 f.bounded.small k h))
 
   pub well : well_formed TRACKS (written e) ≡ true
   unfolding well_formed rows_ok words_of

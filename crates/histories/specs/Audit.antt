@@ -105,7 +105,8 @@ pub record Heard (c : FgoConfig) (bs : List Body) (before : List Written) (o : W
   pub rising : Rising (tracks_in o)
   -- "each with its own associations in order", each with one id, or 0 for none; no two with one id
   pub links :
-      (j : ℕ) → j < length (frame_in body).associations → link_in o j ≡ association_words (get_or (frame_in body).associations j no_association) (id_at o j)
+      (j : ℕ) → j < length (frame_in body).associations →
+      link_in o j ≡ association_words (get_or (frame_in body).associations j no_association) (id_at o j)
   pub apart : (x : ℕ) → 0 < x → times x (ids_in o) ≤ 1
   -- its cost, 0.0 where it has none; "then the frame's sensors"; and nothing else: "these two lists at their exact
   -- length"

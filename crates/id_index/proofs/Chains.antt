@@ -2,7 +2,8 @@
 use Rattle.std.proofs.Common.{◌≡◌, ℕ, ◌+◌, ◌-◌, ◌<◌, List, length, get_or, set, replicate, get_or-set_same, get_or-set_other, below_more, arith, sym, ◌∙◌}
 use Rattle.std.proofs.lemmas.List.{get_or-replicate}
 use native.Mathlib.Decide.{ℕ_discrete}
-use Rattle.id_index.specs.Index.{RESIDUES, residue, TellsLast, Chained}
+use Rattle.id_index.specs.Index.{residue, TellsLast, Chained}
+use Rattle.bounds.specs.Bounds.{RESIDUES}
 
 module _ {ids : List ℕ} where
   -- no place

@@ -1,12 +1,9 @@
 -- Places of ids in a list, chained by the remainders of the ids. Definitions only.
 use Rattle.std.specs.Prelude.{ℕ, ◌-◌, ◌<◌, ◌≡◌, ◌%◌, List, length, get_or, Option}
 use Rattle.std.specs.Option.{MatchOption}
+use Rattle.bounds.specs.Bounds.{RESIDUES}
 
--- what an id is divided by
-abbrev pub RESIDUES : ℕ
-RESIDUES = 64
-
--- its remainder
+-- the remainder of an id
 abbrev pub residue : ℕ → ℕ
 residue x = x % RESIDUES
 

@@ -2,14 +2,11 @@
 #![tactic(auto)]
 
 ghost use Rattle.std.specs.Prelude.{◌≡◌, ◌≤◌, ◌<◌, length};
-ghost use Rattle.bounds.specs.Bounds.{OWNED};
+ghost use Rattle.bounds.specs.Bounds.{OWNED, RESIDUES};
 ghost use Rattle.fgo_spec.specs.Lists.{has};
 ghost use Rattle.id_index.specs.Index.{residue, Chained, IsLastPlace};
 
-use bounds::OWNED;
-
-// What an id is divided by.
-const RESIDUES: usize = 64;
+use bounds::{OWNED, RESIDUES};
 
 // A list of ids with, for each residue, the places where an id has it: chained, from the last to the first.
 // A place is told as one more than it is; 0 ends a chain.

@@ -1,5 +1,6 @@
 -- Document 01, "Recording and print", and what a recording is refused for: 11, 12, then 1. Definitions only.
-use Rattle.std.specs.Prelude.{ℕ, zero, suc, ◌+◌, ◌*◌, List, [], Bool, cond, not, ◌&&◌, ◌||◌, length, take, drop, leb, ltb, eqb, Result, Ok, Err}
+use Rattle.std.specs.Prelude.{ℕ, zero, suc, ◌+◌, ◌*◌, List, [], length, take, drop, Result, Ok, Err}
+use Rattle.std.specs.Prelude.{Bool, cond, not, ◌&&◌, ◌||◌, leb, ltb, eqb}
 use Rattle.bounds.specs.Bounds.{SETTING, SETTINGS, CONTENTS, ENTRY, FRAMES, RECORDING}
 use Rattle.engine.specs.Little.{little}
 use Rattle.engine.specs.Body.{all}

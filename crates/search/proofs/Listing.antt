@@ -8,16 +8,12 @@ use mathlib.Core.List.{List, [], ◌∷◌}
 use lib.ListN.{length, get_or, take, drop, drop_of_length-le}
 use lib.Seq.{drop-cons, get_or-take, length-take-le}
 use Rattle.fgo_spec.specs.Rule.{All}
+use Rattle.fgo_spec.proofs.All.{All_at}
 use Rattle.search_rows.specs.Rows.{present_in, Ascends, Begins}
 use Rattle.search_rows.proofs.IdsAscend.{present_ascends, ascends_above, ascends_rises}
 use Rattle.search.specs.Pass.{IdTable}
 
 -- ---- a table of the ids present
-
-all_at : (P : ℕ → Type 0) (l : List ℕ) → All P l → (i : ℕ) → i < length l → P (get_or l i 0)
-all_at P [] a i h = absurd (omega arith)
-all_at P (x ∷ l) a zero h = a.0
-all_at P (x ∷ l) a (suc i) h = all_at P l a.1 i (omega arith)
 
 -- an array that begins with the ids present
 module _ (n : ℕ) (ids : List ℕ) (m : ℕ) (array : List ℕ) (b : Begins (present_in n ids) m array) where
@@ -44,7 +40,7 @@ module _ (n : ℕ) (ids : List ℕ) (m : ℕ) (array : List ℕ) (b : Begins (pr
 
   -- what holds of them holds of each listed
   pub listed-each : (P : ℕ → Type 0) → All P (present_in n ids) → (k : ℕ) → k < m → P (get_or array k 0)
-  listed-each P a k h = subst P (at k h) (all_at P (take m array) (subst (All P) (sym b.is) a) k (subst (λ i. k < i) (sym size) h))
+  listed-each P a k h = subst P (at k h) (All_at P (take m array) 0 (subst (All P) (sym b.is) a) k (subst (λ i. k < i) (sym size) h))
 
 -- ---- one after the other
 

@@ -1,8 +1,8 @@
 -- The extents of the rows that a pass lists, in a table along x and one along y. Definitions only.
-use Rattle.std.specs.Prelude.{ℕ, ◌<◌, List, get_or}
+use Rattle.std.specs.Prelude.{ℕ, ◌<◌, ◌≡◌, List, get_or}
 use Rattle.std.specs.Float.{nan}
 use Rattle.kf.specs.declared.filter.Dot.{Dot}
-use Rattle.search_neighbours.specs.Extents.{Encloses}
+use Rattle.search_neighbours.specs.Extents.{extent_in}
 use Rattle.search_neighbours.specs.Near.{row_at}
 use Rattle.search_neighbours.specs.declared.extent.Extent.{Extent}
 use Rattle.search_neighbours.specs.declared.extent.Span.{Span}
@@ -16,6 +16,6 @@ span_past = record { low = nan; high = nan }
 abbrev pub extent_at : List Span → List Span → ℕ → Extent
 extent_at xs ys i = record { x = get_or xs i span_past; y = get_or ys i span_past }
 
--- those of the first n rows hold their detections
-pub record EnclosesEach (dots : List Dot) (n : ℕ) (rows : List Row) (xs ys : List Span) : Type 0 where
-  pub each : (i : ℕ) → i < n → Encloses dots (row_at rows i) (extent_at xs ys i)
+-- those at the first n places are those of the rows there
+pub record ExtentOfEach (dots : List Dot) (n : ℕ) (rows : List Row) (xs ys : List Span) : Type 0 where
+  pub each : (i : ℕ) → i < n → extent_at xs ys i ≡ extent_in dots (row_at rows i)

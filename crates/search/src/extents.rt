@@ -1,7 +1,7 @@
 // The extents of the rows that a pass lists: within which bounds the detections of each lie.
 ghost use Rattle.std.specs.Prelude.{◌≤◌};
 ghost use Rattle.bounds.specs.Bounds.{DETECTIONS};
-ghost use Rattle.search.specs.Extents.{EnclosesEach};
+ghost use Rattle.search.specs.Extents.{ExtentOfEach};
 
 use crate::listed::Listing;
 use bounds::DETECTIONS;
@@ -18,7 +18,7 @@ pub fn fill_extents(
     ys: &mut [Span; DETECTIONS],
 )
     requires { list.now.count ≤ DETECTIONS }
-    ensures { EnclosesEach dots.now list.now.count list.now.rows xs.new ys.new }
+    ensures { ExtentOfEach dots.now list.now.count list.now.rows xs.new ys.new }
 {
     for i in 0..list.count {
         let e = extent_of(&list.rows[i], dots);

@@ -1,7 +1,7 @@
 // What a pass lists, and the rows of it as they are now.
 ghost use Rattle.std.specs.Prelude.{◌≡◌};
 ghost use Rattle.search.specs.Pass.{radius2_on, IdTable, Due};
-ghost use Rattle.search.specs.Extents.{EnclosesEach};
+ghost use Rattle.search.specs.Extents.{ExtentOfEach};
 ghost use Rattle.search.specs.Lent.{scene_in};
 
 use crate::marks::Mark;
@@ -26,8 +26,8 @@ pub struct Listing {
 }
 
 // A pass over a scene, with what it lists, the extents of the rows along x and along y, and the square of the radius
-// within which detections of a pair are close. The ids ascend, what is due is so by their rows, and each extent holds
-// the detections of its row.
+// within which detections of a pair are close. The ids ascend, what is due is so by their rows, and each extent is
+// that of its row.
 #[derive(Drop)]
 pub struct Pass<'a> {
     pub scene: &'a SceneRef<'a>,
@@ -38,7 +38,7 @@ pub struct Pass<'a> {
     pub ghost squared: { radius2 ≡ radius2_on (scene_in scene.now) },
     pub ghost ids: { IdTable list.now.count list.now.table },
     pub ghost due: { Due (scene_in scene.now) list.now.count list.now.table list.now.rows list.now.due },
-    pub ghost enclosed: { EnclosesEach (scene_in scene.now).dots list.now.count list.now.rows xs.now ys.now },
+    pub ghost extents: { ExtentOfEach (scene_in scene.now).dots list.now.count list.now.rows xs.now ys.now },
 }
 
 // The entries of a row, as places.
@@ -52,7 +52,7 @@ impl Pass<'_> {
     ghost use Rattle.std.specs.Prelude.{◌≡◌, true, ◌<◌};
     ghost use Rattle.bounds.specs.Bounds.{DETECTIONS};
     ghost use Rattle.search_neighbours.specs.Near.{row_at};
-    ghost use Rattle.search_neighbours.specs.Extents.{Encloses};
+    ghost use Rattle.search_neighbours.specs.Extents.{extent_in};
     ghost use Rattle.search.specs.Pass.{row_on};
     ghost use Rattle.search.specs.Stands.{scene_under, listed_at};
 
@@ -70,7 +70,7 @@ impl Pass<'_> {
     // The extent of the row at place i of the table of rows.
     pub fn extent_at(&self, i: usize) -> Extent
         requires { i < self.now.list.now.count }
-        ensures { Encloses (scene_under self.now).dots (row_at self.now.list.now.rows i) result }
+        ensures { result ≡ extent_in (scene_under self.now).dots (row_at self.now.list.now.rows i) }
     {
         Extent {
             x: self.xs[i],

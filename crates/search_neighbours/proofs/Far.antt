@@ -1,6 +1,6 @@
--- Two rows whose extents lie far apart are close in no scan. A difference keeps the order of what it is made of, and so
--- does a square: of any two detections of the rows the difference of one coordinate is at least the gap, and their
--- squared distance at least its square. Assumes nothing.
+-- Two rows within extents that lie far apart are close in no scan. A difference keeps the order of what it is made of,
+-- and so does a square: of any two detections of the rows the difference of one coordinate is at least the gap, and
+-- their squared distance at least its square. Assumes nothing.
 use Rattle.std.proofs.Common.{◌≡◌, ℕ, zero, suc, ◌+◌, ◌-◌, ◌<◌, Bool, true, false, ◌||◌, T, List, [], ◌∷◌, get_or, map, ◌⊎◌, refl, subst, inl, inr, arith}
 use lib.Ieee.{Float, binary64, lt, le, of_bits}
 use lib.Dec.{eqb-suc-zero}
@@ -15,13 +15,17 @@ use Rattle.fgo_spec.specs.Searching.{◌⊕◌, ◌⊖◌, square}
 use Rattle.kf.specs.declared.filter.Dot.{Dot}
 use Rattle.search_neighbours.specs.declared.extent.Extent.{Extent}
 use Rattle.search_neighbours.specs.declared.extent.Span.{Span}
-use Rattle.search_neighbours.specs.Extents.{InSpan, Encloses, is_wide, are_apart}
+use Rattle.search_neighbours.specs.Extents.{InSpan, Encloses, is_wide, are_apart, is_far}
 use Rattle.search_neighbours.specs.Near.{near_slots, close_at, close_scans, any_close}
 
 -- a test that leads to an absurdity fails
 pub fails_if : (b : Bool) → (T b → ⊥) → b ≡ false
 fails_if true h = absurd (h tt)
 fails_if false h = refl
+
+or_split : (a b : Bool) → T (a || b) → T a ⊎ T b
+or_split true b t = inl tt
+or_split false b t = inr t
 
 zero_is : of_bits binary64 0 ≡ float_zero
 unfolding of_bits
@@ -60,19 +64,15 @@ module _ (radius2 low high v w : Float) (wide : T (is_wide radius2 (low ⊖ high
       )
 
 -- ---- v and w lie in spans that are apart
-apart_in : (radius2 : Float) (s t : Span) (v w : Float) → are_apart radius2 s t ≡ true → InSpan s v → InSpan t w
+apart_in : (radius2 : Float) (s t : Span) (v w : Float) → T (are_apart radius2 s t) → InSpan s v → InSpan t w
     → (u : Float) → (lt (square (v ⊖ w) ⊕ square u) radius2 ≡ false) × (lt (square u ⊕ square (v ⊖ w)) radius2 ≡ false)
-apart_in radius2 s t v w e p q u = elim (or_split (is_wide radius2 (s.low ⊖ t.high)) (is_wide radius2 (t.low ⊖ s.high)) (T_from_true _ e)) [
+apart_in radius2 s t v w e p q u = elim (or_split (is_wide radius2 (s.low ⊖ t.high)) (is_wide radius2 (t.low ⊖ s.high)) e) [
   | inl l ↦ apart radius2 s.low t.high v w l p.low q.high u
   | inr r ↦ rw (square_flip binary64 v w) (apart radius2 t.low s.high w v r q.low p.high u)
 ]
-  where
-    or_split : (a b : Bool) → T (a || b) → T a ⊎ T b
-    or_split true b t = inl tt
-    or_split false b t = inr t
 
 -- ---- entries of two rows, by where their detections lie
-module _ (radius2 : Float) (dots : List Dot) (e f : Extent) (far : (are_apart radius2 e.x f.x ≡ true) ⊎ (are_apart radius2 e.y f.y ≡ true)) where
+module _ (radius2 : Float) (dots : List Dot) (e f : Extent) (far : is_far radius2 e f ≡ true) where
   abbrev Lies : Extent → ℕ → Type 0
   Lies e i = (0 < i → InSpan e.x (dot_at dots (i - 1)).x) × (0 < i → InSpan e.y (dot_at dots (i - 1)).y)
 
@@ -80,7 +80,7 @@ module _ (radius2 : Float) (dots : List Dot) (e f : Extent) (far : (are_apart ra
   unfolding near_slots
   not_near zero j p q = refl
   not_near (suc i) zero p q = rw (eqb-suc-zero i) refl
-  not_near (suc i) (suc j) p q = rw (eqb-suc-zero i, eqb-suc-zero j) (elim far [
+  not_near (suc i) (suc j) p q = rw (eqb-suc-zero i, eqb-suc-zero j) (elim (or_split (are_apart radius2 e.x f.x) (are_apart radius2 e.y f.y) (T_from_true _ far)) [
     | inl x ↦ (apart_in radius2 e.x f.x _ _ x (p.0 (omega arith)) (q.0 (omega arith)) _).0
     | inr y ↦ (apart_in radius2 e.y f.y _ _ y (p.1 (omega arith)) (q.1 (omega arith)) _).1
   ])
@@ -99,6 +99,6 @@ module _ (radius2 : Float) (dots : List Dot) (e f : Extent) (far : (are_apart ra
     none [] = refl
     none (k ∷ ks) = rw (not_close_at k) (none ks)
 
-    pub far_rows : any_close (close_scans radius2 dots a b) ≡ false
+    pub none_close : any_close (close_scans radius2 dots a b) ≡ false
     unfolding close_scans
-    far_rows = none (up_from 0 SCANS)
+    none_close = none (up_from 0 SCANS)

@@ -1,2 +1,2 @@
-mod Far
-mod Enclosing
+pub mod Far
+pub mod Enclosing

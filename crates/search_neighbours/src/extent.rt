@@ -1,6 +1,6 @@
 // Within which bounds the detections of a row lie: rows whose bounds lie far apart are close in no scan.
-ghost use Rattle.std.specs.Prelude.{◌≡◌, true};
-ghost use Rattle.search_neighbours.specs.Extents.{Encloses, KeepApart, widened, is_wide, are_apart};
+ghost use Rattle.std.specs.Prelude.{◌≡◌};
+ghost use Rattle.search_neighbours.specs.Extents.{widened, with_dot, extent_in, is_wide, are_apart, is_far};
 
 use bounds::DETECTIONS;
 use kf::filter::Dot;
@@ -45,7 +45,7 @@ fn widened(s: Span, v: f64) -> Span
 
 // An extent with one detection more.
 fn with(e: Extent, d: Dot) -> Extent
-    ensures { result ≡ record { x = widened e.x d.x; y = widened e.y d.y } }
+    ensures { result ≡ with_dot e d }
 {
     Extent {
         x: widened(e.x, d.x),
@@ -55,7 +55,7 @@ fn with(e: Extent, d: Dot) -> Extent
 
 // The extent of a row's detections.
 pub fn extent_of(row: &Row, dots: &[Dot; DETECTIONS]) -> Extent
-    ensures { Encloses dots.now row.now.slots result }
+    ensures { result ≡ extent_in dots.now row.now.slots }
 {
     let mut extent = NOWHERE;
     for i in &row.slots {
@@ -83,7 +83,7 @@ fn are_apart(radius2: f64, s: Span, t: Span) -> bool
 // Between two extents there is a gap, along x or along y, as wide as the radius: no detection in the one is near any in
 // the other.
 pub fn is_far(radius2: f64, a: &Extent, b: &Extent) -> bool
-    ensures { result ≡ true → KeepApart radius2 a.now b.now }
+    ensures { result ≡ is_far radius2 a.now b.now }
 {
     are_apart(radius2, a.x, b.x) || are_apart(radius2, a.y, b.y)
 }

@@ -129,10 +129,10 @@ place-on k x (suc n) (y ∷ l) a h g =
     rw (lt-ltb y x (omega (arith, ascends_above y l a.1 n (omega arith)))) (omega (arith, place-on y x n l a.1 (omega arith) g))
 
 -- where it stands, it stands at its place
-pub place-has : (k x : ℕ) (l : List ℕ) → Ascends k l → T (has x l) → (place_in x l < length l) × (get_or l (place_in x l) 0 ≡ x)
+pub ascends_place : (k x : ℕ) (l : List ℕ) → Ascends k l → T (has x l) → (place_in x l < length l) × (get_or l (place_in x l) 0 ≡ x)
 unfolding place_in
-place-has k x [] a t = absurd (subst T (has_none x) t)
-place-has k x (y ∷ l) a t = go (ltb y x) refl (place-has y x l a.1)
+ascends_place k x [] a t = absurd (subst T (has_none x) t)
+ascends_place k x (y ∷ l) a t = go (ltb y x) refl (ascends_place y x l a.1)
   where
     go : (b : Bool) → ltb y x ≡ b → (T (has x l) → (place_in x l < length l) × (get_or l (place_in x l) 0 ≡ x)) →
         (cond b (suc (place_in x l)) 0 < suc (length l)) × (get_or (y ∷ l) (cond b (suc (place_in x l)) 0) 0 ≡ x)

@@ -16,13 +16,15 @@ use Rattle.bounds.specs.Bounds.{DETECTIONS, SCANS}
 use Rattle.fgo_spec.specs.Lists.{any, has, keep, segment, place_in}
 use Rattle.fgo_spec.specs.Gathered.{column_at}
 use Rattle.fgo_spec.proofs.Spreads.{above}
-use Rattle.fgo_spec.proofs.Counting.{or_right, has-sort, has-keep}
+use Rattle.fgo_spec.proofs.Counting.{has-sort, has-keep}
+use Rattle.fgo_spec.proofs.Having.{has_at}
+use Rattle.std.proofs.lemmas.Float.{T_from_true}
 use Rattle.search_rows.specs.declared.rows.Row.{Row}
 use Rattle.search_rows.specs.Rows.{Starts, Ascends, slot_in, row_entry, row_of, row_with, first_in, end_from, entry_of, no_row, present_in, Tabled, Begins}
 use Rattle.search_rows.proofs.Segments.{segment_cut, segment-more, length-segment}
 use Rattle.search_rows.proofs.Renamed.{starts_ordered, starts_within}
 use Rattle.search_rows.proofs.RowSlots.{row-length, row_at}
-use Rattle.search_rows.proofs.IdsAscend.{present_ascends, ascends_above, ascends_rises, place-has}
+use Rattle.search_rows.proofs.IdsAscend.{present_ascends, ascends_above, ascends_rises, ascends_place}
 use Rattle.search_rows.proofs.RowEnds.{end_past, end_empty, end-under}
 
 -- ---- a row with one entry more
@@ -167,12 +169,6 @@ module _ {starts : List ℕ} (s : Starts starts) (ids : List ℕ) (long : length
 pub entry-whole : {starts ids table : List ℕ} {n : ℕ} {rows : List Row} → Tabled starts ids table n rows → (p : ℕ) → p < n → get_or rows p no_row ≡ entry_of (get_or rows p no_row).slots
 entry-whole t p h = t.each p h ∙ sym (ap (λ (r : Row). entry_of r.slots) (t.each p h))
 
-has-at : (l : List ℕ) (i : ℕ) → i < length l → T (has (get_or l i 0) l)
-unfolding any
-has-at [] i h = absurd (omega arith)
-has-at (x ∷ l) zero h = rw (eq-eqb x x refl) tt
-has-at (x ∷ l) (suc i) h = or_right (eqb (get_or l i 0) x) (has (get_or l i 0) l) (has-at l i (omega arith))
-
 module _ {starts : List ℕ} (s : Starts starts) (ids : List ℕ) (long : length ids ≡ DETECTIONS) {n : ℕ} {table : List ℕ} (b : Begins (present_in (get_or starts SCANS 0) ids) n table) where
   pub listed_ascends : Ascends 0 (take n table)
   listed_ascends = subst (Ascends 0) (sym b.is) (present_ascends (get_or starts SCANS 0) ids)
@@ -205,10 +201,10 @@ module _ {starts : List ℕ} (s : Starts starts) (ids : List ℕ) (long : length
           let x = get_or ids i 0 in
           let m = get_or starts SCANS 0 in
           let h : i < m = omega (arith, to, starts_ordered s (suc k) SCANS l (omega arith)) in
-          let t : T (has x (take m ids)) = subst (λ y. T (has y (take m ids))) (get_or-take m ids i 0 h) (has-at (take m ids) i (omega (arith, h, length-take-le m ids (omega (arith, s.ends))))) in
+          let t : T (has x (take m ids)) = subst (λ y. T (has y (take m ids))) (get_or-take m ids i 0 h) (T_from_true _ (has_at (get_or (take m ids) i 0) (take m ids) i (omega (arith, h, length-take-le m ids (omega (arith, s.ends)))) refl)) in
           let u : T (has x (take n table)) =
           rw (b.is, has-sort x (keep (ltb 0) (take m ids)), has-keep (ltb 0) x (take m ids)) (yes_and (ltb 0 x) (has x (take m ids)) (lt→ltb 0 x above) t) in
-          let q = place-has 0 x (take n table) listed_ascends u in
+          let q = ascends_place 0 x (take n table) listed_ascends u in
           (omega (arith, q.0, size-listed), sym (listed-at p (omega (arith, q.0, size-listed))) ∙ ap (λ (k : ℕ). get_or (take n table) k 0) is ∙ q.1)
 
       pub place_listed : p < n

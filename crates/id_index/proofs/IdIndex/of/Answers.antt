@@ -1,7 +1,6 @@
 use Rattle.std.proofs.Common.{ℕ, arith, length-set, ◌∙◌}
 use Rattle.std.proofs.lemmas.List.{length-replicate}
-use Rattle.bounds.specs.Bounds.{OWNED}
-use Rattle.id_index.specs.Index.{RESIDUES}
+use Rattle.bounds.specs.Bounds.{OWNED, RESIDUES}
 use Rattle.id_index.proofs.Chains.{chained_none, chained_more}
 use Rattle.id_index.proofs.IdIndex.of.Goals as goal
 

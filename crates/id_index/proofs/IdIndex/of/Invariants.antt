@@ -1,6 +1,6 @@
 use Rattle.std.proofs.Common.{◌≡◌, length}
-use Rattle.bounds.specs.Bounds.{OWNED}
-use Rattle.id_index.specs.Index.{RESIDUES, Chained}
+use Rattle.bounds.specs.Bounds.{OWNED, RESIDUES}
+use Rattle.id_index.specs.Index.{Chained}
 use Rattle.id_index.proofs.IdIndex.of.Given as goal
 
 abbrev pub invariant-loop-k : goal.invariant-loop-k

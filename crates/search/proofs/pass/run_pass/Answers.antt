@@ -10,7 +10,7 @@ use Rattle.search.proofs.pass.run_pass.Goals as goal
 pub invariant_of-pass : goal.invariant_of-pass
 invariant_of-pass c =
     let b = c.begin_pass.ensures in
-    record { squared = refl; ids = present_listed c.args.scene.now.detections c.args.state.now.ids _ _ b.listed; due = b.due; enclosed = c.fill_extents.ensures }
+    record { squared = refl; ids = present_listed c.args.scene.now.detections c.args.state.now.ids _ _ b.listed; due = b.due; extents = c.fill_extents.ensures }
 
 pub returns-clause-passed : goal.returns-clause-passed
 returns-clause-passed c =

@@ -14,8 +14,8 @@ use Rattle.fgo_part.specs.Parts.{cells}
 use Rattle.fgo_part.proofs.Cells.{cells-take, cells-set}
 use Rattle.fgo_state.proofs.Standing.{contains-has}
 use Rattle.fgo_refuse.specs.Refusing.{join_end}
-use Rattle.fgo_refuse.proofs.Joined.join.Goals as goal
-use Rattle.fgo_refuse.proofs.Joined.join.Goals.{else-not-has-via-then-not-has+else-not-contains, else-not-has-via-else-not-has}
+use Rattle.fgo_refuse.proofs.NewEngines.join.Goals as goal
+use Rattle.fgo_refuse.proofs.NewEngines.join.Goals.{else-not-has-via-then-not-has+else-not-contains, else-not-has-via-else-not-has}
 
 -- whether an engine id is among the first n, as `contains` tells it
 there : (all : List ℕ) (n e : ℕ) → n ≤ length all → {t : Bool} → t ≡ list_any (λ y. eqb y e) (take n all) → has e (cells 0 all 0 n) ≡ t
