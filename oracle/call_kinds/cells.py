@@ -35,16 +35,13 @@ class Image:
         return Image(out.ask("calls_cells"))
 
     def copy(self):
-        """A copy to be changed. It notes the cells that were put, since these may have lain past the counts, where the
-        oracle does not know what there is."""
+        """A copy to be changed."""
         new = object.__new__(Image)
         new.refiner, new.smoother, new.window, new.room = [list(a) for a in self.refiner], [list(a) for a in self.smoother], self.window, self.room
-        new.touched = set()
         return new
 
     def put(self, arrays, place, at, values):
         arrays[place][at : at + len(values)] = values
-        self.touched.update((arrays is self.smoother, place, at + i) for i in range(len(values)))
 
     # ---- the refiner's
 
@@ -164,13 +161,10 @@ class Image:
         self.put(self.smoother, 2, x, numbers)
 
 
-def changes(old, new, changed=None):
-    """The calls that make one image of another: of the cells that differ, and of those that were put in the changed one
-    of the two."""
-    touched, out = (changed or new).touched, []
-    for which, make, a, b in ((False, write, old.refiner, new.refiner), (True, write_smoother, old.smoother, new.smoother)):
+def changes(old, new):
+    """The calls that make one image of another: of the cells that differ."""
+    out = []
+    for make, a, b in ((write, old.refiner, new.refiner), (write_smoother, old.smoother, new.smoother)):
         for place, (x, y) in enumerate(zip(a, b)):
-            differ = [i for i, (u, v) in enumerate(zip(x, y)) if u != v] if x != y else []
-            also = [i for w, p, i in touched if (w, p) == (which, place)]
-            out += [make(place, i, y[i]) for i in sorted({*differ, *also})]
+            out += [make(place, i, v) for i, (u, v) in enumerate(zip(x, y)) if u != v]
     return out

@@ -174,7 +174,7 @@ def standing(r):
 
 def broken_once(out, image, s, bodies, seen=0.4):
     """Cells written that break the state: a push, a take and counters are refused by 3. Then they are put back."""
-    r, do, undo = out.r, changes(image, s), changes(s, image, s)
+    r, do, undo = out.r, changes(image, s), changes(s, image)
     if len(do) > 100:
         return
     if r.random() < 0.2:  # written as they are already, so that the digest before and the one at the end are of the same cells
@@ -222,7 +222,8 @@ def free(out):
     settings, bodies = hall(r)
     bodies = iter(bodies)
     out.add(opening(settings))
-    out.add(*past_the_counts(r, Image.after(out)), DIGEST)
+    clear = Image.after(out)
+    out.add(*past_the_counts(r, clear), DIGEST)
     for _ in range(r.randint(1, 10)):
         out.add(push(next(bodies)))
     for _ in range(12):
@@ -230,12 +231,11 @@ def free(out):
         s = image.copy()
         for change in r.sample(FREE, r.choice((1, 1, 2, 3))):
             change(r, s)
-        new = changes(image, s)
-        if len(new) > 300 or not out.has_room(32 * len(new) + 6000):
+        opened = r.random() < 0.1  # from a new refiner on, whose memory is clear
+        new = changes(clear if opened else image, s)
+        if len(new) > (1000 if opened else 300) or not out.has_room(32 * len(new) + 6000):
             continue
-        if r.random() < 0.1:  # a new refiner, whose fields are put back: the memory is as it was
-            out.add(opening(settings), *(write(0, i, v) for i, v in enumerate(s.fields)))
-        out.add(*new)
+        out.add(*[opening(settings)] * opened, *new)
         if r.random() < 0.3:
             out.add(*past_the_counts(r, s, 1))
         for _ in range(r.randint(1, 3)):

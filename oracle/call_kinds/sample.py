@@ -110,10 +110,36 @@ def kept(out):
     for clause in SMOOTHER_CLAUSES:
         s = image.copy()
         clause(r, s)
-        out.add(*changes(image, s), DIGEST, TAKE_SMOOTHED, push_frame(EMPTY, []), DIGEST, *changes(s, image, s))
+        out.add(*changes(image, s), DIGEST, TAKE_SMOOTHED, push_frame(EMPTY, []), DIGEST, *changes(s, image))
     w, x = window(2, 2)
     out.add(*past_the_frames(r, image), lend_window(w, x - 1), TAKE_SMOOTHED, smoother(2, bits(0.7), 2), lend_window(w, x))
     out.add(push_frame(*some(r, 3)), write_smoother(0, 1, bits(0.0)), *[TAKE_SMOOTHED] * 4)
+
+
+def alike(out, scans, last):
+    """A refiner and a smoother are opened and get these scans, then the last one. The digest, when that alone is held,
+    and when all is taken, from the smoother too."""
+    out.add(opening(generate.settings(lag=2, forget=STEP)), smoother(2, bits(0.5), 128))
+    for b in scans + [last]:
+        out.add(push(b), PUSH_LAST)
+    out.add(TAKE, PUSH_LAST, DIGEST, TAKE, PUSH_LAST, TAKE_SMOOTHED, TAKE_SMOOTHED, DIGEST)
+
+
+def forgotten(out):
+    """What is kept of people: lists of calls that differ and end alike. Two of other dots, all of them clutter but for an
+    equal last scan; two of other people, who have all been forgotten when the last scan comes. The first numbers of the
+    digests of each two are equal, and so are the second ones at the end."""
+    r = out.r
+    out.add(lend_window(*window(2, 128)))
+    for n in (3, 9):
+        clutter = [[(r.uniform(-9, 9), r.uniform(-9, 9), r.uniform(1, 2)) for _ in range(n)] for _ in range(5)]
+        scans = [generate.body(STEP * k, dots, [(i, None, 2, None) for i in range(n)]) for k, dots in enumerate(clutter)]
+        alike(out, scans, scan(5 * STEP, [7, None, 8]))
+    for step in (0.3, -0.7):
+        people = [[(100.0 * i + step * k, step * i, 1.2 + step / 9) for i in range(4)] for k in range(5)]
+        links = [(i, 40 + i if step > 0 else 90 - i, 0, step) for i in range(4)]
+        scans = [generate.body(STEP * k, dots, links) for k, dots in enumerate(people)]
+        alike(out, scans + [scan(STEP * k, [None]) for k in range(40, 44)], scan(44 * STEP, [7, None, 8]))
 
 
 def sample(out):
@@ -123,4 +149,5 @@ def sample(out):
     refined_and_smoothed(out)
     full(out)
     kept(out)
+    forgotten(out)
     out.add(write(1, 0, 256), COUNTERS)

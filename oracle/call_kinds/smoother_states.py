@@ -195,7 +195,7 @@ def smoother_broken(out):
             s = image.copy()
             if clause(r, s) is False:
                 continue
-            do, undo = changes(image, s), changes(s, image, s)
+            do, undo = changes(image, s), changes(s, image)
             if r.random() < 0.2:  # written as it is already, so that the digest before and the one at the end are of the same cells
                 out.add(*undo, DIGEST)
                 undo.append(DIGEST)
@@ -236,11 +236,12 @@ def smoother_free(out):
         s = image.copy()
         for change in r.sample(FREE, r.choice((1, 1, 2))):
             change(r, s)
+        if r.random() < 0.15:  # from a new smoother on, whose window is clear
+            out.add(smoother(s.state[LAG], bits(0.5), s.state[TRACKS_MOST]))
+            image = Image.after(out)
         new = changes(image, s)
         if not out.has_room(32 * len(new) + 6000):
             break
-        if r.random() < 0.15:  # a new smoother, whose fields are put back: the window is as it was
-            out.add(smoother(s.state[LAG], bits(0.5), s.state[TRACKS_MOST]), *(write_smoother(0, i, v) for i, v in enumerate(s.state)))
         out.add(*new)
         if r.random() < 0.5:
             out.add(*past_the_frames(r, s))

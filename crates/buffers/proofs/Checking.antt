@@ -2,11 +2,16 @@
 use Prim.Native.Nat.{ℕ, zero, suc}
 use mathlib.Core.Path.{◌≡◌, refl, ap}
 use mathlib.Core.Option.{Option, none, some, some-injective, none-ne-some}
-use Rattle.buffers.specs.Answer.{Opening, unopened, opened, opened_by, Reply, refused, checked}
+use Rattle.buffers.specs.Answer.{Opening, unopened, opened, opened_by, left_by, Reply, refused, checked}
 
 pub open_refused : {S : Type 0} (n : ℕ) (s : S) → (n ≡ 0 → ⊥) → unopened n ≡ opened_by n s
 open_refused zero s h = absurd (h refl)
 open_refused (suc n) s h = refl
+
+-- and leaves what there was
+pub left_refused : {A : Type 0} (n : ℕ) (new old : A) → (n ≡ 0 → ⊥) → old ≡ left_by n new old
+left_refused zero new old h = absurd (h refl)
+left_refused (suc n) new old h = refl
 
 -- what an opening gives
 abbrev given_by : {S : Type 0} → Opening S → Option S

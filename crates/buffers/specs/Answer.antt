@@ -26,6 +26,11 @@ abbrev pub opened_by : {S : Type 0} → ℕ → S → Opening S
 opened_by zero s = opened s
 opened_by (suc n) s = unopened (suc n)
 
+-- what an opening leaves, by the refusal that it gets: what is new, or what there was
+abbrev pub left_by : {A : Type 0} → ℕ → A → A → A
+left_by zero new old = new
+left_by (suc n) new old = old
+
 -- ---- push and take
 
 -- what is asked: a push of something, or a take

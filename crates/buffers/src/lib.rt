@@ -3,7 +3,7 @@
 #![tactic(auto)]
 
 ghost use Rattle.std.specs.Prelude.{◌≡◌, ◌+◌, ◌≤◌, length, take, drop};
-ghost use Rattle.buffers.specs.Buffers.{over};
+ghost use Rattle.buffers.specs.Buffers.{over, cleared};
 ghost use Rattle.buffers.specs.Answer.{roomy};
 
 use bounds::{NUMBERS, WORDS};
@@ -40,4 +40,15 @@ pub fn put<T: Copy>(out: &mut [T], o: usize, src: &[T])
     ensures { out.new ≡ over o src.now out.old }
 {
     out[o..o + src.len()].copy_from_slice(src);
+}
+
+// N elements of a list, from a place on, cleared: they get the value that stands for nothing. They must be there, and
+// every other place stays as it was.
+pub fn clear<T: Copy>(out: &mut [T], at: usize, n: usize, zero: T)
+    requires { at + n ≤ length out.old }
+    ensures { out.new ≡ cleared zero at n out.old }
+{
+    for x in out[at..at + n].iter_mut() {
+        *x = zero;
+    }
 }

@@ -3,15 +3,16 @@
 use Rattle.std.specs.Prelude.{ℕ, zero, suc, ◌≡◌, List, [], take, set, Float}
 use Rattle.std.specs.Float.{binary64}
 use Rattle.std.specs.Float.Ieee.{of_bits}
-use Rattle.buffers.specs.Answer.{Op, pushed, taken, Written, Answer, Refused, Held, Frame}
+use Rattle.buffers.specs.Answer.{left_by, Op, pushed, taken, Written, Answer, Refused, Held, Frame}
 use Rattle.engine.specs.declared.types.BodyKind.TheVariants.{Narrow}
+use Rattle.engine.specs.declared.config.FgoConfig.{FgoConfig}
 use Rattle.engine.specs.Body.{Body, body}
 use Rattle.recording.specs.Recording.{settings}
 use Rattle.fgo_spec.specs.declared.moves.FgoCounters.{FgoCounters}
 use Rattle.fgo_state.specs.declared.state.FixedLagRefiner.{FixedLagRefiner}
 use Rattle.fgo_state.specs.declared.state.Memory.{Memory}
-use Rattle.fgo_state.specs.Memory.{memory}
-use Rattle.fgo.specs.Promise.{new_by, open_refusal, due, Promised, count_refusal}
+use Rattle.fgo_state.specs.Memory.{memory, no_memory}
+use Rattle.fgo.specs.Promise.{new_by, open_refusal, Promised, count_refusal}
 use Rattle.print.specs.Text.{Ready, refused_line, counters_line, call_answer}
 use Rattle.calls_input.specs.declared.cells.Cell.{Cell}
 use Rattle.calls_input.specs.declared.cells.RefinerPlace.{RefinerPlace}
@@ -20,7 +21,7 @@ use Rattle.calls_input.specs.declared.RefinerCall.{RefinerCall}
 use Rattle.calls_input.specs.declared.RefinerCall.TheVariants.{Open, Push, Take, Counters, Write}
 use Rattle.calls_cells.specs.Cells.{refiner_fields, refiner_of}
 use Rattle.calls_cells.specs.Lent.{last_frame}
-use Rattle.calls_cells.specs.Opening.{opening, opening_text}
+use Rattle.calls_cells.specs.Opening.{opening_text}
 use Rattle.calls_refiner.specs.declared.LentRefiner.{LentRefiner}
 
 -- what is kept after an answer: the frame that it gives, or the one before
@@ -76,13 +77,19 @@ module _ (r : LentRefiner) (ws : List ℕ) (ns : List Float) (r' : LentRefiner) 
   -- a push or a take, by its contract: its frame is kept, and its answer printed
   pub record Answers (op : Op Body) : Type 0 where
     pub given : Answer
-    pub promised : Promised (due r.state r.memory op ws ns) r.state r.memory ws ns given r'.state r'.memory ws' ns'
+    pub promised : Promised op r.state r.memory ws ns given r'.state r'.memory ws' ns'
     pub frame : last_frame r'.last ≡ kept_after given ws' ns' (last_frame r.last)
     pub text_is : Ready (call_answer given ws' ns') out' end
 
+  -- an opening with these settings: the refiner there was and its memory stay where it is refused
+  abbrev pub Opens : FgoConfig → Type 0
+  Opens c =
+      let n = open_refusal c in
+      Tells (left_by n (new_by c) r.state) (left_by n no_memory r.memory) (opening_text n)
+
   -- a call, and what follows it
   abbrev pub Refines : RefinerCall → List ℕ → Type 0
-  Refines Open f = Tells (opening (open_refusal (settings f)) (new_by (settings f)) r.state) r.memory (opening_text (open_refusal (settings f)))
+  Refines Open f = Opens (settings f)
   Refines Push f = Answers (pushed (body Narrow f))
   Refines Take f = Answers taken
   Refines Counters f = Tells r.state r.memory (counting_text (count_refusal r.state r.memory) r.state.counters)

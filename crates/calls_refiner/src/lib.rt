@@ -6,16 +6,17 @@
 
 ghost use Rattle.std.specs.Prelude.{◌≡◌, true, ◌≤◌, length};
 ghost use Rattle.bounds.specs.Bounds.{SETTINGS, TEXT};
-ghost use Rattle.buffers.specs.Answer.{answer_in, pushed, taken};
+ghost use Rattle.buffers.specs.Answer.{answer_in, left_by, pushed, taken};
 ghost use Rattle.engine.specs.declared.types.BodyKind.TheVariants.{Narrow};
 ghost use Rattle.engine.specs.Body.{body as body_in};
 ghost use Rattle.recording.specs.Recording.{settings};
+ghost use Rattle.fgo_state.specs.Memory.{no_memory};
 ghost use Rattle.fgo.specs.Promise.{new_by, open_refusal, count_refusal};
 ghost use Rattle.print.specs.Text.{Ready, call_answer};
 ghost use Rattle.calls_input.specs.declared.Call.TheVariants as calls;
 ghost use Rattle.calls_input.specs.Input.{refiner_has, Sane};
 ghost use Rattle.calls_cells.specs.Lent.{last_frame};
-ghost use Rattle.calls_cells.specs.Opening.{opening, opening_text};
+ghost use Rattle.calls_cells.specs.Opening.{opening_text};
 ghost use Rattle.calls_refiner.specs.Refining.{kept_after, counting_text, refiner_with, memory_with, Answers, Refines};
 
 use bounds::TEXT;
@@ -42,13 +43,14 @@ pub struct LentRefiner {
 
 // ---- opening
 
-// A refiner is opened with these settings; a refusal leaves the one there was.
-fn open(r: &mut FixedLagRefiner, s: &[u8], out: &mut [u8; TEXT]) -> usize
+// A refiner is opened with these settings; a refusal leaves the one there was, and its memory.
+fn open(r: &mut FixedLagRefiner, memory: &mut Memory, s: &[u8], out: &mut [u8; TEXT]) -> usize
     requires { length s.now ≡ SETTINGS }
-    ensures refiner { r.new ≡ opening (open_refusal (settings s.now)) (new_by (settings s.now)) r.old }
+    ensures refiner { r.new ≡ left_by (open_refusal (settings s.now)) (new_by (settings s.now)) r.old }
+    ensures memory { memory.new ≡ left_by (open_refusal (settings s.now)) no_memory memory.old }
     ensures text { Ready (opening_text (open_refusal (settings s.now))) out.new result }
 {
-    match fgo::open(recording::settings_of(s)) {
+    match fgo::open(recording::settings_of(s), memory) {
         Err(refusal) => lines::put_refused(out, 0, refusal),
         Ok(refiner) => {
             *r = refiner;
@@ -171,7 +173,7 @@ pub fn call(
 {
     let text = out.first_chunk_mut().unwrap();
     match call {
-        RefinerCall::Open => open(&mut refiner.state, s, text),
+        RefinerCall::Open => open(&mut refiner.state, &mut refiner.memory, s, text),
         RefinerCall::Push => push(refiner, s, words, numbers, text),
         RefinerCall::Take => take(refiner, words, numbers, text),
         RefinerCall::Counters => count(&refiner.state, &refiner.memory, text),

@@ -1,1 +1,2 @@
 pub mod Smoothed
+mod Fronts

@@ -4,7 +4,7 @@ use Rattle.std.specs.Prelude.{ℕ, ◌+◌, ◌*◌, ◌≡◌, cond, List, [], 
 use Rattle.std.specs.Float.{binary64}
 use Rattle.std.specs.Float.Ieee.{of_bits}
 use Rattle.bounds.specs.Bounds.{SETTING, words_for, numbers_for}
-use Rattle.buffers.specs.Answer.{Op, pushed, taken, Written}
+use Rattle.buffers.specs.Answer.{left_by, Op, pushed, taken, Written}
 use Rattle.engine.specs.Body.{rows}
 use Rattle.engine.specs.Little.{little}
 use Rattle.smoother_frame.specs.Frame.{frame}
@@ -13,7 +13,7 @@ use Rattle.smoother_window.specs.declared.SmootherConfig.{SmootherConfig}
 use Rattle.smoother_window.specs.declared.size.WindowSize.{WindowSize}
 use Rattle.smoother_window.specs.Config.{lag, most, bounded}
 use Rattle.smoother.specs.Smoother.{open_refusal}
-use Rattle.smoother.specs.Promise.{Window, window, new_by, lent_of, rest_of, Promised, Pushed}
+use Rattle.smoother.specs.Promise.{Window, window, new_by, emptied, fronted, lent_of, rest_of, Promised, Pushed}
 use Rattle.print.specs.Text.{Ready}
 use Rattle.calls_input.specs.declared.cells.Cell.{Cell}
 use Rattle.calls_input.specs.declared.cells.SmootherPlace.{SmootherPlace}
@@ -28,7 +28,7 @@ use Rattle.calls_smoother.specs.Room.{size_of}
 use Rattle.calls_cells.specs.Cells.{smoother_fields, smoother_of}
 use Rattle.calls_input.specs.Input.{number}
 use Rattle.print.specs.Text.{call_answer}
-use Rattle.calls_cells.specs.Opening.{opening_text, opening}
+use Rattle.calls_cells.specs.Opening.{opening_text}
 
 -- ---- the window
 
@@ -112,13 +112,14 @@ module _ (s : LentSmoother) (ws : List ℕ) (ns : List Float) (s' : LentSmoother
     pub smoother_is : s'.state ≡ given.state
     pub text_is : Ready (call_answer given.answer ws' ns') out' end
 
-  -- an opening with these settings, over the window that is lent then
+  -- an opening with these settings, over the window that is lent then, which it clears
   abbrev pub Opens : SmootherConfig → Type 0
   Opens c =
       let room = room_for s.window.room c in
-      let lent = lent_of (size_of room) (window_in s.window) in
+      let all = window_in s.window in
+      let lent = lent_of (size_of room) all in
       let n = open_refusal c (length lent.words) (length lent.numbers) in
-      Tells (opening n (new_by c) s.state) room (window_in s.window) (opening_text n)
+      Tells (left_by n (new_by c) s.state) room (left_by n (fronted (emptied lent) all) all) (opening_text n)
 
   -- a call, what follows it, and the frame that the refiner gave last
   abbrev pub Smooths : SmootherCall → List ℕ → Written → Type 0

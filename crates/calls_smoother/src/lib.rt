@@ -87,7 +87,7 @@ fn room_for(room: Room, c: SmootherConfig) -> Room
     }
 }
 
-// A smoother is opened; a refusal leaves the one there was.
+// A smoother is opened; a refusal leaves the one there was, and its window.
 fn open(smoother: &mut LentSmoother, s: &[u8], out: &mut [u8; TEXT]) -> usize
     requires { length s.now ≡ SETTING * 3 }
     ensures { (ws : List ℕ) (ns : List Float) → Opens smoother.old ws ns smoother.new ws ns result out.new (settings_in s.now) }
@@ -96,11 +96,7 @@ fn open(smoother: &mut LentSmoother, s: &[u8], out: &mut [u8; TEXT]) -> usize
     let window = &mut smoother.window;
     window.room = room_for(window.room, config);
     let size = window.room.size();
-    match smoother::open(
-        config,
-        &window.words[..size.words],
-        &window.values[..size.numbers],
-    ) {
+    match smoother::open_over(config, size, &mut window.words, &mut window.values) {
         Err(refusal) => lines::put_refused(out, 0, refusal),
         Ok(state) => {
             smoother.state = state;
@@ -158,10 +154,11 @@ fn take(
     ensures { Answers smoother.old words.old numbers.old smoother.new words.new numbers.new result out.new taken }
 {
     let size = smoother.window.room.size();
-    let answer = smoother::take(
+    let answer = smoother::take_over(
         &mut smoother.state,
-        &smoother.window.words[..size.words],
-        &smoother.window.values[..size.numbers],
+        size,
+        &mut smoother.window.words,
+        &mut smoother.window.values,
         words,
         numbers,
     );

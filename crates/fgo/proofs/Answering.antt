@@ -9,12 +9,11 @@ use lib.Ieee.{Float}
 use borrow.Author.Tests.{leb-true}
 use native.Mathlib.Omega.{arith}
 use Rattle.bounds.specs.Bounds.{WORDS, NUMBERS}
-use Rattle.buffers.specs.Answer.{Op, taken, Reply, refused, roomy, checked, Answer, Refused}
+use Rattle.buffers.specs.Answer.{Op, taken, refused, roomy, checked, Answer, Refused}
 use Rattle.buffers.proofs.Checking.{check_refused}
 use Rattle.engine.specs.Body.{Body, rows}
 use Rattle.engine.proofs.Every.{both}
-use Rattle.fgo_spec.specs.Emitting.{Emitted}
-use Rattle.fgo_spec.specs.Refiner.{State, freeze_oldest, takes, reply}
+use Rattle.fgo_spec.specs.Refiner.{freeze_oldest, takes, reply}
 use Rattle.fgo_state.specs.declared.state.FixedLagRefiner.{FixedLagRefiner}
 use Rattle.fgo_state.specs.declared.state.Memory.{Memory}
 use Rattle.fgo_state.specs.Memory.{state_of}
@@ -22,7 +21,7 @@ use Rattle.fgo_state.specs.Sound.{sound_ok}
 use Rattle.fgo_rule.specs.Tests.{sound_in}
 use Rattle.fgo_rule.proofs.SoundLaw.{sound_rule}
 use Rattle.fgo_emit.specs.Writing.{Roomy}
-use Rattle.fgo.specs.Promise.{later_refusal, due, Promised}
+use Rattle.fgo.specs.Promise.{later_refusal, due, Carried, Promised}
 
 -- the test of the state rule, as the code makes it
 pub sound_is : (r : FixedLagRefiner) (m : Memory) {a b : Bool} → a ≡ sound_in r m.scans.bodies m.scans.columns m.owners m.parts.tracks → a ≡ b → sound_ok r m ≡ b
@@ -43,11 +42,12 @@ module _ (r : FixedLagRefiner) (m : Memory) (ws : List ℕ) (ns : List Float) wh
       go false b e = absurd (omega arith)
 
   -- a refusal changes nothing
-  pub refusal_ends : {k : ℕ} {a : Reply Emitted × State} → a ≡ (refused k, state_of r m) → Promised a r m ws ns (Refused k) r m ws ns
-  refusal_ends {k} {a} e =
-      subst (λ x. Promised x r m ws ns (Refused k) r m ws ns) (sym e)
+  pub refusal_ends : {k : ℕ} (o : Op Body) → due r m o ws ns ≡ (refused k, state_of r m) → Promised o r m ws ns (Refused k) r m ws ns
+  refusal_ends {k} o e =
+      subst (λ x. Carried o x r m ws ns (Refused k) r m ws ns) (sym e)
       (record {
         ends = record { answered = refl; state = refl; words = refl; numbers = refl; small = tt; unchanged = (refl, refl) };
+        memory = refl;
         settings = refl;
         bodies = λ h. h;
         sized = tt;
@@ -70,5 +70,5 @@ module _ (r : FixedLagRefiner) (m : Memory) (ws : List ℕ) (ns : List Float) wh
     unfolding state_of takes freeze_oldest rows
     take_none z = due_passed taken none ∙ rw z
 
-    pub take_ends : {g : Answer} {u : FixedLagRefiner} {m' : Memory} {ws' : List ℕ} {ns' : List Float} → Promised (takes r.config (state_of r m)) r m ws ns g u m' ws' ns' → Promised (due r m taken ws ns) r m ws ns g u m' ws' ns'
-    take_ends {g} {u} {m'} {ws'} {ns'} h = subst (λ x. Promised x r m ws ns g u m' ws' ns') (sym (due_passed taken none)) h
+    pub take_ends : {g : Answer} {u : FixedLagRefiner} {m' : Memory} {ws' : List ℕ} {ns' : List Float} → Carried taken (takes r.config (state_of r m)) r m ws ns g u m' ws' ns' → Promised taken r m ws ns g u m' ws' ns'
+    take_ends {g} {u} {m'} {ws'} {ns'} h = subst (λ x. Carried taken x r m ws ns g u m' ws' ns') (sym (due_passed taken none)) h

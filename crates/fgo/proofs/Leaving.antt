@@ -1,20 +1,22 @@
--- The oldest scan leaves: what each step asks of the one before it, and what is left. Assumes nothing.
-use Prim.Native.Nat.{ℕ, zero, suc, ◌+◌, ◌-◌, ◌≤◌, ◌<◌, compare, Ordering}
+-- The oldest scan leaves: what each step asks of the one before it, and what is left, cell by cell. Assumes nothing.
+use Prim.Native.Nat.{ℕ, zero, suc, ◌+◌, ◌-◌, ◌*◌, ◌≤◌, ◌<◌, compare, Ordering}
 use native.Mathlib.Nat.{zero-add, add-zero, le_refl}
 use native.Mathlib.Numerals.{add-one}
 use native.Mathlib.Omega.{arith}
 use mathlib.Core.Path.{◌≡◌, refl, sym, ap, subst, ◌∙◌}
 use mathlib.Core.Bool.{true}
-use mathlib.Core.List.{List, [], ◌∷◌}
+use mathlib.Core.List.{List, [], ◌∷◌, flat_map}
 use mathlib.Core.Option.{Option, none, some}
-use lib.ListN.{length, length-map}
+use lib.ListN.{length, length-map, drop}
 use lib.Dec.{eqb}
 use lib.IntN.{ℤ}
 use lib.Ieee.{Float}
 use mir.Syntax.{w64}
 use mir.Val.{to_z, of_z}
 use mir.Facts.{to_z-of_z}
-use Rattle.bounds.specs.Bounds.{ACCEPTED, DETECTIONS, FROZEN}
+use Rattle.std.specs.Float.{binary64}
+use Rattle.std.specs.Float.Ieee.{of_bits}
+use Rattle.bounds.specs.Bounds.{ACCEPTED, DETECTIONS, FROZEN, BODIES, COLUMNS, OWNER, PART, FILTER}
 use Rattle.engine.specs.declared.config.FgoConfig.{FgoConfig}
 use Rattle.engine.specs.declared.types.Association.{Association}
 use Rattle.engine.specs.Frame.{Frame}
@@ -34,17 +36,20 @@ use Rattle.fgo_spec.proofs.Counting.{count-le, keep_same}
 use Rattle.fgo_spec.proofs.Windows.{detections_cons}
 use Rattle.fgo_spec.proofs.Growing.{freeze_up, freeze-length}
 use Rattle.fgo_spec.proofs.Tables.{Up, up_keep}
+use Rattle.fgo_state.specs.declared.scans.Scans.{Scans}
 use Rattle.fgo_state.specs.declared.state.FixedLagRefiner.{FixedLagRefiner}
 use Rattle.buffers.specs.declared.FrameSize.{FrameSize}
-use Rattle.buffers.specs.Answer.{Reply, gives, Frame as Gives}
-use Rattle.fgo_part.specs.Parts.{entry_in, table_in, Rises}
+use Rattle.buffers.specs.Buffers.{renewed}
+use Rattle.buffers.specs.Answer.{taken, Reply, gives, Frame as Gives}
+use Rattle.fgo_part.specs.Parts.{entry_in, table_in, part_words, part_numbers, Rises}
 use Rattle.fgo_state.specs.declared.state.Memory.{Memory}
-use Rattle.fgo_state.specs.Memory.{memory, body_at, scan_in, scans_in, live_in, owners_in, state_of}
-use Rattle.fgo_freeze.specs.Frozen.{FreezesScan, PartOk, PartsOk}
+use Rattle.fgo_state.specs.Memory.{body_at, scan_in, scans_in, live_in, owner_entry, owner_words, owners_in, state_of}
+use Rattle.fgo_state.specs.Contents.{slot_cleared, departed, settled}
+use Rattle.fgo_freeze.specs.Frozen.{FreezesScan, PartOk, PartsOk, Past, Remembered}
 use Rattle.fgo_emit.specs.Writing.{Roomy, emitted_in, PutsFrame, PutFrame}
 use Rattle.fgo_state.specs.Sound.{bodies_ok}
 use Rattle.fgo_arrive.specs.Arriving.{Ready}
-use Rattle.fgo.specs.Promise.{Sized, Promised}
+use Rattle.fgo.specs.Promise.{Sized, Carried}
 use Rattle.fgo_place.specs.Owning.{kept_owners}
 use Rattle.fgo.proofs.Sizes.{sized-small}
 use Rattle.fgo_spec.proofs.Rows.{rows_all, row_of, rows-first}
@@ -53,6 +58,9 @@ use Rattle.fgo_state.proofs.Counts.{sensors_long, sensors_few, associations_long
 use Rattle.fgo_state.proofs.Columns.{scan_complete}
 use Rattle.fgo_freeze.proofs.Order.{ordered_up, up_rises, frozen_fits}
 use Rattle.fgo_state.proofs.Live.{live_rule}
+use Rattle.fgo_state.proofs.OtherSlots.{body_else}
+use Rattle.fgo_state.proofs.SlotClearing.{clear_within, scans_left}
+use Rattle.buffers.proofs.Agreeing.{renewed_past}
 
 -- ---- frozen parts of which ages can be told
 
@@ -171,10 +179,26 @@ module _ (r : FixedLagRefiner) (m : Memory) (ready : Ready r m) (some : 1 ≤ r.
     pub forgets : {time : ℤ} → time ≡ s.frame.time → PartsOk time tracks filters frozen
     forgets e = parts e
 
-    module _ (tracks' : List ℕ) (filters' : List Float) (kept : ℕ) {time : ℤ} (e : time ≡ s.frame.time) (forgot : table_in tracks' filters' kept ≡ remember r.config time ss (table_in tracks filters frozen)) where
+    module _ (tracks' : List ℕ) (filters' : List Float) (kept : ℕ) {time : ℤ} (e : time ≡ s.frame.time)
+        (forgot : Remembered (remember r.config time ss (table_in tracks filters frozen)) frozen kept tracks filters tracks' filters') where
       -- the frozen parts that stay
+      staying : remember r.config time ss (table_in tracks filters frozen) ≡ remember r.config s.frame.time ss fs
+      staying = ap (λ t. remember r.config t ss (table_in tracks filters frozen)) e ∙ ap (remember r.config s.frame.time ss) froze
+
       left : table_in tracks' filters' kept ≡ remember r.config s.frame.time ss fs
-      left = forgot ∙ ap (λ t. remember r.config t ss (table_in tracks filters frozen)) e ∙ ap (remember r.config s.frame.time ss) froze
+      left = forgot.table ∙ staying
+
+      -- they lie at the front, and the others of the table are cleared
+      parts-cells :
+          {A : Type 0} (z : A) (width : ℕ) (cells : ℕ × Prefix → List A) (l k l' : List A) →
+          l' ≡ renewed z (width * frozen) (flat_map cells (remember r.config time ss (table_in tracks filters frozen))) k → drop (width * frozen) k ≡ drop (width * frozen) l →
+          l' ≡ renewed z (width * length fs) (flat_map cells (remember r.config s.frame.time ss fs)) l
+      parts-cells z width cells l k l' q p =
+          let many : length fs ≡ frozen = sym (ap length froze) ∙ table_long tracks filters frozen in
+          q
+          ∙ renewed_past z (width * frozen) (flat_map cells (remember r.config time ss (table_in tracks filters frozen))) k l p
+          ∙ ap (λ es. renewed z (width * frozen) (flat_map cells es) l) staying
+          ∙ ap (λ (n : ℕ). renewed z (width * n) (flat_map cells (remember r.config s.frame.time ss fs)) l) (sym many)
 
       -- they are few, and lie by rising ids
       pub kept-parts : (kept ≤ FROZEN) × Rises tracks' kept
@@ -189,7 +213,7 @@ module _ (r : FixedLagRefiner) (m : Memory) (ready : Ready r m) (some : 1 ≤ r.
       -- ---- the owners
 
       module _ (owners' : List ℕ) (owned : ℕ) (alive : owners_in owners' owned ≡ kept_owners m.scans.bodies m.scans.columns (n + 1) (r.held - 1) tracks' kept (owners_in m.owners r.owned)) where
-        owners-left : owners_in owners' owned ≡ live_owners (table_in tracks' filters' kept) ss (owners_in m.owners r.owned)
+        owners-left : owners_in owners' owned ≡ live_owners (remember r.config s.frame.time ss fs) ss (owners_in m.owners r.owned)
         unfolding kept_owners
         owners-left =
             let os = owners_in m.owners r.owned in
@@ -197,64 +221,103 @@ module _ (r : FixedLagRefiner) (m : Memory) (ready : Ready r m) (some : 1 ≤ r.
             ∙ keep_same (λ o. live_in m.scans.bodies m.scans.columns (n + 1) (r.held - 1) tracks' kept o.1) (λ o. live (table_in tracks' filters' kept) ss o.1) os
             (mem_All (λ o. live_in m.scans.bodies m.scans.columns (n + 1) (r.held - 1) tracks' kept o.1 ≡ live (table_in tracks' filters' kept) ss o.1) os
             (λ o i. live_rule m.scans.bodies m.scans.columns (n + 1) (r.held - 1) tracks' filters' kept o.1))
+            ∙ ap (λ es. live_owners es ss os) left
 
-        -- ---- the end
+        -- ---- the slot is cleared, and no other one
 
-        abbrev refiner : FixedLagRefiner
-        refiner =
-            record {
-              config = r.config;
-              first = record { 0 = n + 1 };
-              held = r.held - 1;
-              frozen = kept;
-              owned = owned;
-              next_id = r.next_id;
-              counters = r.counters;
-            }
+        abbrev cleared : Scans
+        cleared = slot_cleared n m.scans
 
-        abbrev after : Memory
-        after = memory m.scans.bodies m.scans.columns owners' tracks' filters'
+        module _ (long : length m.scans.bodies ≡ BODIES) (wide : length m.scans.columns ≡ COLUMNS) where
+          -- ---- the end
 
-        state-left : state_of refiner after ≡ spec.leave r.config (state_of r m) s ss
-        unfolding state_of spec.leave
-        state-left = rw (owners-left, left, add-one n)
+          abbrev refiner : FixedLagRefiner
+          refiner =
+              record {
+                config = r.config;
+                first = record { 0 = n + 1 };
+                held = r.held - 1;
+                frozen = kept;
+                owned = owned;
+                next_id = r.next_id;
+                counters = r.counters;
+              }
 
-        bodies-left : bodies_ok m.scans.bodies m.scans.columns n r.held ≡ true → bodies_ok m.scans.bodies m.scans.columns (n + 1) (r.held - 1) ≡ true
-        unfolding bodies_ok
-        bodies-left h =
-            all_true _ (r.held - 1)
-            (λ i l.
-            let q : n + suc i ≡ n + 1 + i = omega arith in
-            subst (λ (k : ℕ). eqb (body_refusal (body_at m.scans.bodies m.scans.columns k)) 0 ≡ true) q
-            (all-at (λ j. eqb (body_refusal (body_at m.scans.bodies m.scans.columns (n + j))) 0) r.held (suc i) h (omega arith)))
+          abbrev after : Memory
+          after = record { scans = cleared; owners = owners'; parts = record { tracks = tracks'; filters = filters' } }
 
-        -- a frame lists no more than the frozen parts
-        sized : Sized (spec.emit r.config n ps s)
-        unfolding spec.emit listing scan_in
-        sized =
-            let b = body_at m.scans.bodies m.scans.columns n in
-            let passing = keep (freezing.listable r.config s.frame.time) fs in
-            record {
-              tracks = omega (arith, frozen-few, length-map passing (λ e. report r.config s.frame.time e.0 e.1), count-le (freezing.listable r.config s.frame.time) fs);
-              associations = rw (associations_long b) (associations_few b oldest-passes);
-              sensors = rw (sensors_long b) (sensors_few b oldest-passes);
-              complete = scan_complete m.scans.bodies m.scans.columns n;
-            }
+          state-left : state_of refiner after ≡ spec.leave r.config (state_of r m) s ss
+          unfolding state_of spec.leave
+          state-left =
+              λ i.
+              record {
+                first = add-one n i;
+                scans = scans_left m.scans n long wide oldest-passes r.held ready.few i;
+                prefixes = left i;
+                owners = owners-left i;
+                next_id = r.next_id.0;
+                counters = r.counters;
+              }
 
-        pub leaving_ends :
-            {z : FrameSize} {ws ws' : List ℕ} {ns ns' : List Float} →
-            PutFrame (emitted_in r.config m.scans.bodies m.scans.columns n tracks filters frozen) z ws ns ws' ns' →
-            Promised (spec.takes r.config (state_of r m)) r m ws ns (Gives z.words z.numbers) refiner after ws' ns'
-        unfolding state_of spec.takes spec.freeze_oldest
-        leaving_ends {z} {ws} {ws'} {ns} {ns'} w =
-            let g : Emitted = spec.emit r.config n ps s in
-            let a : Reply Emitted × spec.State = (gives g, spec.leave r.config (state_of r m) s ss) in
-            let is : spec.takes r.config (state_of r m) ≡ a = ap (spec.freeze_oldest r.config (state_of r m)) scans-are in
-            let put = subst (λ e. PutFrame e z ws ns ws' ns') emits w in
-            subst (λ x. Promised x r m ws ns (Gives z.words z.numbers) refiner after ws' ns') (sym is)
-            (record {
-              ends = record { answered = rw (put.words_count, put.numbers_count); state = state-left; words = put.words; numbers = put.numbers; small = sized-small g sized; unchanged = tt };
-              settings = refl;
-              bodies = bodies-left;
-              sized = sized;
-            })
+          bodies-left : bodies_ok m.scans.bodies m.scans.columns n r.held ≡ true → bodies_ok cleared.bodies cleared.columns (n + 1) (r.held - 1) ≡ true
+          unfolding bodies_ok
+          bodies-left h =
+              all_true _ (r.held - 1)
+              (λ i l.
+              let q : n + suc i ≡ n + 1 + i = omega arith in
+              subst (λ (b : Body). eqb (body_refusal b) 0 ≡ true) (sym (body_else (clear_within m.scans n long wide oldest-passes) (n + 1 + i) (λ z. let few = ready.few in omega arith)))
+              (subst (λ (k : ℕ). eqb (body_refusal (body_at m.scans.bodies m.scans.columns k)) 0 ≡ true) q
+              (all-at (λ j. eqb (body_refusal (body_at m.scans.bodies m.scans.columns (n + j))) 0) r.held (suc i) h (omega arith))))
+
+          -- every cell
+          memory-left :
+              owners' ≡ renewed 0 (OWNER * r.owned) (flat_map owner_words (owners_in owners' owned)) m.owners → Past frozen m.parts.tracks m.parts.filters tracks filters →
+              after ≡ departed r.config (state_of r m) s ss m
+          unfolding state_of spec.leave
+          memory-left cells past =
+              λ i.
+              record {
+                scans = cleared;
+                owners =
+                    (cells
+                    ∙ (λ j. renewed 0 (OWNER * sym (length-rows (owner_entry m.owners) 0 r.owned) j) (flat_map owner_words (owners-left j)) m.owners))
+                    i;
+                parts =
+                    record {
+                      tracks = parts-cells 0 PART part_words m.parts.tracks tracks tracks' forgot.words past.words i;
+                      filters = parts-cells (of_bits binary64 0) FILTER part_numbers m.parts.filters filters filters' forgot.numbers past.numbers i;
+                    };
+              }
+
+          -- a frame lists no more than the frozen parts
+          sized : Sized (spec.emit r.config n ps s)
+          unfolding spec.emit listing scan_in
+          sized =
+              let b = body_at m.scans.bodies m.scans.columns n in
+              let passing = keep (freezing.listable r.config s.frame.time) fs in
+              record {
+                tracks = omega (arith, frozen-few, length-map passing (λ e. report r.config s.frame.time e.0 e.1), count-le (freezing.listable r.config s.frame.time) fs);
+                associations = rw (associations_long b) (associations_few b oldest-passes);
+                sensors = rw (sensors_long b) (sensors_few b oldest-passes);
+                complete = scan_complete m.scans.bodies m.scans.columns n;
+              }
+
+          pub leaving_ends :
+              {z : FrameSize} {ws ws' : List ℕ} {ns ns' : List Float} →
+              PutFrame (emitted_in r.config m.scans.bodies m.scans.columns n tracks filters frozen) z ws ns ws' ns' →
+              owners' ≡ renewed 0 (OWNER * r.owned) (flat_map owner_words (owners_in owners' owned)) m.owners → Past frozen m.parts.tracks m.parts.filters tracks filters →
+              Carried taken (spec.takes r.config (state_of r m)) r m ws ns (Gives z.words z.numbers) refiner after ws' ns'
+          unfolding state_of spec.takes spec.freeze_oldest
+          leaving_ends {z} {ws} {ws'} {ns} {ns'} u cells past =
+              let g : Emitted = spec.emit r.config n ps s in
+              let a : Reply Emitted × spec.State = (gives g, spec.leave r.config (state_of r m) s ss) in
+              let is : spec.takes r.config (state_of r m) ≡ a = ap (spec.freeze_oldest r.config (state_of r m)) scans-are in
+              let put = subst (λ e. PutFrame e z ws ns ws' ns') emits u in
+              subst (λ x. Carried taken x r m ws ns (Gives z.words z.numbers) refiner after ws' ns') (sym is)
+              (record {
+                ends = record { answered = rw (put.words_count, put.numbers_count); state = state-left; words = put.words; numbers = put.numbers; small = sized-small g sized; unchanged = tt };
+                memory = memory-left cells past ∙ ap (λ z. settled r.config (state_of r m) z m) (sym scans-are);
+                settings = refl;
+                bodies = bodies-left;
+                sized = sized;
+              })

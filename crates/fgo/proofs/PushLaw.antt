@@ -9,23 +9,24 @@ use lib.ListN.{length}
 use lib.Dec.{ltb}
 use lib.Ieee.{Float}
 use borrow.Author.Tests.{lt-ltb, le-ltb, eq-eqb}
-use Rattle.buffers.specs.Answer.{pushed, Reply, refused, waits, Unchanged, Answer, Held}
+use Rattle.buffers.specs.Answer.{pushed, taken, Reply, refused, waits, gives, Unchanged, Answer, Held}
 use Rattle.engine.specs.Config.{lag}
-use Rattle.engine.specs.Body.{Body}
+use Rattle.engine.specs.Body.{Body, frame_in}
 use Rattle.engine.proofs.Every.{all_true}
 use Rattle.engine.proofs.Passing.{length-rows}
 use Rattle.fgo_spec.specs.Windows.{Scan}
 use Rattle.fgo_spec.specs.Emitting.{Emitted}
-use Rattle.fgo_spec.specs.Refiner.{State, freeze_oldest, settle, takes}
+use Rattle.fgo_spec.specs.Refiner.{State, emit, arrive, freeze_oldest, settle, takes}
 use Rattle.fgo_state.specs.declared.state.FixedLagRefiner.{FixedLagRefiner}
 use Rattle.fgo_state.specs.declared.state.Memory.{Memory}
 use Rattle.fgo_state.specs.Memory.{scan_in, state_of}
+use Rattle.fgo_state.specs.Contents.{arrived, settled, memory_after}
 use Rattle.fgo_state.specs.Sound.{bodies_ok, sound_ok}
 use Rattle.fgo_refuse.specs.Refusing.{Refuses, push_refusal}
 use Rattle.fgo_refuse.proofs.Refusals.{push_refused, push-accepted}
 use Rattle.fgo_arrive.specs.Arriving.{Arrived}
 use Rattle.fgo_arrive.proofs.ReadyLaw.{sound_tells, sound_ready}
-use Rattle.fgo.specs.Promise.{later_refusal, due, Promised}
+use Rattle.fgo.specs.Promise.{later_refusal, due, Carried, Promised}
 use Rattle.fgo.proofs.Answering.{due_passed}
 
 -- counts that are few
@@ -62,33 +63,42 @@ module _ (r : FixedLagRefiner) (m : Memory) (b : Body) (ws : List ℕ) (ns : Lis
     bodies-pass = all_true _ u.held (λ i l. eq-eqb _ 0 (a.ready.passes i l))
 
     -- no more are held than the lag
-    pub push-held : u.held ≤ lag u.config → Promised replied r m ws ns Held u m' ws ns
+    pub push-held : u.held ≤ lag u.config → Promised (pushed b) r m ws ns Held u m' ws ns
     unfolding settle
     push-held h =
         let e : replied ≡ (waits, state_of u m') = push-settles ∙ ap (settle r.config (state_of u m')) (le-ltb _ _ (subst (λ c. u.held ≤ lag c) a.settings h)) in
-        subst (λ x. Promised x r m ws ns Held u m' ws ns) (sym e)
+        subst (λ x. Carried (pushed b) x r m ws ns Held u m' ws ns) (sym e)
         (record {
           ends = record { answered = refl; state = refl; words = refl; numbers = refl; small = tt; unchanged = tt };
+          memory = a.memory;
           settings = a.settings;
           bodies = λ h. bodies-pass;
           sized = tt;
         })
 
-    -- the oldest leaves
-    oldest-gives : (x : State) (ss : List Scan) (q : FixedLagRefiner) (n : Memory) → 1 ≤ length ss → Unchanged (freeze_oldest u.config x ss).0 r m q n
+    -- the oldest leaves, and a frame is given
+    oldest-gives : (P : Reply Emitted → Type 0) → ((e : Emitted) → P (gives e)) → (x : State) (ss : List Scan) → 1 ≤ length ss → P (freeze_oldest u.config x ss).0
     unfolding freeze_oldest
-    oldest-gives x [] q n h = absurd (omega arith)
-    oldest-gives x (z ∷ ss) q n h = tt
+    oldest-gives P p x [] h = absurd (omega arith)
+    oldest-gives P p x (z ∷ ss) h = p (emit u.config x.first x.prefixes z)
+
+    -- what that makes of the memory, as of what it was before the frame arrived
+    settled-as : settled u.config (state_of u m') (state_of u m').scans m' ≡ (let x = arrive r.config t (frame_in b) in settled r.config x x.scans (arrived r.config t b m))
+    settled-as =
+        ap (λ c. settled c (state_of u m') (state_of u m').scans m') a.settings
+        ∙ ap (λ x. settled r.config x x.scans m') a.state
+        ∙ ap (settled r.config (arrive r.config t (frame_in b)) (arrive r.config t (frame_in b)).scans) a.memory
 
     pub push_leaves :
-        lag u.config < u.held → {g : Answer} {v : FixedLagRefiner} {n : Memory} {ws' : List ℕ} {ns' : List Float} → Promised (takes u.config (state_of u m')) u m' ws ns g v n ws' ns' →
-        Promised replied r m ws ns g v n ws' ns'
+        lag u.config < u.held → {g : Answer} {v : FixedLagRefiner} {n : Memory} {ws' : List ℕ} {ns' : List Float} →
+        Carried taken (takes u.config (state_of u m')) u m' ws ns g v n ws' ns' → Promised (pushed b) r m ws ns g v n ws' ns'
     unfolding settle state_of takes
     push_leaves h {g} {v} {n} {ws'} {ns'} k =
-        let e : replied ≡ takes u.config (state_of u m') =
-        push-settles ∙ ap (settle r.config (state_of u m')) (lt-ltb _ _ (subst (λ c. lag c < u.held) a.settings h))
-        ∙ ap (λ c. freeze_oldest c (state_of u m') (state_of u m').scans) (sym a.settings) in
-        subst (λ x. Promised x r m ws ns g v n ws' ns') (sym e)
+        let x : State = state_of u m' in
+        let e : replied ≡ takes u.config x =
+        push-settles ∙ ap (settle r.config x) (lt-ltb _ _ (subst (λ c. lag c < u.held) a.settings h)) ∙ ap (λ c. freeze_oldest c x x.scans) (sym a.settings) in
+        let some : 1 ≤ length x.scans = omega (arith, length-rows (scan_in m'.scans.bodies m'.scans.columns) u.first.0 u.held) in
+        subst (λ y. Carried (pushed b) y r m ws ns g v n ws' ns') (sym e)
         (record {
           ends =
               record {
@@ -97,10 +107,9 @@ module _ (r : FixedLagRefiner) (m : Memory) (b : Body) (ws : List ℕ) (ns : Lis
                 words = k.ends.words;
                 numbers = k.ends.numbers;
                 small = k.ends.small;
-                unchanged =
-                    oldest-gives (state_of u m') (state_of u m').scans v n
-                    (omega (arith, length-rows (scan_in m'.scans.bodies m'.scans.columns) u.first.0 u.held));
+                unchanged = oldest-gives (λ y. Unchanged y r m v n) (λ e. tt) x x.scans some;
               };
+          memory = k.memory ∙ oldest-gives (λ y. memory_after u.config x taken y m' ≡ memory_after r.config t (pushed b) y m) (λ e. settled-as) x x.scans some;
           settings = k.settings ∙ a.settings;
           bodies = λ h. k.bodies bodies-pass;
           sized = k.sized;

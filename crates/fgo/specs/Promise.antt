@@ -14,6 +14,7 @@ use Rattle.fgo_spec.specs.Refiner.{State, reply}
 use Rattle.fgo_state.specs.declared.state.FixedLagRefiner.{FixedLagRefiner}
 use Rattle.fgo_state.specs.declared.state.Memory.{Memory}
 use Rattle.fgo_state.specs.Memory.{state_of}
+use Rattle.fgo_state.specs.Contents.{memory_after}
 use Rattle.fgo_state.specs.Sound.{bodies_ok, sound_ok}
 
 -- ---- opening
@@ -58,17 +59,23 @@ GivenSized (refused n) = Unit {0}
 GivenSized waits = Unit {0}
 GivenSized (gives e) = Sized e
 
--- A call that is due a, and is given the refiner r, the memory m and the output buffers ws and ns, answers o and leaves
--- u, m', ws' and ns': state, memory and output. Settings stay, bodies that pass stay the only ones held, and a frame
--- that is given is sized so.
-pub record Promised (a : Reply Emitted × State) (r : FixedLagRefiner) (m : Memory) (ws : List ℕ) (ns : List Float)
-    (o : Answer) (u : FixedLagRefiner) (m' : Memory) (ws' : List ℕ) (ns' : List Float) : Type 0 where
-  pub ends : Ends written state_of a r m ws ns o u m' ws' ns'
+-- A call of o that is due a, and is given the refiner r, the memory m and the output buffers ws and ns, answers g and
+-- leaves u, m', ws' and ns': state, memory and output. Every cell of the memory is as defined, settings stay, bodies
+-- that pass stay the only ones held, and a frame that is given is sized so.
+pub record Carried (o : Op Body) (a : Reply Emitted × State) (r : FixedLagRefiner) (m : Memory) (ws : List ℕ) (ns : List Float)
+    (g : Answer) (u : FixedLagRefiner) (m' : Memory) (ws' : List ℕ) (ns' : List Float) : Type 0 where
+  pub ends : Ends written state_of a r m ws ns g u m' ws' ns'
+  pub memory : m' ≡ memory_after r.config (state_of r m) o a.0 m
   pub settings : u.config ≡ r.config
   pub bodies :
       bodies_ok m.scans.bodies m.scans.columns r.first.0 r.held ≡ true →
       bodies_ok m'.scans.bodies m'.scans.columns u.first.0 u.held ≡ true
   pub sized : GivenSized a.0
+
+-- a push or a take, o, does what it is due
+abbrev pub Promised :
+    Op Body → FixedLagRefiner → Memory → List ℕ → List Float → Answer → FixedLagRefiner → Memory → List ℕ → List Float → Type 0
+Promised o r m ws ns = Carried o (due r m o ws ns) r m ws ns
 
 -- ---- counters
 

@@ -5,15 +5,15 @@
 #![tactic(auto)]
 
 ghost use Rattle.std.specs.Prelude.{◌≡◌, ◌≤◌, List, Float, IfOk};
-ghost use Rattle.buffers.specs.Answer.{answer_in, opening_of, opened_by, pushed, taken};
+ghost use Rattle.buffers.specs.Answer.{answer_in, opening_of, opened_by, left_by, pushed, taken};
 ghost use Rattle.refusals.specs.Refusals.{refused};
 ghost use Rattle.engine.specs.Body.{body_of};
 ghost use Rattle.fgo_spec.specs.Refiner.{takes};
-ghost use Rattle.fgo_state.specs.Memory.{memory, state_of};
+ghost use Rattle.fgo_state.specs.Memory.{memory, no_memory, state_of};
 ghost use Rattle.fgo_state.specs.Gathered.{GatheredOf};
 ghost use Rattle.fgo_emit.specs.Writing.{Roomy};
 ghost use Rattle.fgo_arrive.specs.Arriving.{Ready};
-ghost use Rattle.fgo.specs.Promise.{new_by, open_refusal, later_refusal, due, Promised, counted_in, counted_by, count_refusal};
+ghost use Rattle.fgo.specs.Promise.{new_by, open_refusal, later_refusal, Carried, Promised, counted_in, counted_by, count_refusal};
 
 use bounds::{DETECTIONS, OWNERS, PARTS};
 use buffers::Answer;
@@ -48,11 +48,13 @@ fn new(config: FgoConfig) -> FixedLagRefiner
     }
 }
 
-// A new refiner, or `Setting`. It asks nothing of the memory that is lent later on.
-pub fn open(config: FgoConfig) -> Result<FixedLagRefiner, Refusal>
-    ensures { opening_of result ≡ opened_by (open_refusal config) (new_by config) }
+// A new refiner, over memory that it clears; or `Setting`, after which the memory is as it was.
+pub fn open(config: FgoConfig, memory: &mut Memory) -> Result<FixedLagRefiner, Refusal>
+    ensures opened { opening_of result ≡ opened_by (open_refusal config) (new_by config) }
+    ensures memory { memory.new ≡ left_by (open_refusal config) no_memory memory.old }
 {
     if config.is_legal() {
+        memory.clear();
         Ok(new(config))
     } else {
         Err(Refusal::Setting)
@@ -61,8 +63,8 @@ pub fn open(config: FgoConfig) -> Result<FixedLagRefiner, Refusal>
 
 // ---- the oldest scan leaves
 
-// The oldest scan leaves: its detections are frozen, its frame is written, and what nothing asks for any more is
-// forgotten.
+// The oldest scan leaves: its detections are frozen, its frame is written, what nothing asks for any more is forgotten,
+// and its slot is cleared.
 fn freeze_oldest(
     r: &mut FixedLagRefiner,
     memory: &mut Memory,
@@ -70,12 +72,12 @@ fn freeze_oldest(
     numbers: &mut [f64],
 ) -> Answer
     requires { Ready r.old memory.old × Roomy words.old numbers.old × (1 ≤ r.old.held) }
-    ensures promised { Promised (takes r.old.config (state_of r.old memory.old)) r.old memory.old words.old numbers.old
+    ensures { Carried taken (takes r.old.config (state_of r.old memory.old)) r.old memory.old words.old numbers.old
         (answer_in result) r.new memory.new words.new numbers.new }
-    ensures scans { memory.new.scans ≡ memory.old.scans }
 {
     let n = r.first;
     let scans = &memory.scans;
+    scans.typed();
     let many = fgo_freeze::freeze_scan(r.config, scans, n, &mut memory.parts, r.frozen);
     let size = fgo_emit::put_frame(r.config, scans, n, &memory.parts, many, words, numbers);
     let time = scans.body(n).time();
@@ -85,6 +87,7 @@ fn freeze_oldest(
     r.frozen = fgo_freeze::forget(r.config, time, &held, &mut memory.parts, many);
     let live = r.live_in(scans, &memory.parts.tracks);
     r.owned = own::keep_owners(&live, r.owned, &mut memory.owners);
+    memory.scans.clear(n);
     Ok(Some(size))
 }
 
@@ -120,9 +123,7 @@ pub fn take(
     words: &mut [u64],
     numbers: &mut [f64],
 ) -> Answer
-    ensures promised { Promised (due r.old memory.old taken words.old numbers.old) r.old memory.old words.old numbers.old
-        (answer_in result) r.new memory.new words.new numbers.new }
-    ensures scans { memory.new.scans ≡ memory.old.scans }
+    ensures { Promised taken r.old memory.old words.old numbers.old (answer_in result) r.new memory.new words.new numbers.new }
 {
     let mut engines = [0; DETECTIONS];
     check_call(r, memory, words.len(), numbers.len(), &mut engines)?;
@@ -141,7 +142,7 @@ pub fn push(
     words: &mut [u64],
     numbers: &mut [f64],
 ) -> Answer
-    ensures { Promised (due r.old memory.old (pushed (body_of b.now)) words.old numbers.old) r.old memory.old words.old numbers.old
+    ensures { Promised (pushed (body_of b.now)) r.old memory.old words.old numbers.old
         (answer_in result) r.new memory.new words.new numbers.new }
 {
     let mut engines = [0; DETECTIONS];

@@ -1,12 +1,13 @@
--- The search, and the owners told anew: the state is the one of the refiner as defined, and the oldest scan may leave.
--- Assumes nothing.
-use Prim.Native.Nat.{ℕ, ◌+◌, ◌≤◌, ◌<◌}
+-- The search, and the owners told anew: the state is the one of the refiner as defined, every cell of the lent memory
+-- is as defined, and the oldest scan may leave. Assumes nothing.
+use Prim.Native.Nat.{ℕ, ◌+◌, ◌*◌, ◌≤◌, ◌<◌}
 use native.Mathlib.Numerals.{add-one}
 use native.Mathlib.Omega.{arith}
 use mathlib.Core.Path.{◌≡◌, refl, sym, ap, subst, fun_ext, ◌∙◌}
-use mathlib.Core.List.{List, map}
+use mathlib.Core.List.{List, map, flat_map}
 use lib.ListN.{length}
-use Rattle.bounds.specs.Bounds.{DETECTIONS, OWNED}
+use Rattle.bounds.specs.Bounds.{BODY, COLUMN, DETECTIONS, OWNED, OWNER}
+use Rattle.buffers.specs.Buffers.{over, renewed}
 use Rattle.engine.specs.Frame.{Frame}
 use Rattle.engine.specs.Body.{Body, frame_in}
 use Rattle.engine.proofs.Passing.{length-rows}
@@ -23,14 +24,18 @@ use Rattle.search_rows.specs.declared.moves.Tally.{Tally}
 use Rattle.fgo_state.specs.declared.state.FixedLagRefiner.{FixedLagRefiner}
 use Rattle.fgo_part.specs.Parts.{entry_in}
 use Rattle.fgo_state.specs.declared.state.Memory.{Memory}
-use Rattle.fgo_state.specs.Memory.{memory, scans_in, live_in, owner_entry, owners_in, state_of}
+use Rattle.fgo_state.specs.Memory.{memory, slot_at, scan_in, scans_in, live_in, column_words, owner_entry, owner_words, owners_in, state_of}
+use Rattle.fgo_state.specs.Contents as contents
+use Rattle.fgo_state.specs.Contents.{ids_put}
 use Rattle.fgo_place.specs.Owning.{kept_owners}
 use Rattle.fgo_arrive.specs.Arriving.{Ready, Arrives, HeldBy, improved_in, SearchedHeld, Arrived}
 use Rattle.fgo_state.proofs.Live.{live_rule}
+use Rattle.fgo_state.proofs.OwnerCells.{words_long}
 use Rattle.fgo_arrive.proofs.Placements.{before}
+use Rattle.buffers.proofs.Agreeing.{renewed_again}
 use Rattle.fgo_arrive.proofs.ReadyLaw.{sound_ready}
 use Rattle.fgo_arrive.proofs.Accepted.{room, rule, holds}
-use Rattle.fgo_arrive.proofs.HeldFrame.{v, held_as, next_held, owners_held, scans_held}
+use Rattle.fgo_arrive.proofs.HeldFrame.{v, held_as, placed_same, next_held, owners_held, scans_held}
 
 -- a refiner after the search: so many owners, the next id and the counters
 abbrev pub after : FixedLagRefiner → ℕ → Tally → FixedLagRefiner
@@ -48,10 +53,10 @@ after u k y =
 owners_long : (owners : List ℕ) (n : ℕ) → length (owners_in owners n) ≡ n
 owners_long owners n = length-rows (owner_entry owners) 0 n
 
--- the entries that keep_owners leaves
-abbrev Keeps : FixedLagRefiner → Memory → List ℕ → List ℕ → List ℕ → ℕ → Type 0
-Keeps u m columns owners owners' k =
-    owners_in owners' k ≡ kept_owners m.scans.bodies columns u.first.0 u.held m.parts.tracks u.frozen (owners_in owners u.owned)
+-- the entries that keep_owners leaves, and every cell of their array
+pub record Keeps (u : FixedLagRefiner) (m : Memory) (columns owners owners' : List ℕ) (k : ℕ) : Type 0 where
+  pub kept : owners_in owners' k ≡ kept_owners m.scans.bodies columns u.first.0 u.held m.parts.tracks u.frozen (owners_in owners u.owned)
+  pub cells : owners' ≡ renewed 0 (OWNER * u.owned) (flat_map owner_words (owners_in owners' k)) owners
 
 module _ (r : FixedLagRefiner) (m : Memory) (s : Body) (a : Arrives r m s) (l : Bytes m.scans.bodies) (b : Bytes s.bytes) where
   abbrev t : State
@@ -59,6 +64,9 @@ module _ (r : FixedLagRefiner) (m : Memory) (s : Body) (a : Arrives r m s) (l : 
 
   abbrev f : Frame
   f = frame_in s
+
+  held-long : length (scans_in m.scans.bodies m.scans.columns r.first.0 r.held) ≡ r.held
+  held-long = length-rows (scan_in m.scans.bodies m.scans.columns) r.first.0 r.held
 
   module _ (u : FixedLagRefiner) (bodies columns owners : List ℕ) (h : HeldBy r s m.scans.bodies m.scans.columns m.owners u bodies columns owners) where
     abbrev m' : Memory
@@ -87,7 +95,7 @@ module _ (r : FixedLagRefiner) (m : Memory) (s : Body) (a : Arrives r m s) (l : 
       owners-as : owners_in owners'' k ≡ reown t.prefixes e.scans (placed t f).owners
       unfolding kept_owners reown state_of
       owners-as =
-          o
+          o.kept
           ∙ ap (λ g. keep g (owners_in owners' w.owned))
           (fun_ext (λ p. live_rule bodies columns' r.first.0 (r.held + 1) m.parts.tracks m.parts.filters r.frozen p.1))
           ∙ ap (λ ss. live_owners t.prefixes ss (owners_in owners' w.owned)) scans-as
@@ -116,7 +124,7 @@ module _ (r : FixedLagRefiner) (m : Memory) (s : Body) (a : Arrives r m s) (l : 
             arith,
             owners_long owners'' k,
             owners_long owners' w.owned,
-            ap length o,
+            ap length o.kept,
             count-le (λ p. live_in bodies columns' r.first.0 (r.held + 1) m.parts.tracks r.frozen p.1) (owners_in owners' w.owned),
             h.owned,
           )
@@ -146,8 +154,47 @@ module _ (r : FixedLagRefiner) (m : Memory) (s : Body) (a : Arrives r m s) (l : 
             owners = few-owners;
           }
 
+      -- ---- every cell
+
+      bodies-as : bodies ≡ over (BODY * slot_at (t.first + length t.scans)) s.bytes m.scans.bodies
+      unfolding state_of
+      bodies-as = h.bodies_put ∙ ap (λ (n : ℕ). over (BODY * slot_at (r.first.0 + n)) s.bytes m.scans.bodies) (sym held-long)
+
+      -- the column of the frame, and the ids of all
+      columns-as :
+          columns'
+          ≡ ids_put t.first (arrive r.config t f).scans
+          (over (COLUMN * slot_at (t.first + length t.scans)) (column_words s.kind (length s.bytes) (placed t f).ids) m.scans.columns)
+      unfolding state_of arrive
+      columns-as =
+          q.columns_put
+          ∙ ap (λ x. ids_put r.first.0 x.search.scans columns) found_as
+          ∙ ap (ids_put r.first.0 e.scans)
+          (h.columns_put
+          ∙ ap (λ p. over (COLUMN * slot_at (r.first.0 + r.held)) (column_words s.kind (length s.bytes) p.ids) m.scans.columns) (placed_same r m s a l b u bodies columns owners h)
+          ∙ ap (λ (n : ℕ). over (COLUMN * slot_at (r.first.0 + n)) (column_words s.kind (length s.bytes) (placed t f).ids) m.scans.columns) (sym held-long))
+
+      owned-long : OWNER * w.owned ≡ OWNER * length (placed t f).owners
+      owned-long = ap (λ (n : ℕ). OWNER * n) (sym (owners_long owners w.owned) ∙ ap length (owners_held r m s a l b u bodies columns owners h))
+
+      owners-cells : owners'' ≡ renewed 0 (OWNER * length (placed t f).owners) (flat_map owner_words (arrive r.config t f).owners) m.owners
+      unfolding arrive
+      owners-cells =
+          let g = flat_map owner_words (owners_in owners'' k) in
+          let n : ℕ = OWNER * length (placed t f).owners in
+          let put : owners ≡ over 0 (flat_map owner_words (placed t f).owners) m.owners =
+          h.owners_put ∙ ap (λ p. over 0 (flat_map owner_words p.owners) m.owners) (placed_same r m s a l b u bodies columns owners h) in
+          o.cells
+          ∙ ap (λ (i : ℕ). renewed 0 i g owners') owned-long
+          ∙ renewed_again 0 n g _ owners' owners (words_long (owners_in owners' w.owned) ∙ ap (λ (i : ℕ). OWNER * i) (owners_long owners' w.owned) ∙ owned-long) q.owners_put
+          ∙ renewed_again 0 n g _ owners m.owners (words_long (placed t f).owners) put
+          ∙ ap (λ os. renewed 0 n (flat_map owner_words os) m.owners) owners-as
+
+      memory-as : m'' ≡ contents.arrived r.config t s m
+      memory-as = λ i. memory (bodies-as i) (columns-as i) (owners-cells i) m.parts.tracks m.parts.filters
+
       arrived-as : Arrived r m s (after w k y) m''
-      arrived-as = record { settings = refl; state = state-as; ready = ready; held = add-one r.held }
+      arrived-as = record { settings = refl; memory = memory-as; state = state-as; ready = ready; held = add-one r.held }
 
     -- of the refiner that holds the frame
     pub arrives :

@@ -106,7 +106,7 @@ module _ (r : FixedLagRefiner) (m : Memory) (s : Body) (a : Arrives r m s) (l : 
         (λ i.
         record { config = h.settings i; first = h.first i; held = h.held i; frozen = h.frozen i; owned = u.owned; next_id = u.next_id; counters = h.counters i })
 
-    placed_same : placed_by r s m.owners ≡ p
+    pub placed_same : placed_by r s m.owners ≡ p
     unfolding state_of
     placed_same = places r.config t f (rule r m s a l) (room r m s a)
 

@@ -1,6 +1,8 @@
 -- A frame arrives: what placing, searching and owning leave in the lent memory. Definitions only.
-use Rattle.std.specs.Prelude.{ℕ, suc, ◌+◌, ◌≤◌, ◌<◌, ◌≡◌, true, List, [], ◌∷◌, ◌++◌, map}
-use Rattle.bounds.specs.Bounds.{LAG, SCANS, ACCEPTED, COUNTED, DETECTIONS, FROZEN, OWNED}
+use Rattle.std.specs.Prelude.{ℕ, suc, ◌+◌, ◌*◌, ◌≤◌, ◌<◌, ◌≡◌, true, List, [], ◌∷◌, ◌++◌, map, length}
+use mathlib.Core.List.{flat_map}
+use Rattle.bounds.specs.Bounds.{LAG, SCANS, BODY, COLUMN, ACCEPTED, COUNTED, DETECTIONS, FROZEN, OWNED}
+use Rattle.buffers.specs.Buffers.{over}
 use Rattle.engine.specs.Body.{Body, frame_in, body_refusal}
 use Rattle.engine.specs.Config.{legal}
 use Rattle.fgo_spec.specs.Windows.{window_count}
@@ -15,7 +17,8 @@ use Rattle.search.specs.Represents.{Spare}
 use Rattle.fgo_state.specs.declared.state.FixedLagRefiner.{FixedLagRefiner}
 use Rattle.fgo_part.specs.Parts.{table_in, entry_in}
 use Rattle.fgo_state.specs.declared.state.Memory.{Memory}
-use Rattle.fgo_state.specs.Memory.{body_at, scans_in, owners_in, state_of}
+use Rattle.fgo_state.specs.Memory.{slot_at, body_at, scans_in, column_words, owner_words, owners_in, state_of}
+use Rattle.fgo_state.specs.Contents.{ids_put, arrived}
 use Rattle.fgo_freeze.specs.Frozen.{Ordered, PartOk}
 use Rattle.fgo_state.specs.Gathering.{HeldScans}
 use Rattle.fgo_place.specs.Placing.{placed_all, begins}
@@ -36,7 +39,8 @@ pub record Holds (r : FixedLagRefiner) (b : Body) : Type 0 where
 abbrev pub placed_by : FixedLagRefiner → Body → List ℕ → placing.Placing
 placed_by r b owners = placed_all r.next_id.0 (frame_in b).associations (begins owners r.owned r.next_id.0)
 
--- after it: one scan more is held, with the ids that placing gave
+-- after it: one scan more is held, with the ids that placing gave; its body and its column were written into its slot,
+-- the owners at the front of their array, and no other cell
 pub record HeldBy (r : FixedLagRefiner) (b : Body) (bodies columns owners : List ℕ) (u : FixedLagRefiner) (bodies' columns' owners' : List ℕ) : Type 0 where
   pub settings : u.config ≡ r.config
   pub first : u.first ≡ r.first
@@ -46,6 +50,10 @@ pub record HeldBy (r : FixedLagRefiner) (b : Body) (bodies columns owners : List
   pub next_id : u.next_id.0 ≡ (placed_by r b owners).next_id
   pub owned : u.owned ≤ OWNED
   pub owners_are : owners_in owners' u.owned ≡ (placed_by r b owners).owners
+  pub bodies_put : bodies' ≡ over (BODY * slot_at (r.first.0 + r.held)) b.bytes bodies
+  pub columns_put :
+      columns' ≡ over (COLUMN * slot_at (r.first.0 + r.held)) (column_words b.kind (length b.bytes) (placed_by r b owners).ids) columns
+  pub owners_put : owners' ≡ over 0 (flat_map owner_words (placed_by r b owners).owners) owners
   pub scans : scans_in bodies' columns' r.first.0 (r.held + 1)
       ≡ scans_in bodies columns r.first.0 r.held ++ (record { frame = frame_in b; ids = (placed_by r b owners).ids } ∷ [])
   pub older : (i : ℕ) → i < r.held → body_at bodies' columns' (r.first.0 + i) ≡ body_at bodies columns (r.first.0 + i)
@@ -70,10 +78,13 @@ improved_in r m =
     improve r.config r.first.0 (table_in m.parts.tracks m.parts.filters r.frozen) (scans_in m.scans.bodies m.scans.columns r.first.0 r.held) r.next_id.0
     r.counters
 
--- after the search: the columns and the owners, next id and counters
+-- after the search: the columns and the owners, next id and counters; of columns only the ids were written, and of
+-- owners those in use
 pub record SearchedHeld (r : FixedLagRefiner) (m : Memory) (columns' owners' : List ℕ) (t : Tally) : Type 0 where
   pub scans : scans_in m.scans.bodies columns' r.first.0 r.held ≡ (improved_in r m).search.scans
   pub bodies : (i : ℕ) → i < r.held → body_refusal (body_at m.scans.bodies columns' (r.first.0 + i)) ≡ 0
+  pub columns_put : columns' ≡ ids_put r.first.0 (improved_in r m).search.scans m.scans.columns
+  pub owners_put : owners' ≡ over 0 (flat_map owner_words (owners_in owners' r.owned)) m.owners
   pub owners : owners_in owners' r.owned ≡ map (λ o. (o.0, latest o.0 o.1 (improved_in r m).search.scans)) (owners_in m.owners r.owned)
   pub next_id : t.next_id.0 ≡ (improved_in r m).search.next_id
   pub counters : t.counters ≡ (improved_in r m).search.counters
@@ -93,9 +104,10 @@ pub record Arrives (r : FixedLagRefiner) (m : Memory) (b : Body) : Type 0 where
   pub sound : sound_ok r m ≡ true
   pub accepted : push_refusal r m.scans.bodies m.scans.columns m.owners b ≡ 0
 
--- after it: the state is fgo_spec's, and the oldest scan may leave
+-- after it: the state is fgo_spec's, every cell is as defined, and the oldest scan may leave
 pub record Arrived (r : FixedLagRefiner) (m : Memory) (b : Body) (u : FixedLagRefiner) (m' : Memory) : Type 0 where
   pub settings : u.config ≡ r.config
+  pub memory : m' ≡ arrived r.config (state_of r m) b m
   pub state : state_of u m' ≡ spec.arrive r.config (state_of r m) (frame_in b)
   pub ready : Ready u m'
   pub held : u.held ≡ suc r.held

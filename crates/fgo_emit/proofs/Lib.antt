@@ -1,4 +1,3 @@
 pub mod Associations
 pub mod Listing
 pub mod Framing
-pub mod Filling

@@ -2,13 +2,15 @@
 use Prim.Native.Nat.{ℕ, suc, ◌+◌, ◌^◌, ◌≤◌, ◌<◌}
 use mathlib.Core.Path.{◌≡◌, sym, ap, ◌∙◌}
 use mathlib.Core.List.{List}
-use mathlib.Core.Option.{none, some}
+use mathlib.Core.Option.{Option, none, some}
 use native.Mathlib.Nat.{zero-add}
 use native.Mathlib.Numerals.{add-one}
 use native.Mathlib.Omega.{arith}
 use lib.ListN.{length}
 use lib.Ieee.{Float}
+use Rattle.bounds.specs.Bounds.{HEIGHTS}
 use Rattle.engine.specs.declared.config.FgoConfig.{FgoConfig}
+use Rattle.engine.proofs.Passing.{length-rows}
 use Rattle.fgo_spec.specs.Lists.{find, put, place_in}
 use Rattle.fgo_spec.specs.Windows as windows
 use Rattle.fgo_spec.specs.Windows.{Detection}
@@ -18,7 +20,7 @@ use Rattle.fgo_part.specs.Parts.{part_id, prefix_in, entry_in, table_in, prefix_
 use Rattle.fgo_part.proofs.Recent.{heights_few}
 use Rattle.fgo_freeze.specs.Frozen.{Moves, Raised, Ordered, frozen_by}
 use Rattle.fgo_freeze.proofs.Table.{found, replaced, inserted}
-use Rattle.fgo_freeze.proofs.Order.{ordered_at, absent}
+use Rattle.fgo_freeze.proofs.Order.{ordered_at, absent, put-grows, frozen_tall}
 
 module _ (c : FgoConfig) (t : List ℕ) (f : List Float) (n x k : ℕ) (d : Detection) (place : k ≡ place_in x (part_ids t n)) where
   abbrev T : List (ℕ × windows.Prefix)
@@ -56,3 +58,14 @@ module _ (c : FgoConfig) (t : List ℕ) (f : List Float) (n x k : ℕ) (d : Dete
       (λ j l. u.others j (λ (v : j ≡ k). omega arith) ∙ ra.below j (omega arith))
       (λ j l m. u.others (suc j) (λ (v : suc j ≡ k). omega arith) ∙ ra.above j (omega arith) (omega arith))
       ∙ ap (λ a. put x a T) (sym w))
+
+-- what freezing leaves has few heights
+pub few_frozen : (c : FgoConfig) (o : Option windows.Prefix) (d : Detection) (q : Prefix) → prefix_of q ≡ freeze c o d → q.heights.count ≤ HEIGHTS
+few_frozen c o d q e = heights_few q.heights.values 0 q.heights.count (rw (ap (λ u. u.heights) e) (frozen_tall c o d))
+
+-- the table has no fewer parts than before
+pub frozen_more :
+    (c : FgoConfig) (x : ℕ) (d : Detection) (t : List ℕ) (f : List Float) (n : ℕ) (t' : List ℕ) (f' : List Float) (m : ℕ) →
+    table_in t' f' m ≡ frozen_by c x d (table_in t f n) → n ≤ m
+frozen_more c x d t f n t' f' m e =
+    omega (arith, length-rows (entry_in t f) 0 n, length-rows (entry_in t' f') 0 m, ap length e, put-grows x (freeze c (find x (table_in t f n)) d) (table_in t f n))

@@ -1,5 +1,6 @@
 pub mod Times
 pub mod Classes
+pub mod Pasts
 pub mod Raising
 pub mod Table
 pub mod Order

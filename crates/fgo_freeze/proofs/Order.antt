@@ -121,6 +121,17 @@ module _ (b x : ℕ) (a : Prefix) (tall : 1 ≤ length a.heights) (few : a.count
       by Ordering.eq q later = (h, tall, few, rw (compare_eq x e.0 q) more)
       by Ordering.gt q later = (o.0, o.1, omega (arith, o.2), later (compare_gt x e.0 q))
 
+-- no part goes
+pub put-grows : (x : ℕ) (a : Prefix) (ps : List (ℕ × Prefix)) → length ps ≤ length (put x a ps)
+unfolding put
+put-grows x a [] = omega arith
+put-grows x a (e ∷ ps) = by (compare x e.0) (put-grows x a ps)
+  where
+    by : (c : Ordering) → length ps ≤ length (put x a ps) → suc (length ps) ≤ length (put_by c (x, a) e ps (put x a ps))
+    by Ordering.lt h = omega arith
+    by Ordering.eq h = omega arith
+    by Ordering.gt h = omega arith
+
 -- ---- a part that was frozen
 
 abbrev Most : ℕ → Option Prefix → Type 0
@@ -134,10 +145,16 @@ most_found b y x ps o = by (find x ps) refl
     by none e = tt
     by (some p) e = ordered_find b y x ps o e
 
-pub frozen_fits : (c : FgoConfig) (b : ℕ) (o : Option Prefix) (d : Detection) → Most b o → (1 ≤ length (freeze c o d).heights) × ((freeze c o d).count ≤ suc b)
+-- it has a height
+pub frozen_tall : (c : FgoConfig) (o : Option Prefix) (d : Detection) → 1 ≤ length (freeze c o d).heights
 unfolding freeze
-frozen_fits c b none d m = (omega arith, omega arith)
-frozen_fits c b (some p) d m =
+frozen_tall c none d = omega arith
+frozen_tall c (some p) d =
     let l = p.heights ++ (d.z ∷ []) in
     let n : length l ≡ length p.heights + 1 = length-append p.heights (d.z ∷ []) in
-    (omega (arith, length-drop (length l - HEIGHTS) l), omega arith)
+    omega (arith, length-drop (length l - HEIGHTS) l)
+
+pub frozen_fits : (c : FgoConfig) (b : ℕ) (o : Option Prefix) (d : Detection) → Most b o → (1 ≤ length (freeze c o d).heights) × ((freeze c o d).count ≤ suc b)
+unfolding freeze
+frozen_fits c b none d m = (frozen_tall c none d, omega arith)
+frozen_fits c b (some p) d m = (frozen_tall c (some p) d, omega arith)

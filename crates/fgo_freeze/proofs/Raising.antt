@@ -3,15 +3,16 @@ use Prim.Native.Nat.{ℕ, suc, ◌+◌, ◌-◌, ◌*◌, ◌≤◌, ◌<◌}
 use native.Mathlib.Omega.{arith}
 use mathlib.Core.Path.{◌≡◌, refl, ap, ◌∙◌}
 use mathlib.Core.List.{List}
-use lib.ListN.{length, get_or}
+use lib.ListN.{length, drop, get_or}
 use lib.Ieee.{Float, nan}
 use Rattle.std.specs.List.{copy_within}
 use Rattle.bounds.specs.Bounds.{FROZEN, PART, PARTS, FILTER, FILTERS}
 use Rattle.buffers.specs.Buffers.{over}
-use Rattle.buffers.proofs.Over.{over-before, over_in}
+use Rattle.buffers.proofs.Over.{length_over, over-before, over_in}
 use Rattle.fgo_spec.specs.Lists.{segment}
 use Rattle.fgo_part.proofs.Parts.{copy_over, segment_long, segment-at, entry_same}
 use Rattle.fgo_freeze.specs.Frozen.{Raised}
+use Rattle.buffers.proofs.Agreeing.{drop_over}
 
 -- m entries from place o on, moved up by s
 module _ {A : Type 0} (l l' : List A) (d : A) (o m s : ℕ) (room : o + m + s ≤ length l) (e : l' ≡ copy_within l o (o + m) (o + s)) where
@@ -27,8 +28,14 @@ module _ {A : Type 0} (l l' : List A) (d : A) (o m s : ℕ) (room : o + m + s �
   is : l' ≡ over (o + s) piece l
   is = e ∙ copy_over l o m (o + s) (omega arith)
 
+  lasts : length l' ≡ length l
+  lasts = ap length is ∙ length_over (o + s) piece l fits
+
   stays : (i : ℕ) → i < o + s → get_or l' i d ≡ get_or l i d
   stays i h = ap (λ z. get_or z i d) is ∙ over-before (o + s) piece l fits i d h
+
+  ends : (n : ℕ) → n ≡ o + m + s → drop n l' ≡ drop n l
+  ends n h = ap (drop n) is ∙ drop_over (o + s) piece l fits n (omega (arith, long))
 
   moves : (i j : ℕ) → o ≤ i → i < o + m → j ≡ i + s → get_or l' j d ≡ get_or l i d
   moves i j h k q =
@@ -54,6 +61,13 @@ raised k n t t' f f' h few wide deep et ef =
     let p : PART * k + PART * (n - k) + PART ≤ length t = omega arith in
     let q : FILTER * k + FILTER * (n - k) + FILTER ≤ length f = omega arith in
     record {
+      wide = lasts t t' 0 (PART * k) (PART * (n - k)) PART p u;
+      deep = lasts f f' nan (FILTER * k) (FILTER * (n - k)) FILTER q v;
+      past =
+          record {
+            words = ends t t' 0 (PART * k) (PART * (n - k)) PART p u (PART * suc n) (omega arith);
+            numbers = ends f f' nan (FILTER * k) (FILTER * (n - k)) FILTER q v (FILTER * suc n) (omega arith);
+          };
       below = λ j l. entry_same t f j t' f' j
           (λ i r. stays t t' 0 (PART * k) (PART * (n - k)) PART p u (PART * j + i) (omega arith))
           (λ i r. stays f f' nan (FILTER * k) (FILTER * (n - k)) FILTER q v (FILTER * j + i) (omega arith));

@@ -1,8 +1,11 @@
 -- Document 01, "fgo.rs: freezing", on the lent memory. Definitions only.
 use Rattle.std.specs.Prelude.{ℕ, suc, ◌+◌, ◌^◌, ◌<◌, ◌≤◌, ◌≡◌, Bool, true, ◌||◌}
-use Rattle.std.specs.Prelude.{List, [], ◌∷◌, length, ℤ, ◌-ℤ◌, Float}
+use Rattle.std.specs.Prelude.{◌*◌, List, [], ◌∷◌, length, drop, ℤ, ◌-ℤ◌, Float}
+use mathlib.Core.List.{flat_map}
 use Rattle.std.specs.Int.Signed.{le_z}
-use Rattle.bounds.specs.Bounds.{ACCEPTED, FROZEN, HEIGHTS}
+use Rattle.std.specs.Float.{binary64}
+use Rattle.std.specs.Float.Ieee.{of_bits}
+use Rattle.bounds.specs.Bounds.{ACCEPTED, FROZEN, HEIGHTS, PART, FILTER}
 use Rattle.engine.specs.declared.config.FgoConfig.{FgoConfig}
 use Rattle.engine.specs.Config.{forget_after}
 use Rattle.engine.specs.Body.{Body, time_ok, frame_in, body_refusal}
@@ -12,7 +15,8 @@ use Rattle.fgo_spec.specs.Windows.{Scan, detection_of, in_windows}
 use Rattle.fgo_spec.specs.Freezing.{freeze}
 use Rattle.fgo_part.specs.declared.Prefix.{Prefix}
 use Rattle.fgo_freeze.specs.declared.Detection.{Detection}
-use Rattle.fgo_part.specs.Parts.{part_id, part_last_ns, entry_in, table_in}
+use Rattle.buffers.specs.Buffers.{renewed}
+use Rattle.fgo_part.specs.Parts.{part_id, part_last_ns, entry_in, table_in, part_words, part_numbers}
 use Rattle.fgo_state.specs.Memory.{body_at, association_in, scan_in, in_window}
 
 -- a detection by value, as the one that it is
@@ -30,8 +34,16 @@ pub record Moves (p : Prefix) : Type 0 where
 
 -- ---- the table of frozen parts, by ascending id
 
--- after the frozen parts from k on, of n, were moved up by one
+-- the cells past the first n frozen parts are as they were
+pub record Past (n : ℕ) (tracks : List ℕ) (filters : List Float) (tracks' : List ℕ) (filters' : List Float) : Type 0 where
+  pub words : drop (PART * n) tracks' ≡ drop (PART * n) tracks
+  pub numbers : drop (FILTER * n) filters' ≡ drop (FILTER * n) filters
+
+-- after the frozen parts from k on, of n, were moved up by one, in memory that is as long as it was
 pub record Raised (k n : ℕ) (tracks : List ℕ) (filters : List Float) (tracks' : List ℕ) (filters' : List Float) : Type 0 where
+  pub wide : length tracks' ≡ length tracks
+  pub deep : length filters' ≡ length filters
+  pub past : Past (suc n) tracks filters tracks' filters'
   pub below : (j : ℕ) → j < k → entry_in tracks' filters' j ≡ entry_in tracks filters j
   pub above : (j : ℕ) → k ≤ j → j < n → entry_in tracks' filters' (suc j) ≡ entry_in tracks filters j
 
@@ -75,3 +87,11 @@ pub record PartsOk (time : ℤ) (tracks : List ℕ) (filters : List Float) (n : 
   pub timed : time_ok time ≡ true
   pub few : n ≤ FROZEN
   pub parts : (k : ℕ) → k < n → PartOk (entry_in tracks filters k)
+
+-- of n frozen parts those stay that are now the table ps, w of them: they lie at the front, and the others of the n are
+-- cleared
+pub record Remembered (ps : List (ℕ × windows.Prefix)) (n w : ℕ)
+    (tracks : List ℕ) (filters : List Float) (tracks' : List ℕ) (filters' : List Float) : Type 0 where
+  pub table : table_in tracks' filters' w ≡ ps
+  pub words : tracks' ≡ renewed 0 (PART * n) (flat_map part_words ps) tracks
+  pub numbers : filters' ≡ renewed (of_bits binary64 0) (FILTER * n) (flat_map part_numbers ps) filters

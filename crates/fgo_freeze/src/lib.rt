@@ -13,7 +13,7 @@ ghost use Rattle.fgo_spec.specs.Freezing as spec;
 ghost use Rattle.fgo_part.specs.Parts.{prefix_of, table_in, part_last_ns};
 ghost use Rattle.fgo_state.specs.Memory.{scan_in, scans_in};
 ghost use Rattle.fgo_state.specs.Gathering.{dot_of};
-ghost use Rattle.fgo_freeze.specs.Frozen.{detection_by, seen_in, Moves, Raised, frozen_by, Freezes, FreezesScan, kept_in, PartsOk};
+ghost use Rattle.fgo_freeze.specs.Frozen.{detection_by, seen_in, Moves, Raised, frozen_by, Freezes, FreezesScan, Past, kept_in, PartsOk, Remembered};
 
 use crate::moment::Moment;
 use bounds::{FILTER, PART, PARTS};
@@ -128,7 +128,7 @@ fn freeze(c: FgoConfig, p: Prefix, d: Detection) -> Prefix
 
 // ---- the table of frozen parts
 
-// The parts from k on move up by one.
+// The parts from k on move up by one; no cell past the last of them changes.
 // As it is, here and below: the parts and how many there are are two arguments. A caller lends the parts apart from the
 // state, which counts them, so a struct of both would hold a `&mut`, and of such a struct no fact says what it holds
 // afterwards.
@@ -145,7 +145,7 @@ fn make_room(parts: &mut FrozenParts, k: usize, frozen: usize)
         .copy_within(FILTER * k..FILTER * frozen, FILTER * (k + 1));
 }
 
-// One detection is frozen into its track; how many parts there are then.
+// One detection is frozen into its track; how many parts there are then, past which no cell changes.
 fn freeze_one(
     c: FgoConfig,
     parts: &mut FrozenParts,
@@ -154,7 +154,9 @@ fn freeze_one(
     d: Detection,
 ) -> usize
     requires { Freezes id.0 parts.old.tracks parts.old.filters frozen }
-    ensures { table_in parts.new.tracks parts.new.filters result ≡ frozen_by c id.0 (detection_by d) (table_in parts.old.tracks parts.old.filters frozen) }
+    ensures past { Past result parts.old.tracks parts.old.filters parts.new.tracks parts.new.filters }
+    ensures table { table_in parts.new.tracks parts.new.filters result
+        ≡ frozen_by c id.0 (detection_by d) (table_in parts.old.tracks parts.old.filters frozen) }
 {
     let tracks = FrozenTracks {
         tracks: &parts.tracks,
@@ -171,8 +173,8 @@ fn freeze_one(
     frozen + 1
 }
 
-// The detections of a scan are frozen into their tracks; how many parts there are then. The scan's body must pass, the
-// table be in order and have room.
+// The detections of a scan are frozen into their tracks; how many parts there are then, past which no cell changes. The
+// scan's body must pass, the table be in order and have room.
 pub fn freeze_scan(
     c: FgoConfig,
     scans: &Scans,
@@ -181,7 +183,8 @@ pub fn freeze_scan(
     frozen: usize,
 ) -> usize
     requires { FreezesScan scans.now.bodies scans.now.columns n.0 parts.old.tracks parts.old.filters frozen }
-    ensures { table_in parts.new.tracks parts.new.filters result
+    ensures past { Past result parts.old.tracks parts.old.filters parts.new.tracks parts.new.filters }
+    ensures table { table_in parts.new.tracks parts.new.filters result
         ≡ spec.freeze_scan c n.0 (scan_in scans.now.bodies scans.now.columns n.0) (table_in parts.old.tracks parts.old.filters frozen) }
 {
     let s = scans.held(n);
@@ -207,7 +210,9 @@ fn is_kept(at: Moment, held: &HeldRef<'_>, tracks: &[u64; PARTS], k: usize) -> b
     at.part_age(tracks, k) <= at.config.forget_after_ns || held.windows_in(part_id(tracks, k))
 }
 
-// The frozen parts that stay, moved together; how many they are. All times must be in bounds.
+// The frozen parts that stay, moved together, and the others cleared; how many stay. All times must be in bounds.
+// As it is: a part that stays is read and written by value, so that what it leaves is told by the part alone: a word
+// for a class that is not known, and the place of a height that is not there, may be anything in what a caller lends.
 // As it is: a loop like that of `keep_owners`. This one moves parts in two arrays, that one entries in one, so a
 // function of both would take a closure that tells which stay and one that moves them, which is no plainer. `w += 1`
 // counts those that stayed, which no iterator tells after its last, as `put_tracks` of fgo_emit says.
@@ -219,17 +224,21 @@ pub fn forget(
     frozen: usize,
 ) -> usize
     requires { PartsOk time parts.old.tracks parts.old.filters frozen }
-    ensures { table_in parts.new.tracks parts.new.filters result
-        ≡ spec.remember c time (scans_in held.now.scans.now.bodies held.now.scans.now.columns held.now.first.0 held.now.count)
-        (table_in parts.old.tracks parts.old.filters frozen) }
+    ensures { Remembered (spec.remember c time
+        (scans_in held.now.scans.now.bodies held.now.scans.now.columns held.now.first.0 held.now.count)
+        (table_in parts.old.tracks parts.old.filters frozen)) frozen result
+        parts.old.tracks parts.old.filters parts.new.tracks parts.new.filters }
 {
     let at = Moment { config: c, time };
     let mut w: usize = 0;
     for k in 0..frozen {
         if is_kept(at, held, &parts.tracks, k) {
-            parts.copy(k, w);
+            let id = part_id(&parts.tracks, k);
+            let p = parts.prefix_at(k);
+            parts.put(w, id, p);
             w += 1;
         }
     }
+    parts.clear(w, frozen);
     w
 }

@@ -6,11 +6,11 @@ use native.Mathlib.Omega.{arith}
 use mathlib.Core.Path.{◌≡◌, refl, sym, ap, ◌∙◌}
 use mathlib.Core.List.{List, [], ◌∷◌, ◌++◌}
 use lib.ListN.{length, take, drop, get_or, set, length-append, length-set}
-use lib.Seq.{take-suc, take-suc-set, take_at}
+use lib.Seq.{take-suc, take-suc-set, take_at, take_all}
 use Rattle.engine.specs.Body.{rows}
 use Rattle.buffers.specs.Buffers.{over}
 use Rattle.fgo_part.specs.Parts.{cells}
-use Rattle.fgo_spec.proofs.Rows.{rows_more}
+use Rattle.fgo_spec.proofs.Rows.{rows_more, rows_same}
 
 module _ {A : Type 0} (d : A) where
   -- the first n cells
@@ -37,3 +37,10 @@ module _ {A : Type 0} (d : A) where
   cells_over g l h =
       let e = length-append g (drop (0 + length g) l) in
       cells-take (g ++ drop (0 + length g) l) (length g) (omega arith) ∙ take_at g (drop (0 + length g) l) (length g) refl
+
+  -- those that hold what a list holds
+  pub cells_are : (l g : List A) (o : ℕ) → ((i : ℕ) → i < length g → get_or l (o + i) d ≡ get_or g i d) → cells d l o (length g) ≡ g
+  cells_are l g o each =
+      rows_same (λ i. get_or l (o + i) d) (λ i. get_or g (0 + i) d) 0 (length g) (λ k a b. each k (omega arith) ∙ ap (λ (n : ℕ). get_or g n d) (sym (zero-add k)))
+      ∙ cells-take g (length g) (omega arith)
+      ∙ take_all (length g) g (omega arith)

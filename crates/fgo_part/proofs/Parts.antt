@@ -1,26 +1,33 @@
 -- Frozen parts in memory and by value. Assumes nothing.
-use Prim.Native.Nat.{ℕ, ◌+◌, ◌-◌, ◌*◌, ◌≤◌, ◌<◌}
+use Prim.Native.Nat.{ℕ, zero, suc, ◌+◌, ◌-◌, ◌*◌, ◌≤◌, ◌<◌}
 use mathlib.Core.Path.{◌≡◌, refl, sym, ap, ◌∙◌}
 use mathlib.Core.Bool.{Bool, true, false, cond}
-use mathlib.Core.List.{List, [], ◌++◌, append_assoc}
+use mathlib.Core.List.{List, [], ◌++◌, append_assoc, flat_map}
 use native.Mathlib.Nat.{add-zero, zero-add, add_assoc}
 use native.Mathlib.Omega.{arith}
-use borrow.Author.Tests.{leb-true, ltb-true, ltb-false}
+use borrow.Author.Tests.{leb-true, le-leb, ltb-true, ltb-false}
 use lib.Dec.{leb, ltb, lit<}
-use lib.ListN.{length, get_or, take, drop, length-append, length-drop}
+use lib.ListN.{length, get_or, take, drop, length-append, length-drop, get_or-append, replicate}
 use lib.Seq.{get_or-append-add, get_or-take, get_or-drop, length-take-le}
-use lib.Ieee.{Float, nan}
+use lib.Ieee.{Float, nan, binary64}
 use Rattle.std.specs.List.{copy_within}
+use Rattle.std.specs.Float.Ieee.{of_bits}
+use Rattle.std.proofs.lemmas.List.{length-replicate, drop-replicate}
 use Rattle.bounds.specs.Bounds.{FROZEN, PART, PARTS, KF, HEIGHTS, FILTER, FILTERS}
 use Rattle.scalar.specs.Scalar.{word, signed}
 use Rattle.kf.specs.Filter.{kf_in, kf_numbers}
 use Rattle.buffers.specs.Buffers.{over}
 use Rattle.buffers.proofs.Over.{over-before, over_in, over_after, over-more}
+use Rattle.engine.specs.Body.{rows}
+use Rattle.engine.proofs.Laid.{length-flat}
+use Rattle.engine.proofs.Passing.{length-rows}
+use Rattle.fgo_spec.specs.Windows as windows
 use Rattle.fgo_spec.specs.Lists.{segment}
 use Rattle.fgo_spec.specs.Emitting.{class_word}
 use Rattle.fgo_spec.proofs.Rows.{rows_same}
 use Rattle.fgo_part.specs.declared.Prefix.{Prefix}
-use Rattle.fgo_part.specs.Parts.{cells, class_in, heights_in, part_id, part_height_count, part_kf, part_heights_at, prefix_in, entry_in, part_words, part_numbers, Copied, Put}
+use Rattle.fgo_part.specs.Parts.{cells, class_in, heights_in, part_id, part_height_count, part_kf, part_heights_at, prefix_in, entry_in, table_in, prefix_of, part_words, height_numbers, part_numbers, Put}
+use Rattle.fgo_part.proofs.Cells.{cells-take, cells_are}
 
 -- ---- a piece of a list
 
@@ -58,6 +65,25 @@ module _ (l ns : List Float) (p o : ℕ) (same : (i : ℕ) → i < HEIGHTS → g
 
   pub heights_same : (n : ℕ) → heights_in l p n ≡ heights_in ns o n
   heights_same n = heights-by n (leb n HEIGHTS) refl
+
+-- they are as many as they should be
+pub heights-long : (l : List Float) (o n : ℕ) → n ≤ HEIGHTS → length (heights_in l o n) ≡ n
+heights-long l o n h = rw (le-leb n HEIGHTS h) (length-rows (λ i. get_or l (o + i) nan) 0 n)
+
+-- and no more than HEIGHTS
+pub heights_most : (l : List Float) (o n : ℕ) → length (heights_in l o n) ≤ HEIGHTS
+heights_most l o n = by (leb n HEIGHTS) refl
+  where
+    by : (b : Bool) → leb n HEIGHTS ≡ b → length (cond b (cells nan l o n) []) ≤ HEIGHTS
+    by true h = omega (arith, leb-true n HEIGHTS h, length-rows (λ i. get_or l (o + i) nan) 0 n)
+    by false h = omega arith
+
+-- the first ones of an array, and 0.0 in each place that has none
+pub heights_over : (l : List Float) (n : ℕ) → length l ≡ HEIGHTS → n ≤ HEIGHTS → over 0 (take n l) (replicate HEIGHTS (of_bits binary64 0)) ≡ height_numbers (heights_in l 0 n)
+unfolding over
+heights_over l n high h =
+    let e : length (take n l) ≡ n = length-take-le n l (omega arith) in
+    rw (le-leb n HEIGHTS h, cells-take nan l n (omega arith), e, zero-add n, drop-replicate n HEIGHTS (of_bits binary64 0))
 
 -- ---- a part is its words and its numbers
 
@@ -99,6 +125,32 @@ module _ (t : List ℕ) (f : List Float) (k : ℕ) (t' : List ℕ) (f' : List Fl
         heights_same f' f (part_heights_at k') (part_heights_at k) tail (part_height_count t k),
       )
 
+-- ---- the words and the numbers of parts
+
+-- a part with no more heights than may be has FILTER numbers
+pub part_long : (e : ℕ × windows.Prefix) → length e.1.heights ≤ HEIGHTS → length (part_numbers e) ≡ FILTER
+part_long e high =
+    let hs = e.1.heights in
+    let r : List Float = replicate (HEIGHTS - length hs) (of_bits binary64 0) in
+    omega (arith, length-append (kf_numbers e.1.kf) (hs ++ r), length-append hs r, length-replicate (HEIGHTS - length hs) (of_bits binary64 0))
+
+-- those of n parts in memory
+module _ (t : List ℕ) (f : List Float) where
+  pub words_long : (n : ℕ) → length (flat_map part_words (table_in t f n)) ≡ PART * n
+  words_long n = length-flat part_words PART (λ e. refl) (table_in t f n) ∙ ap (λ (m : ℕ). PART * m) (length-rows (entry_in t f) 0 n)
+
+  rows_long : (o n : ℕ) → length (flat_map part_numbers (rows (entry_in t f) o n)) ≡ FILTER * n
+  unfolding flat_map rows prefix_in
+  rows_long o zero = refl
+  rows_long o (suc n) =
+      let e = entry_in t f o in
+      let rest : List Float = flat_map part_numbers (rows (entry_in t f) (suc o) n) in
+      let a : length (part_numbers e) ≡ FILTER = part_long e (heights_most f (part_heights_at o) (part_height_count t o)) in
+      omega (arith, length-append (part_numbers e) rest, rows_long (suc o) n)
+
+  pub numbers_long : (n : ℕ) → length (flat_map part_numbers (table_in t f n)) ≡ FILTER * n
+  numbers_long = rows_long 0
+
 -- ---- words and numbers written over the part k
 
 module _ (t : List ℕ) (f : List Float) (k : ℕ) (few : k < FROZEN) (wide : length t ≡ PARTS) (deep : length f ≡ FILTERS) where
@@ -128,41 +180,44 @@ module _ (t : List ℕ) (f : List Float) (k : ℕ) (few : k < FROZEN) (wide : le
     pub others_stay : (j : ℕ) → (j ≡ k → ⊥) → entry_in (over (PART * k) ws t) (over (FILTER * k) ns f) j ≡ entry_in t f j
     others_stay j ne = entry_same t f j (over (PART * k) ws t) (over (FILTER * k) ns f) j (word_else j (ltb j k) refl ne) (number-else j (ltb j k) refl ne)
 
-  -- a part copied
-  pub copied :
-      (i : ℕ) → i < FROZEN → {t' : List ℕ} {f' : List Float} → t' ≡ over (PART * k) (segment (PART * i) (PART * i + PART) t) t →
-      f' ≡ over (FILTER * k) (segment (FILTER * i) (FILTER * i + FILTER) f) f → Copied i k t f t' f'
-  copied i l et ef =
-      let ws : List ℕ = segment (PART * i) (PART * i + PART) t in
-      let ns : List Float = segment (FILTER * i) (FILTER * i + FILTER) f in
-      let a : length ws ≡ PART = segment_long t (PART * i) PART (omega arith) in
-      let b : length ns ≡ FILTER = segment_long f (FILTER * i) FILTER (omega arith) in
-      rw (et, ef)
-      (record {
-        here =
-            entry_same t f i (over (PART * k) ws t) (over (FILTER * k) ns f) k (λ j h. word_in ws ns a b j h ∙ segment-at t (PART * i) PART 0 j h)
-            (λ j h. number_in ws ns a b j h ∙ segment-at f (FILTER * i) FILTER nan j h);
-        others = others_stay ws ns a b;
-      })
+  -- a part written there, of which each word says what it stands for
+  module _ (x : ℕ) (q : windows.Prefix) (high : length q.heights ≤ HEIGHTS) (time : signed (word q.last_ns) ≡ q.last_ns) (class : class_in (class_word q.class) ≡ q.class) where
+    abbrev ws : List ℕ
+    ws = part_words (x, q)
+
+    abbrev ns : List Float
+    ns = part_numbers (x, q)
+
+    long : length ns ≡ FILTER
+    long = part_long (x, q) high
+
+    pub part_here : entry_in (over (PART * k) ws t) (over (FILTER * k) ns f) k ≡ (x, q)
+    unfolding prefix_in
+    part_here =
+        let w = word_in ws ns refl long in
+        let n = number_in ws ns refl long in
+        let t₁ : List ℕ = over (PART * k) ws t in
+        let f₁ : List Float = over (FILTER * k) ns f in
+        let hs = q.heights in
+        let e0 : part_id t₁ k ≡ x = rw add-zero at (w 0 (lit< tt)) in
+        let g : part_kf f₁ k ≡ q.kf = kf_same f₁ ns (FILTER * k) 0 (λ i h. n i (omega arith) ∙ ap (λ (m : ℕ). get_or ns m nan) (sym (zero-add i))) in
+        let h : heights_in f₁ (part_heights_at k) (length hs) ≡ hs =
+        rw (le-leb (length hs) HEIGHTS high)
+        (cells_are nan f₁ hs (part_heights_at k)
+        (λ i l. ap (λ (m : ℕ). get_or f₁ m nan) (add_assoc (FILTER * k) KF i) ∙ n (KF + i) (omega arith) ∙ get_or-append-add (kf_numbers q.kf) (height_numbers hs) i nan ∙ get_or-append hs (replicate (HEIGHTS - length hs) (of_bits binary64 0)) nan i l))
+        in
+        rw (e0, g, w 1 (lit< tt), w 2 (lit< tt), w 3 (lit< tt), w 4 (lit< tt), w 5 (lit< tt), time, class, h)
 
   -- a part by value put there
   pub part_put :
-      (x : ℕ) (p : Prefix) {t' : List ℕ} {f' : List Float} → length p.heights.values ≡ HEIGHTS → signed (word p.last_ns) ≡ p.last_ns →
-      class_in (class_word p.class) ≡ p.class → t' ≡ over (PART * k) (part_words x p) t → f' ≡ over (FILTER * k) (part_numbers p) f → Put k x p t f t' f'
-  unfolding prefix_in
-  part_put x p high time class et ef =
-      let ws : List ℕ = part_words x p in
-      let ns : List Float = part_numbers p in
-      let b : length ns ≡ FILTER = length-append (kf_numbers p.kf) p.heights.values ∙ ap (λ (n : ℕ). KF + n) high in
-      let w = word_in ws ns refl b in
-      let n = number_in ws ns refl b in
-      let t₁ : List ℕ = over (PART * k) ws t in
-      let f₁ : List Float = over (FILTER * k) ns f in
-      let e0 : part_id t₁ k ≡ x = rw add-zero at (w 0 (lit< tt)) in
-      let g : part_kf f₁ k ≡ p.kf = kf_same f₁ ns (FILTER * k) 0 (λ i h. n i (omega arith) ∙ ap (λ (m : ℕ). get_or ns m nan) (sym (zero-add i))) in
-      let h =
-      heights_same f₁ p.heights.values (part_heights_at k) 0
-      (λ i l. ap (λ (m : ℕ). get_or f₁ m nan) (add_assoc (FILTER * k) KF i) ∙ n (KF + i) (omega arith) ∙ get_or-append-add (kf_numbers p.kf) p.heights.values i nan ∙ ap (λ (m : ℕ). get_or p.heights.values m nan) (sym (zero-add i)))
-      p.heights.count in
-      rw (et, ef)
-      (record { here = rw (e0, g, w 1 (lit< tt), w 2 (lit< tt), w 3 (lit< tt), w 4 (lit< tt), w 5 (lit< tt), time, class, h); others = others_stay ws ns refl b })
+      (x : ℕ) (p : Prefix) {t' : List ℕ} {f' : List Float} → signed (word p.last_ns) ≡ p.last_ns →
+      class_in (class_word p.class) ≡ p.class → t' ≡ over (PART * k) (part_words (x, prefix_of p)) t → f' ≡ over (FILTER * k) (part_numbers (x, prefix_of p)) f → Put k x p t f t' f'
+  part_put x p time class et ef =
+      let q = prefix_of p in
+      let high : length q.heights ≤ HEIGHTS = heights_most p.heights.values 0 p.heights.count in
+      record {
+        words = et;
+        numbers = ef;
+        here = rw (et, ef) (part_here x q high time class);
+        others = rw (et, ef) (others_stay (part_words (x, q)) (part_numbers (x, q)) refl (part_long (x, q) high));
+      }

@@ -2,8 +2,8 @@
 --
 -- The words are its id, last frame, last time, count, class and number of heights; the numbers are those of its filter,
 -- then its last heights, oldest first.
-use Rattle.std.specs.Prelude.{ℕ, suc, ◌+◌, ◌*◌, ◌^◌, ◌<◌, ◌≡◌, cond, leb, ltb, ℤ, Float, Option, None, Some, MatchOption}
-use Rattle.std.specs.Prelude.{List, [], ◌∷◌, ◌++◌, get_or, replicate}
+use Rattle.std.specs.Prelude.{ℕ, suc, ◌+◌, ◌-◌, ◌*◌, ◌^◌, ◌<◌, ◌≡◌, cond, leb, ltb, ℤ, Float, Option, None, Some, MatchOption}
+use Rattle.std.specs.Prelude.{List, [], ◌∷◌, ◌++◌, length, get_or, replicate}
 use Rattle.std.specs.Float.{nan, binary64}
 use Rattle.std.specs.Float.Ieee.{of_bits}
 use Rattle.bounds.specs.Bounds.{PART, PARTS, KF, HEIGHTS, FILTER, FILTERS}
@@ -16,6 +16,7 @@ use Rattle.fgo_spec.specs.Emitting.{class_word}
 use Rattle.fgo_part.specs.declared.Heights.{Heights}
 use Rattle.fgo_part.specs.declared.Prefix.{Prefix}
 use Rattle.fgo_part.specs.declared.FrozenParts.{FrozenParts}
+use Rattle.buffers.specs.Buffers.{over}
 use Rattle.engine.specs.Frame.{ClassLabel}
 
 -- n cells of a list, from place o on
@@ -120,23 +121,26 @@ prefix_of p =
       class = p.class;
     }
 
--- its words, under an id
-abbrev pub part_words : ℕ → Prefix → List ℕ
-part_words x p =
-    x ∷ p.last_frame.0 ∷ word p.last_ns ∷ p.count ∷ class_word p.class ∷ p.heights.count ∷ []
-
--- its numbers
-abbrev pub part_numbers : Prefix → List Float
-part_numbers p = kf_numbers p.kf ++ p.heights.values
-
 -- ---- writing
 
--- after frozen part i was written over the part k: every other part is as it was
-pub record Copied (i k : ℕ) (tracks : List ℕ) (filters : List Float) (tracks' : List ℕ) (filters' : List Float) : Type 0 where
-  pub here : entry_in tracks' filters' k ≡ entry_in tracks filters i
-  pub others : (j : ℕ) → (j ≡ k → ⊥) → entry_in tracks' filters' j ≡ entry_in tracks filters j
+-- the words of a frozen part under its id
+abbrev pub part_words : ℕ × windows.Prefix → List ℕ
+part_words e =
+    let p = e.1 in
+    e.0 ∷ p.last_frame ∷ word p.last_ns ∷ p.count ∷ class_word p.class ∷ length p.heights ∷ []
 
--- after a frozen part by value was written over the part k, under the id x: every other part is as it was
+-- heights, and 0.0 in each place that has none
+abbrev pub height_numbers : List Float → List Float
+height_numbers hs = hs ++ replicate (HEIGHTS - length hs) (of_bits binary64 0)
+
+-- its numbers
+abbrev pub part_numbers : ℕ × windows.Prefix → List Float
+part_numbers e = kf_numbers e.1.kf ++ height_numbers e.1.heights
+
+-- after a frozen part by value was written over the part k, under the id x: its words and its numbers, which read back
+-- as the part; every other part is as it was
 pub record Put (k x : ℕ) (p : Prefix) (tracks : List ℕ) (filters : List Float) (tracks' : List ℕ) (filters' : List Float) : Type 0 where
+  pub words : tracks' ≡ over (PART * k) (part_words (x, prefix_of p)) tracks
+  pub numbers : filters' ≡ over (FILTER * k) (part_numbers (x, prefix_of p)) filters
   pub here : entry_in tracks' filters' k ≡ (x, prefix_of p)
   pub others : (j : ℕ) → (j ≡ k → ⊥) → entry_in tracks' filters' j ≡ entry_in tracks filters j

@@ -4,13 +4,16 @@
 // then its last heights, oldest first.
 #![tactic(auto)]
 
-ghost use Rattle.std.specs.Prelude.{◌≡◌, [], ◌∷◌, ◌++◌, ◌<◌, ◌≤◌};
-ghost use Rattle.bounds.specs.Bounds.{FROZEN, HEIGHTS};
+ghost use Rattle.std.specs.Prelude.{◌≡◌, ◌-◌, ◌*◌, [], ◌∷◌, ◌++◌, ◌<◌, ◌≤◌};
+ghost use Rattle.std.specs.Float.{binary64};
+ghost use Rattle.std.specs.Float.Ieee.{of_bits};
+ghost use Rattle.bounds.specs.Bounds.{FROZEN, HEIGHTS, PART, FILTER};
+ghost use Rattle.buffers.specs.Buffers.{cleared};
 ghost use Rattle.fgo_spec.specs.Lists.{has, place_in};
 ghost use Rattle.fgo_spec.specs.Freezing.{recent, mean};
 ghost use Rattle.fgo_spec.specs.Emitting.{class_word};
 ghost use Rattle.fgo_part.specs.Parts.{class_in, part_id, part_last_frame, part_last_ns, part_count, part_class, part_height_count};
-ghost use Rattle.fgo_part.specs.Parts.{part_ids, Rises, IsPartOf, part_kf, heights_of, prefix_in, prefix_of, no_parts, Copied, Put};
+ghost use Rattle.fgo_part.specs.Parts.{part_ids, Rises, IsPartOf, part_kf, heights_of, prefix_in, prefix_of, no_parts, height_numbers, Put};
 
 use bounds::{FILTER, FILTERS, HEIGHTS, KF, PART, PARTS};
 use buffers::{array_at, put};
@@ -60,6 +63,16 @@ impl Heights {
             values,
             count: HEIGHTS,
         }
+    }
+
+    // The heights, and 0.0 in each place that has none.
+    fn numbers(self) -> [f64; HEIGHTS]
+        requires { self.count ≤ HEIGHTS }
+        ensures { result ≡ height_numbers (heights_of self) }
+    {
+        let mut numbers = [0.0; HEIGHTS];
+        put(&mut numbers, 0, &self.values[..self.count]);
+        numbers
     }
 
     // Their mean, added oldest first.
@@ -260,20 +273,9 @@ impl FrozenParts {
         }
     }
 
-    // Frozen part `from` over the part `to`, both below FROZEN.
-    pub fn copy(&mut self, from: usize, to: usize)
-        requires { (from < FROZEN) × (to < FROZEN) }
-        ensures { Copied from to self.old.tracks self.old.filters self.new.tracks self.new.filters }
-    {
-        self.tracks
-            .copy_within(PART * from..PART * from + PART, PART * to);
-        self.filters
-            .copy_within(FILTER * from..FILTER * from + FILTER, FILTER * to);
-    }
-
-    // A frozen part by value over the part k, which is below FROZEN, under an id.
+    // A frozen part by value over the part k, which is below FROZEN, under an id. It asks for HEIGHTS heights at most.
     pub fn put(&mut self, k: usize, id: RefinedId, p: Prefix)
-        requires { k < FROZEN }
+        requires { (k < FROZEN) × (p.heights.count ≤ HEIGHTS) }
         ensures { Put k id.0 p self.old.tracks self.old.filters self.new.tracks self.new.filters }
     {
         let ws = [
@@ -286,6 +288,16 @@ impl FrozenParts {
         ];
         put(&mut self.tracks, PART * k, &ws);
         put(&mut self.filters, FILTER * k, &p.kf.numbers());
-        put(&mut self.filters, FILTER * k + KF, &p.heights.values);
+        put(&mut self.filters, FILTER * k + KF, &p.heights.numbers());
+    }
+
+    // The parts from one place to before another, which is at most FROZEN, cleared.
+    pub fn clear(&mut self, from: usize, to: usize)
+        requires { (from ≤ to) × (to ≤ FROZEN) }
+        ensures tracks { self.new.tracks ≡ cleared 0 (PART * from) (PART * (to - from)) self.old.tracks }
+        ensures filters { self.new.filters ≡ cleared (of_bits binary64 0) (FILTER * from) (FILTER * (to - from)) self.old.filters }
+    {
+        buffers::clear(&mut self.tracks, PART * from, PART * (to - from), 0);
+        buffers::clear(&mut self.filters, FILTER * from, FILTER * (to - from), 0.0);
     }
 }

@@ -6,7 +6,7 @@ use native.Mathlib.Nat.{zero-add, add-zero, sub-zero}
 use mathlib.Core.Path.{◌≡◌, refl, sym, ap, ◌∙◌, subst}
 use mathlib.Core.Bool.{Bool, true, false}
 use mathlib.Core.List.{List, [], ◌∷◌, ◌++◌, append_assoc}
-use lib.ListN.{length, length-append}
+use lib.ListN.{length, drop, length-append}
 use lib.Dec.{ltb, lit<}
 use borrow.Author.Tests.{eq-eqb, ne_eqb, le-leb, lt-leb, ltb-true, ltb-false}
 use Rattle.bounds.specs.Bounds.{OWNED, OWNER, OWNERS}
@@ -15,7 +15,8 @@ use Rattle.buffers.proofs.Over.{length_over, over-before, over_in, over_after}
 use Rattle.engine.specs.Body.{rows}
 use Rattle.fgo_spec.specs.Lists.{assign}
 use Rattle.fgo_state.specs.Memory.{engine_at, owner_entry, owners_in}
-use Rattle.fgo_place.specs.Placing.{assigned_in}
+use Rattle.buffers.proofs.Agreeing.{drop_later, drop_over}
+use Rattle.fgo_place.specs.Placing.{assigned_in, Grown}
 use Rattle.engine.proofs.Passing.{length-rows}
 use Rattle.fgo_spec.proofs.Rows.{front_more, rows_parts, rows_same, rows_step, rows_end}
 
@@ -68,6 +69,10 @@ module _ (os : List ℕ) (w e x : ℕ) (room : OWNER * w + OWNER ≤ length os) 
           let h : w < i = omega (arith, ltb-false i w q, ne) in
           pair_same (over_after (OWNER * w) (e ∷ x ∷ []) os room (OWNER * i) 0 (omega arith)) (over_after (OWNER * w) (e ∷ x ∷ []) os room (OWNER * i + 1) 0 (omega arith))
 
+  -- and so is all that is past n of them
+  pub owning_rest : (n : ℕ) → w < n → drop (OWNER * n) (owning os w e x) ≡ drop (OWNER * n) os
+  owning_rest n h = drop_over (OWNER * w) (e ∷ x ∷ []) os room (OWNER * n) (omega arith)
+
   pub owning_same : (o m : ℕ) → ((i : ℕ) → o ≤ i → i < o + m → i ≡ w → ⊥) → rows (owner_entry os) o m ≡ rows (owner_entry (owning os w e x)) o m
   owning_same o m d = rows_same (owner_entry os) (owner_entry (owning os w e x)) o m (λ i a b. sym (owning_else i (d i a b)))
 
@@ -77,6 +82,22 @@ module _ (os : List ℕ) (w e x : ℕ) (room : OWNER * w + OWNER ≤ length os) 
       front_more (owner_entry (owning os w e x)) w
       ∙ ap (λ (l : List (ℕ × ℕ)). l ++ (owner_entry (owning os w e x) w ∷ [])) (sym (owning_same 0 w (λ i a b z. omega arith)))
       ∙ ap (λ (o : ℕ × ℕ). owners_in os w ++ (o ∷ [])) owning_at
+
+-- ---- a table grows
+
+pub grown_none : (n : ℕ) (os : List ℕ) → Grown n n os os
+grown_none n os = record { more = omega arith; rest = refl }
+
+-- an entry is put, of r
+pub grown_put : (n r k e x : ℕ) (os : List ℕ) {os' : List ℕ} → n ≤ r → k < r → OWNER * r ≤ length os → os' ≡ owning os k e x → Grown n r os os'
+grown_put n r k e x os m h room is = record { more = m; rest = ap (drop (OWNER * r)) is ∙ owning_rest os k e x (omega arith) r h }
+
+-- and grows on
+pub grown_more : {n r q : ℕ} {os os' os'' : List ℕ} → Grown n r os os' → Grown r q os' os'' → Grown n q os os''
+grown_more {n} {r} {q} {os} {os'} g f =
+    let a = g.more in
+    let b = f.more in
+    record { more = omega arith; rest = f.rest ∙ drop_later os' os (OWNER * r) (OWNER * q) (omega arith) g.rest }
 
 -- ---- an engine id gets an owner
 

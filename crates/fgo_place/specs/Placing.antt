@@ -2,8 +2,9 @@
 --
 -- By the state rule every owner before the push is live, and no track from the next id on is. So an owner is live just
 -- where it is below the next id as it was before the push.
-use Rattle.std.specs.Prelude.{ℕ, ◌+◌, ◌≤◌, ◌≡◌, cond, ◌&&◌, not, List, [], ◌∷◌, ◌++◌, length, take, leb, ltb, None, Some}
-use Rattle.bounds.specs.Bounds.{ASSOCIATIONS, OWNED, OWNERS}
+use Rattle.std.specs.Prelude.{ℕ, ◌+◌, ◌*◌, ◌≤◌, ◌≡◌, cond, ◌&&◌, not, leb, ltb, None, Some}
+use Rattle.std.specs.Prelude.{List, [], ◌∷◌, ◌++◌, length, take, drop}
+use Rattle.bounds.specs.Bounds.{ASSOCIATIONS, OWNED, OWNER, OWNERS}
 use Rattle.engine.specs.declared.types.Association.{Association}
 use Rattle.fgo_spec.specs.Lists.{has, find, assign}
 use Rattle.fgo_spec.specs.Placing as spec
@@ -35,6 +36,11 @@ placed_one old p (Some e) = placed_track p e.0 (free_below old p.ids (or_none (f
 unfoldable pub placed_all : ℕ → List Association → spec.Placing → spec.Placing
 placed_all old [] p = p
 placed_all old (a ∷ l) p = placed_all old l (placed_one old p a.track)
+
+-- a table of n entries has r in use now, no fewer: the cells past these are as they were
+pub record Grown (n r : ℕ) (owners owners' : List ℕ) : Type 0 where
+  pub more : n ≤ r
+  pub rest : drop (OWNER * r) owners' ≡ drop (OWNER * r) owners
 
 -- placing so far stands in the lent arrays: j ids, the owner table, the next id
 pub record Placed (j : ℕ) (p : spec.Placing) (r : Placing) (owners ids : List ℕ) : Type 0 where

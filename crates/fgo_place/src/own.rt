@@ -1,12 +1,14 @@
 // Owning: after a search each engine id goes to the track that holds its latest detection, and an owner stays while it
 // is live.
-ghost use Rattle.std.specs.Prelude.{◌≡◌, ◌≤◌, length};
-ghost use Rattle.bounds.specs.Bounds.{OWNED};
-ghost use Rattle.fgo_state.specs.Memory.{owners_in};
+ghost use Rattle.std.specs.Prelude.{◌≡◌, ◌*◌, ◌≤◌, length};
+ghost use mathlib.Core.List.{flat_map};
+ghost use Rattle.bounds.specs.Bounds.{OWNED, OWNER};
+ghost use Rattle.buffers.specs.Buffers.{over, renewed};
+ghost use Rattle.fgo_state.specs.Memory.{owner_words, owners_in};
 ghost use Rattle.fgo_state.specs.Gathering.{held_latest};
 ghost use Rattle.fgo_place.specs.Owning.{kept_owners};
 
-use bounds::OWNERS;
+use bounds::{OWNER, OWNERS};
 use fgo_state::gather::Gathered;
 use fgo_state::owners::{engine_at, owner_at, put_owner};
 use fgo_state::state::LiveTracks;
@@ -24,7 +26,8 @@ pub fn hold_latest(
     engines: &IdIndex<'_>,
 )
     requires { (owned ≤ OWNED) × (gathered.now.count ≤ length engines.now.ids.now) }
-    ensures { owners_in owners.new owned
+    ensures cells { owners.new ≡ over 0 (flat_map owner_words (owners_in owners.new owned)) owners.old }
+    ensures latest { owners_in owners.new owned
         ≡ held_latest gathered.now.ids engines.now.ids.now gathered.now.starts gathered.now.held (owners_in owners.old owned) }
 {
     for k in 0..owned {
@@ -35,15 +38,16 @@ pub fn hold_latest(
     }
 }
 
-// The entries of the owner table that have a live owner, moved together; how many they are. It asks for OWNED owners at
-// most.
+// The entries of the owner table that have a live owner, moved together, and the others cleared; how many stay. It asks
+// for OWNED owners at most.
 // As it is: a loop like that of fgo_freeze's `forget`: here entries of one array move, there parts of two arrays. A
 // function of both would take two closures, one that tests a place and one that moves what lies there, which is no
 // plainer. And w counts by hand: a `filter` with `enumerate` tells no count after the last, as fgo_emit's `put_tracks`
 // says.
 pub fn keep_owners(live: &LiveTracks<'_>, owned: usize, owners: &mut [u64; OWNERS]) -> usize
     requires { owned ≤ OWNED }
-    ensures { let l = live.now in owners_in owners.new result
+    ensures cells { owners.new ≡ renewed 0 (OWNER * owned) (flat_map owner_words (owners_in owners.new result)) owners.old }
+    ensures kept { let l = live.now in owners_in owners.new result
         ≡ kept_owners l.held.scans.now.bodies l.held.scans.now.columns l.held.first.0 l.held.count l.frozen.tracks.now l.frozen.count
         (owners_in owners.old owned) }
 {
@@ -55,5 +59,6 @@ pub fn keep_owners(live: &LiveTracks<'_>, owned: usize, owners: &mut [u64; OWNER
             w += 1;
         }
     }
+    buffers::clear(owners, OWNER * w, OWNER * (owned - w), 0);
     w
 }

@@ -1,11 +1,13 @@
 // Placing: each association of a new frame goes to the track that owns its engine id, or starts a track.
 ghost use Rattle.std.specs.Prelude.{◌≡◌, ◌+◌, ◌^◌, ◌<◌, ◌≤◌, Some};
+ghost use mathlib.Core.List.{flat_map};
 ghost use Rattle.bounds.specs.Bounds.{ASSOCIATIONS, OWNED};
+ghost use Rattle.buffers.specs.Buffers.{over};
 ghost use Rattle.engine.specs.Body.{body_of, frame_in, associations_in};
 ghost use Rattle.fgo_spec.specs.Placing as spec;
-ghost use Rattle.fgo_state.specs.Memory.{owner_of, owners_in};
+ghost use Rattle.fgo_state.specs.Memory.{owner_of, owner_words, owners_in};
 ghost use Rattle.fgo_state.specs.Owners.{id_from};
-ghost use Rattle.fgo_place.specs.Placing.{assigned_in, free_below, placed_one, placed_all, Placed, begins};
+ghost use Rattle.fgo_place.specs.Placing.{assigned_in, free_below, placed_one, placed_all, Grown, Placed, begins};
 
 use crate::placing::Placing;
 use bounds::{ASSOCIATIONS, OWNED, OWNERS};
@@ -20,6 +22,7 @@ fn assign(owners: &mut [u64; OWNERS], owned: usize, e: EngineId, x: RefinedId) -
     requires { owned ≤ OWNED }
     ensures few { result ≤ OWNED }
     ensures owners { owners_in owners.new result ≡ assigned_in e.0 x.0 (owners_in owners.old owned) }
+    ensures grown { Grown owned result owners.old owners.new }
 {
     let table = OwnersRef {
         entries: owners,
@@ -57,6 +60,7 @@ fn place_track(
 ) -> Placing
     requires { (j < ASSOCIATIONS) × (p.next_id.0 < 2 ^ 63) }
     ensures next { result.next_id.0 ≤ p.next_id.0 + 1 }
+    ensures grown { Grown p.owned result.owned owners.old owners.new }
     ensures placed { (q : spec.Placing) → Placed j q p owners.old ids.old
         → Placed (j + 1) (placed_one old.0 q (Some e)) result owners.new ids.new }
 {
@@ -86,6 +90,7 @@ fn place_one(
 ) -> Placing
     requires { (j < ASSOCIATIONS) × (p.next_id.0 < 2 ^ 63) }
     ensures next { result.next_id.0 ≤ p.next_id.0 + 1 }
+    ensures grown { Grown p.owned result.owned owners.old owners.new }
     ensures placed { (q : spec.Placing) → Placed j q p owners.old ids.old → Placed (j + 1) (placed_one old.0 q t) result owners.new ids.new }
 {
     match t {
@@ -106,7 +111,8 @@ pub fn place_all(
     ids: &mut [u64; ASSOCIATIONS],
 ) -> Placing
     requires { begun.next_id.0 < 2 ^ 62 }
-    ensures { Placed (associations_in (body_of b.now.body)) (placed_all begun.next_id.0 (frame_in (body_of b.now.body)).associations
+    ensures cells { owners.new ≡ over 0 (flat_map owner_words (owners_in owners.new result.owned)) owners.old }
+    ensures placed { Placed (associations_in (body_of b.now.body)) (placed_all begun.next_id.0 (frame_in (body_of b.now.body)).associations
         (begins owners.old begun.owned begun.next_id.0)) result owners.new ids.new }
 {
     let mut p = begun;

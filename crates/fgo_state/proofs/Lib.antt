@@ -16,6 +16,9 @@ pub mod AddingScan
 pub mod ScatteringScan
 pub mod ScatteringHeld
 pub mod Heads
+pub mod OtherSlots
+pub mod SlotClearing
+pub mod OwnerCells
 pub mod Down
 pub mod FindMap
 pub mod Tracks

@@ -65,7 +65,7 @@ count-clutter : (l : List ℕ) (a j : ℕ) → get_or l (a + j) 0 ≤ 0 → in_w
 count-clutter l a j h = ap in_windows (cells-more l a j) ∙ count_snoc (ltb 0) (cells 0 l a j) (get_or l (a + j) 0) ∙ ap (λ (b : Bool). bump b (in_windows (cells 0 l a j))) (le-ltb 0 (get_or l (a + j) 0) h)
 
 -- the ids of scan n are the cells after the length of its body
-column-cells : (columns : List ℕ) (n m : ℕ) → m ≤ ASSOCIATIONS → rows (id_at columns n) 0 m ≡ cells 0 columns (COLUMN * slot_at n + 1) m
+pub column-cells : (columns : List ℕ) (n m : ℕ) → m ≤ ASSOCIATIONS → rows (id_at columns n) 0 m ≡ cells 0 columns (COLUMN * slot_at n + 1) m
 unfolding id_at
 column-cells columns n m h =
     rows_same (id_at columns n) (λ i. get_or columns (COLUMN * slot_at n + 1 + i) 0) 0 m

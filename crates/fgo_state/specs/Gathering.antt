@@ -14,6 +14,7 @@ use Rattle.fgo_spec.specs.Owning.{or_else}
 use Rattle.fgo_spec.specs.Gathered.{spread}
 use Rattle.buffers.specs.Buffers.{over}
 use Rattle.fgo_state.specs.Memory.{slot_at, body_at, id_at, association_in, scan_by, scans_in}
+use Rattle.fgo_state.specs.Contents.{ids_put}
 
 -- a detection in a window: its engine id, its refined id, and its observation
 pub record HeldDetection : Type 0 where
@@ -129,7 +130,7 @@ count_in columns n m = in_windows (rows (id_at columns n) 0 m)
 pub record ScatteredScan (n m o : ℕ) (ids columns columns' : List ℕ) : Type 0 where
   pub column : rows (id_at columns' n) 0 m ≡ spread (rows (id_at columns n) 0 m) (drop o ids)
   pub before : (i : ℕ) → i ≤ COLUMN * slot_at n → get_or columns' i 0 ≡ get_or columns i 0
-  pub after : (i : ℕ) → COLUMN * slot_at n + COLUMN ≤ i → get_or columns' i 0 ≡ get_or columns i 0
+  pub after : (i : ℕ) → COLUMN * slot_at n + (1 + m) ≤ i → get_or columns' i 0 ≡ get_or columns i 0
   pub long : length columns' ≡ length columns
 
 -- scans with the ids of their detections in windows anew
@@ -138,8 +139,9 @@ spread_all [] xs = []
 spread_all (s ∷ ss) xs =
     record { frame = s.frame; ids = spread s.ids xs } ∷ spread_all ss (drop (in_windows s.ids) xs)
 
--- after the ids of the held scans were put back
+-- after the ids of the held scans were put back; every other cell is as it was
 pub record Scattered (bodies : List ℕ) (first held : ℕ) (ids columns columns' : List ℕ) : Type 0 where
+  pub put : columns' ≡ ids_put first (spread_all (scans_in bodies columns first held) ids) columns
   pub scans : scans_in bodies columns' first held ≡ spread_all (scans_in bodies columns first held) ids
   pub same : (i : ℕ) → i < held → body_at bodies columns' (first + i) ≡ body_at bodies columns (first + i)
   pub long : length columns' ≡ length columns

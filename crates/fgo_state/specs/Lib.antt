@@ -4,3 +4,4 @@ pub mod Gathering
 pub mod Gathered
 pub mod Sound
 pub mod Owners
+pub mod Contents

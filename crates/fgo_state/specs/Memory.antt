@@ -5,7 +5,7 @@
 -- length and the refined id of each association, the owners of engine ids, and the words and the numbers of the frozen
 -- parts. Whatever lies past a count is ignored.
 use Rattle.std.specs.Prelude.{ℕ, ◌+◌, ◌*◌, ◌%◌, Bool, cond, ◌&&◌, ◌||◌, ◌≡◌, leb, ltb, Float}
-use Rattle.std.specs.Prelude.{List, ◌∷◌, length, take, drop, get_or, replicate}
+use Rattle.std.specs.Prelude.{List, [], ◌∷◌, length, take, drop, get_or, replicate}
 use Rattle.std.proofs.Math.Option.{Option, none, some}
 use Rattle.bounds.specs.Bounds.{SCANS, ASSOCIATIONS, BODY, BODIES, COLUMN, COLUMNS, OWNER, OWNERS}
 use Rattle.engine.specs.declared.types.BodyKind.{BodyKind}
@@ -126,6 +126,10 @@ owner_at owners k = get_or owners (OWNER * k + 1) 0
 -- owner entry k
 abbrev pub owner_entry : List ℕ → ℕ → ℕ × ℕ
 owner_entry owners k = (engine_at owners k, owner_at owners k)
+
+-- the words of an entry
+abbrev pub owner_words : ℕ × ℕ → List ℕ
+owner_words o = o.0 ∷ o.1 ∷ []
 
 -- the first n owner entries
 abbrev pub owners_in : List ℕ → ℕ → List (ℕ × ℕ)

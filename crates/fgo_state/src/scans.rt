@@ -2,13 +2,14 @@
 // associations.
 ghost use Rattle.std.specs.Prelude.{◌≡◌, ◌+◌, ◌-◌, ◌*◌, ◌<◌, ◌≤◌, length};
 ghost use Rattle.bounds.specs.Bounds.{SCANS, ASSOCIATIONS, BODY, COLUMN};
-ghost use Rattle.engine.specs.Body.{associations_in, body_of, rows};
+ghost use Rattle.engine.specs.Body.{associations_in, body_of, body_refusal, rows};
 ghost use Rattle.buffers.specs.Buffers.{over};
 ghost use Rattle.fgo_spec.specs.Lists.{has};
 ghost use Rattle.fgo_spec.specs.Rule.{Bytes};
 ghost use Rattle.fgo_state.specs.Memory.{no_scans, Typed, slot_at, head_at, head_for, length_in};
 ghost use Rattle.fgo_state.specs.Memory.{body_at, id_at, scan_in, column_words};
 ghost use Rattle.fgo_state.specs.Gathering.{count_in};
+ghost use Rattle.fgo_state.specs.Contents.{slot_cleared};
 
 use bounds::{ASSOCIATIONS, BODIES, BODY, COLUMN, COLUMNS, SCANS};
 use buffers::put;
@@ -151,5 +152,17 @@ impl Scans {
         let o = COLUMN * slot_of(n);
         put(&mut self.columns, o, &[head_for(b.kind, b.bytes.len())]);
         put(&mut self.columns, o + 1, ids);
+    }
+
+    // The slot of a held scan, whose body must pass, cleared: as much of it as the scan took.
+    pub fn clear(&mut self, n: ScanIndex)
+        requires { body_refusal (body_at self.old.bodies self.old.columns n.0) ≡ 0 }
+        ensures { self.new ≡ slot_cleared n.0 self.old }
+    {
+        let size = self.body(n).bytes.len();
+        let count = self.count_of(n);
+        let slot = slot_of(n);
+        buffers::clear(&mut self.bodies, BODY * slot, size, 0);
+        buffers::clear(&mut self.columns, COLUMN * slot, 1 + count, 0);
     }
 }

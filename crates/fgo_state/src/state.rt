@@ -7,7 +7,7 @@ ghost use Rattle.fgo_state.specs.Live.{live_among};
 
 use crate::held::HeldRef;
 use crate::scans::Scans;
-use bounds::{OWNERS, PARTS};
+use bounds::{BODIES, COLUMNS, FILTERS, OWNERS, PARTS};
 use engine::config::FgoConfig;
 use engine::types::{RefinedId, ScanIndex};
 use fgo_part::{FrozenParts, FrozenTracks};
@@ -82,6 +82,19 @@ impl Memory {
             owners: [0; OWNERS],
             parts: FrozenParts::new(),
         }
+    }
+
+    // All of it cleared.
+    // As it is: the arrays of the frozen parts here, and not by their own `clear`: where they are lent as a struct, no
+    // fact says how long they are.
+    pub fn clear(&mut self)
+        ensures { self.new ≡ no_memory }
+    {
+        buffers::clear(&mut self.scans.bodies, 0, BODIES, 0);
+        buffers::clear(&mut self.scans.columns, 0, COLUMNS, 0);
+        buffers::clear(&mut self.owners, 0, OWNERS, 0);
+        buffers::clear(&mut self.parts.tracks, 0, PARTS, 0);
+        buffers::clear(&mut self.parts.filters, 0, FILTERS, 0.0);
     }
 }
 

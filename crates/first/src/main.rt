@@ -23,14 +23,14 @@ fn main(rt: HostRuntime) {
         lag_frames: 0,
         ..FgoConfig::default()
     };
-    let Ok(mut refiner) = fgo::open(config) else {
+    let mut memory = Memory::new();
+    let Ok(mut refiner) = fgo::open(config, &mut memory) else {
         return;
     };
     let body = Body {
         kind: BodyKind::Narrow,
         bytes: &FRAME,
     };
-    let mut memory = Memory::new();
     let mut words = [0; WORDS];
     let mut numbers = [0.0; NUMBERS];
     let answer = fgo::push(&mut refiner, &body, &mut memory, &mut words, &mut numbers);

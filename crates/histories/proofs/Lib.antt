@@ -15,3 +15,8 @@ pub mod JoinedLaw
 pub mod FinishSmoothed
 pub mod Examples
 pub mod AuditLaw
+pub mod HeldBodies
+pub mod StateRoom
+pub mod Laying
+pub mod KeptLaw
+pub mod KeptWindow

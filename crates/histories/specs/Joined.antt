@@ -21,8 +21,7 @@ use Rattle.histories.specs.Smoothed.{smoothing, Sourced, handed, sourced, picked
 abbrev pub Call : Type 0
 Call = calls.Call Written FixedLagSmoother Window
 
--- it is lent the window w, and is as the contract of push, or of take, says; that a take writes nothing into the window
--- is not asked here
+-- it is lent the window w, and is as the contract of push, or of take, says
 abbrev pub Meets : FixedLagSmoother → Window → Call → Type 0
 Meets s w k = Promised k.sent s w k.words k.numbers (record { answer = k.answer; state = k.value }) k.memory k.words_back k.numbers_back
 

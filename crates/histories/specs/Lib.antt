@@ -3,3 +3,4 @@ pub mod Refined
 pub mod Audit
 pub mod Smoothed
 pub mod Joined
+pub mod Kept

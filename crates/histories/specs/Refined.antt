@@ -13,7 +13,7 @@ use Rattle.fgo_state.specs.declared.state.FixedLagRefiner.{FixedLagRefiner}
 use Rattle.fgo_state.specs.declared.state.Memory.{Memory}
 use Rattle.fgo_state.specs.Memory.{body_at, state_of}
 use Rattle.fgo_state.specs.Sound.{bodies_ok, sound_ok, Sound}
-use Rattle.fgo.specs.Promise.{new_by, open_refusal, due, Promised}
+use Rattle.fgo.specs.Promise.{new_by, open_refusal, Promised}
 use Rattle.histories.specs.Calls as calls
 use Rattle.histories.specs.Calls.{Calls, left, operations, accepted, wrote, due_after}
 
@@ -24,11 +24,10 @@ Call = calls.Call Body FixedLagRefiner Memory
 -- it is lent the memory m, and is as the contract of push, or of take, says
 abbrev pub Meets : FixedLagRefiner → Memory → Call → Type 0
 Meets r m k =
-    Promised (due r m k.sent k.words k.numbers) r m k.words k.numbers k.answer k.value k.memory
-    k.words_back k.numbers_back
+    Promised k.sent r m k.words k.numbers k.answer k.value k.memory k.words_back k.numbers_back
 
 -- memory that stands for the same: the bodies held are those of m, and so is all that the state says. What lies past a
--- count may be anything: a caller may clear it, and move or copy the rest.
+-- count may be anything, and so demand 3 does not hang on what a call leaves there: that is Kept.antt's.
 pub record Same (r : FixedLagRefiner) (m m' : Memory) : Type 0 where
   pub bodies :
       (i : ℕ) → i < r.held → body_at m'.scans.bodies m'.scans.columns (r.first.0 + i) ≡ body_at m.scans.bodies m.scans.columns (r.first.0 + i)

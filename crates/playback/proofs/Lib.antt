@@ -1,3 +1,4 @@
 mod Stepping
 mod Serving
 mod Playing
+mod Opening

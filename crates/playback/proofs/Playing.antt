@@ -127,13 +127,13 @@ pub lag-within : (r : FixedLagRefiner) → Fresh r → r.config.lag_frames ≤ L
 unfolding legal
 lag-within r f = leb-true _ _ (both (leb r.config.lag_frames LAG) _ f.settings).0
 
--- an opening that gives a smoother
+-- an opening that gives a smoother, over a window of so many words and numbers
 pub opened_serves :
-    (d : SmootherConfig) (w : Window) {o : Result FixedLagSmoother Refusal} {s : FixedLagSmoother} → o ≡ Ok s →
-    opening_in o w ≡ opens d (length w.words) (length w.numbers) → Smoothed s w
+    (d : SmootherConfig) (w : Window) {words numbers : ℕ} {o : Result FixedLagSmoother Refusal} {s : FixedLagSmoother} →
+    length w.words ≡ words → length w.numbers ≡ numbers → o ≡ Ok s → opening_in o w ≡ opens d words numbers → Smoothed s w
 unfolding Calls
-opened_serves d w {s = s} e h =
-    let q : Joined.Session d s w [] = record { opening = sym (ap (λ o. opening_in o w) e) ∙ h; calls = tt } in
+opened_serves d w {s = s} long deep e h =
+    let q : Joined.Session d s w [] = record { opening = sym (ap (λ o. opening_in o w) e) ∙ h ∙ (λ i. opens d (sym long i) (sym deep i)); calls = tt } in
     let ok = (fine d s w [] q).0 in
     let a = at_opened d s w [] q in
     let g : s.config ≡ d = settings d ok [] s w a in

@@ -84,7 +84,7 @@ take-fewer c t [] h = absurd (omega arith)
 take-fewer c t (s ∷ ss) h = refl
 
 module _ (op : Op Body) (r : FixedLagRefiner) (m : Memory) {ws : List ℕ} {ns : List Float} {g : Answer} {u : FixedLagRefiner} {m' : Memory} {ws' : List ℕ} {ns' : List Float}
-    (h : Promised (due r m op ws ns) r m ws ns g u m' ws' ns') where
+    (h : Promised op r m ws ns g u m' ws' ns') where
   -- the call
   abbrev call : Call
   call =
@@ -112,7 +112,7 @@ module _ (op : Op Body) (r : FixedLagRefiner) (m : Memory) {ws : List ℕ} {ns :
 -- a push of frame i of the recording s, given as b
 pub push_leads :
     (r : FixedLagRefiner) (m : Memory) (s : List ℕ) (i : ℕ) {b : List ℕ} {ws : List ℕ} {ns : List Float} {g : Answer} {u : FixedLagRefiner} {m' : Memory} {ws' : List ℕ} {ns' : List Float} →
-    Bytes s → b ≡ recorded_body s i → length ws ≡ WORDS → length ns ≡ NUMBERS → Promised (due r m (pushed (body Narrow b)) ws ns) r m ws ns g u m' ws' ns' →
+    Bytes s → b ≡ recorded_body s i → length ws ≡ WORDS → length ns ≡ NUMBERS → Promised (pushed (body Narrow b)) r m ws ns g u m' ws' ns' →
     Leads (pushed (body Narrow (recorded_body s i)) ∷ []) r m u m'
 push_leads r m s i {u = u} {m'} h e words numbers k =
     subst (λ b. Leads (pushed (body Narrow b) ∷ []) r m u m') e
@@ -120,7 +120,7 @@ push_leads r m s i {u = u} {m'} h e words numbers k =
 
 -- a take
 module _ (r : FixedLagRefiner) (m : Memory) {ws : List ℕ} {ns : List Float} {g : Answer} {u : FixedLagRefiner} {m' : Memory} {ws' : List ℕ} {ns' : List Float}
-    (words : length ws ≡ WORDS) (numbers : length ns ≡ NUMBERS) (h : Promised (due r m taken ws ns) r m ws ns g u m' ws' ns') where
+    (words : length ws ≡ WORDS) (numbers : length ns ≡ NUMBERS) (h : Promised taken r m ws ns g u m' ws' ns') where
   pub take_leads : Leads (taken ∷ []) r m u m'
   take_leads = leads taken r m h words numbers tt
 

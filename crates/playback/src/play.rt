@@ -5,6 +5,7 @@ use crate::sink::Sink;
 use crate::steps::Player;
 use bounds::RECORDING;
 use console::Console;
+use fgo_state::state::Memory;
 use print::lines;
 use refusals::Refusal;
 
@@ -40,9 +41,10 @@ fn run<S: Sink>(rt: &(impl Print + Eprint), s: &[u8], n: usize, player: &mut Pla
 // refused for.
 fn try_play<S: Sink>(rt: &(impl Print + Eprint), s: &[u8]) -> Result<(), Refusal> {
     let start = recording::contents_of(s)?;
-    let refiner = fgo::open(start.config)?;
-    let sink = S::open(refiner.config)?;
-    let mut player = Player::new(refiner, sink);
+    let mut memory = Memory::new();
+    let refiner = fgo::open(start.config, &mut memory)?;
+    let mut player = Player::new(refiner, memory, S::new());
+    player.sink.open(refiner.config)?;
     run(rt, s, start.count, &mut player);
     Ok(())
 }

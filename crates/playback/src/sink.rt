@@ -25,8 +25,13 @@ pub trait Sink: Drop {
     // and the text, which ends there.
     ghost prints_of: { Self → Self → List ℕ → ℕ → Answer → List ℕ → List Float → Type 0 };
 
+    // Before it is opened.
+    fn new() -> Self;
+
     // Opened behind a refiner with these settings; or its refusal.
-    fn open(c: FgoConfig) -> Result<Self, Refusal>
+    // As it is: a sink that is there already is opened, and no sink is given: a smoother's window is long, and would be
+    // copied from call to call on its way to where it stays.
+    fn open(&mut self, c: FgoConfig) -> Result<(), Refusal>
         requires { c.lag_frames ≤ LAG };
 
     // An answer of the refiner, to where its frames go.
@@ -57,8 +62,12 @@ impl Sink for Short {
 
     ghost prints_of = { λ k k' out end answer ws ns. Puts k k' out end (short_answer answer ws ns) };
 
-    fn open(_c: FgoConfig) -> Result<Short, Refusal> {
-        Ok(Short)
+    fn new() -> Short {
+        Short
+    }
+
+    fn open(&mut self, _c: FgoConfig) -> Result<(), Refusal> {
+        Ok(())
     }
 
     #[tactic(auto, using(print::proofs::Fitting::ready, print::proofs::Fitting::short_answer_few))]
@@ -88,8 +97,12 @@ impl Sink for Full {
 
     ghost prints_of = { λ k k' out end answer ws ns. Puts k k' out end (full_answer answer ws ns) };
 
-    fn open(_c: FgoConfig) -> Result<Full, Refusal> {
-        Ok(Full)
+    fn new() -> Full {
+        Full
+    }
+
+    fn open(&mut self, _c: FgoConfig) -> Result<(), Refusal> {
+        Ok(())
     }
 
     #[tactic(auto, using(print::proofs::Fitting::ready, print::proofs::Fitting::full_answer_few))]

@@ -70,13 +70,11 @@ impl Smoother {
         ensures { Tells self.old self.new text.new result taken }
     {
         let mut smoothed = FrameBuffers::new();
-        let words = &self.words;
-        let values = &self.values;
-        let size = self.size;
-        let answer = smoother::take(
+        let answer = smoother::take_over(
             &mut self.state,
-            &words[..size.words],
-            &values[..size.numbers],
+            self.size,
+            &mut self.words,
+            &mut self.values,
             &mut smoothed.words,
             &mut smoothed.numbers,
         );
@@ -97,18 +95,30 @@ impl Sink for Smoother {
 
     ghost prints_of = { Smooths };
 
+    // One with lag 0 over a clear window, which holds nothing.
+    fn new() -> Smoother {
+        Smoother {
+            state: FixedLagSmoother {
+                config: SmootherConfig {
+                    lag_frames: 0,
+                    accel_spectral_density: 0.0,
+                    max_tracks: TRACKS,
+                },
+                first: 0,
+                held: 0,
+            },
+            size: window_size(0, TRACKS),
+            words: [0; WINDOW],
+            values: [0.0; VALUES],
+        }
+    }
+
     // A smoother of the refiner's lag and density.
-    fn open(c: FgoConfig) -> Result<Smoother, Refusal> {
+    fn open(&mut self, c: FgoConfig) -> Result<(), Refusal> {
         let size = window_size(c.lag_frames, TRACKS);
-        let words = [0u64; WINDOW];
-        let values = [0.0; VALUES];
-        let state = smoother::open(smoothing(c), &words[..size.words], &values[..size.numbers])?;
-        Ok(Smoother {
-            state,
-            size,
-            words,
-            values,
-        })
+        self.state = smoother::open_over(smoothing(c), size, &mut self.words, &mut self.values)?;
+        self.size = size;
+        Ok(())
     }
 
     // A refusal is told, and a frame is pushed.

@@ -32,15 +32,15 @@ pub struct Player<S> {
 }
 
 impl<S: Sink> Player<S> {
-    // A run that has not begun.
-    pub fn new(refiner: FixedLagRefiner, sink: S) -> Player<S>
+    // A run that has not begun, of a refiner and the memory that it was opened over.
+    pub fn new(refiner: FixedLagRefiner, memory: Memory, sink: S) -> Player<S>
         ensures refiner { result.refiner ≡ refiner }
         ensures sink { result.sink ≡ sink }
     {
         Player {
             refiner,
             sink,
-            memory: Memory::new(),
+            memory,
             output: FrameBuffers::new(),
             text: [0; TEXT],
             console: Console::new(),

@@ -1,10 +1,9 @@
 -- The ways through opening, push and take, each with its promise. Assumes nothing.
-use Prim.Native.Nat.{ℕ, ◌-◌, ◌≤◌, ◌<◌}
+use Prim.Native.Nat.{ℕ, ◌≤◌, ◌<◌}
 use mathlib.Core.Path.{◌≡◌, refl, sym, ap, ◌∙◌, subst}
 use mathlib.Core.Bool.{true, false}
 use mathlib.Core.List.{List, [], ◌∷◌, ◌++◌}
 use native.Mathlib.Omega.{arith}
-use native.Mathlib.Nat.{sub-zero}
 use lib.ListN.{length}
 use lib.Ieee.{Float}
 use borrow.Author.Tests.{lt-ltb, le-ltb}
@@ -14,12 +13,11 @@ use Rattle.smoother_frame.specs.Frame.{well_formed}
 use Rattle.smoother_window.specs.declared.FixedLagSmoother.{FixedLagSmoother}
 use Rattle.smoother_window.specs.Config.{lag, most}
 use Rattle.smoother_window.specs.Window.{held_frame, frames_from, frames_in, all_formed, more, fewer, Fitting, Stored}
-use Rattle.smoother_window.proofs.Forms.{frames_long, formed_more, all_counted, one_more_lem}
-use Rattle.smoother_window.proofs.Storing.{released}
+use Rattle.smoother_window.proofs.Forms.{frames_long, formed_more, all_counted}
 use Rattle.smoother_pass.specs.Pass.{emitted}
 use Rattle.smoother_pass.specs.Oldest.{oldest}
 use Rattle.smoother.specs.Smoother.{State, held, emit_oldest, settle, push, takes, reply}
-use Rattle.smoother.specs.Promise.{Window, state_in, later_refusal, due, Promised, refused_as, Ready, Emits, Pushed}
+use Rattle.smoother.specs.Promise.{Window, window, state_in, later_refusal, due, stored, freed, window_after, struct_after, Promised, refused_as, Ready, Emits, Pushed}
 use Rattle.smoother.proofs.Refusals.{passing}
 
 -- ---- what is due
@@ -60,14 +58,10 @@ module _ (s : FixedLagSmoother) (w : Window) where
   none_held h = ap (λ n. emit_oldest (state_in s w) (frames_from s w.words w.numbers 0 n)) h
 
   -- the oldest one leaves
-  pub oldest_leaves : 0 < s.held → emit_oldest (state_in s w) (state_in s w).frames ≡ (gives (oldest s w.words w.numbers), state_in (fewer s) w)
+  pub oldest_leaves : (w' : Window) → frames_in s w.words w.numbers ≡ held_frame s w.words w.numbers 0 ∷ frames_in (fewer s) w'.words w'.numbers
+      → emit_oldest (state_in s w) (state_in s w).frames ≡ (gives (oldest s w.words w.numbers), state_in (fewer s) w')
   unfolding emit_oldest state_in oldest
-  oldest_leaves h =
-      let f = held_frame s w.words w.numbers 0 in
-      let fs = frames_from s w.words w.numbers 1 (s.held - 1) in
-      let e : frames_in s w.words w.numbers ≡ f ∷ fs = ap (frames_from s w.words w.numbers 0) (sym (sub-zero s.held)) ∙ one_more_lem s w.words w.numbers 0 h in
-      let g : frames_in (fewer s) w.words w.numbers ≡ fs = released s w.words w.numbers 0 (s.held - 1) in
-      ap (emit_oldest (state_in s w)) e ∙ (λ i. (gives (emitted s.config (sym e i) f), record { config = s.config; frames = sym g i }))
+  oldest_leaves w' e = ap (emit_oldest (state_in s w)) e ∙ (λ i. (gives (emitted s.config (sym e i) (held_frame s w.words w.numbers 0)), state_in (fewer s) w'))
 
 -- ---- what is promised
 
@@ -79,21 +73,26 @@ module _ (o : Op Written) (s : FixedLagSmoother) (w : Window) (ws : List ℕ) (n
         ends =
             subst (λ a. Ends (λ f. f) state_in a s w ws ns p.answer p.state w ws ns) (sym e)
             (record { answered = ap (λ p. p.answer) q; state = ap (λ p. state_in p.state w) q; words = refl; numbers = refl; small = tt; unchanged = (ap (λ p. p.state) q, refl) });
+        slots = ap (λ p. p.state) q ∙ ap (λ a. struct_after s o a.0) (sym e);
+        window = ap (λ a. window_after s o a.0 w) (sym e);
         window_words = refl;
         window_numbers = refl;
         words = refl;
         numbers = refl;
       }
 
-  -- of the oldest that leaves of what r and w' hold
-  pub gives_oldest : (r : FixedLagSmoother) (w' : Window) {p : Pushed} {ws' : List ℕ} {ns' : List Float} → length w'.words ≡ length w.words → length w'.numbers ≡ length w.numbers
-      → due s w o ws ns ≡ emit_oldest (state_in r w') (state_in r w').frames → 0 < r.held → Emits r w' ws ns p ws' ns' → length ws' ≡ length ws → length ns' ≡ length ns
-      → Promised o s w ws ns p w' ws' ns'
-  gives_oldest r w' {p} {ws'} {ns'} k l e h d m n =
+  -- of the oldest that leaves of what r and v hold
+  pub gives_oldest : (r : FixedLagSmoother) (v : Window) {p : Pushed} {w' : Window} {ws' : List ℕ} {ns' : List Float} → due s w o ws ns ≡ emit_oldest (state_in r v) (state_in r v).frames
+      → fewer r ≡ struct_after s o (gives (oldest r v.words v.numbers)) → freed r v ≡ window_after s o (gives (oldest r v.words v.numbers)) w → Emits r v ws ns p w' ws' ns'
+      → length w'.words ≡ length w.words → length w'.numbers ≡ length w.numbers → length ws' ≡ length ws → length ns' ≡ length ns → Promised o s w ws ns p w' ws' ns'
+  gives_oldest r v {p} {w'} {ws'} {ns'} e g h d k l m n =
+      let a = e ∙ oldest_leaves r v w' d.frames in
       record {
         ends =
-            subst (λ a. Ends (λ f. f) state_in a s w ws ns p.answer p.state w' ws' ns') (sym (e ∙ oldest_leaves r w' h))
+            subst (λ a. Ends (λ f. f) state_in a s w ws ns p.answer p.state w' ws' ns') (sym a)
             (record { answered = d.answer; state = ap (λ r. state_in r w') d.state; words = d.words; numbers = d.numbers; small = d.small; unchanged = tt });
+        slots = d.state ∙ g ∙ ap (λ a. struct_after s o a.0) (sym a);
+        window = d.window ∙ h ∙ ap (λ a. window_after s o a.0 w) (sym a);
         window_words = k;
         window_numbers = l;
         words = m;
@@ -129,18 +128,25 @@ module _ (s : FixedLagSmoother) (w : Window) (ws : List ℕ) (ns : List Float) (
             (subst (λ l. all_formed (most s.config) l ≡ true) (sym stored-frames) (formed_more (most s.config) (frames_in s w.words w.numbers) f p.formed h));
       })
 
+  stored-window : w' ≡ stored s f w
+  stored-window = λ i. window (d.words_put i) (d.numbers_put i)
+
   pub push-holds : r.held ≤ lag r.config → Promised (pushed f) s w ws ns (record { answer = Held; state = r }) w' ws ns
   push-holds l =
+      let a = push-due ∙ settle-held r w' l in
       record {
         ends =
-            subst (λ a. Ends (λ f. f) state_in a s w ws ns Held r w' ws ns) (sym (push-due ∙ settle-held r w' l))
+            subst (λ a. Ends (λ f. f) state_in a s w ws ns Held r w' ws ns) (sym a)
             (record { answered = refl; state = refl; words = refl; numbers = refl; small = tt; unchanged = tt });
+        slots = d.state ∙ ap (λ a. struct_after s (pushed f) a.0) (sym a);
+        window = stored-window ∙ ap (λ a. window_after s (pushed f) a.0 w) (sym a);
         window_words = d.words;
         window_numbers = d.numbers;
         words = refl;
         numbers = refl;
       }
 
-  pub push_gives : {p : Pushed} {ws' : List ℕ} {ns' : List Float} → lag r.config < r.held → Emits r w' ws ns p ws' ns' → length ws' ≡ length ws → length ns' ≡ length ns
-      → Promised (pushed f) s w ws ns p w' ws' ns'
-  push_gives l = gives_oldest (pushed f) s w ws ns r w' d.words d.numbers (push-due ∙ settle_gives r w' l) (omega arith)
+  pub push_gives : {p : Pushed} {v : Window} {ws' : List ℕ} {ns' : List Float} → lag r.config < r.held → Emits r w' ws ns p v ws' ns'
+      → length v.words ≡ length w'.words → length v.numbers ≡ length w'.numbers → length ws' ≡ length ws → length ns' ≡ length ns → Promised (pushed f) s w ws ns p v ws' ns'
+  push_gives l m h k =
+      gives_oldest (pushed f) s w ws ns r w' (push-due ∙ settle_gives r w' l) (ap fewer d.state) (λ i. freed (d.state i) (stored-window i)) m (h ∙ d.words) (k ∙ d.numbers)

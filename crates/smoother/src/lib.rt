@@ -3,7 +3,6 @@
 //
 // As it is: words and numbers, and window and values, go to each function side by side. Of a struct of `&mut` slices it
 // is not known what is written through them, so with one the proofs do not close; fgo_emit's `put_frame` says the same.
-// Window and values are `&mut` in push, so a struct of two `&` would serve open and take alone.
 #![tactic(auto)]
 
 ghost use Rattle.std.specs.Prelude.{◌≡◌, ◌≤◌, length};
@@ -15,7 +14,7 @@ ghost use Rattle.smoother_window.specs.Config as Config;
 ghost use Rattle.smoother_window.specs.Config.{lag, most};
 ghost use Rattle.smoother.specs.Smoother as Smoother;
 ghost use Rattle.smoother.specs.Promise as Promise;
-ghost use Rattle.smoother.specs.Promise.{state_in, opening_of, new_by, later_refusal, pushed_as, given_off, lent_of, rest_of, Promised, Ready, Emits};
+ghost use Rattle.smoother.specs.Promise.{state_in, opening_of, new_by, later_refusal, pushed_as, given_off, lent_of, rest_of, Opens, Promised, Ready, Emits};
 
 use bounds::{LAG, TRACKS, VALUES, WINDOW};
 use buffers::{Answer, FrameSize};
@@ -102,18 +101,20 @@ fn check_call(
 
 // ---- the entry points
 
-// The oldest frame held leaves, smoothed, at the front of the output buffers: so many words and numbers.
+// The oldest frame held leaves, smoothed, at the front of the output buffers: so many words and numbers. Its slot is
+// cleared.
 fn emit_oldest(
     s: &mut FixedLagSmoother,
-    window: &[u64],
-    values: &[f64],
+    window: &mut [u64],
+    values: &mut [f64],
     words: &mut [u64],
     numbers: &mut [f64],
 ) -> FrameSize
-    requires ready { Ready s.old (Promise.window window.now values.now) }
+    requires ready { Ready s.old (Promise.window window.old values.old) }
     requires words { WORDS ≤ length words.old }
     requires numbers { NUMBERS ≤ length numbers.old }
-    ensures { Emits s.old (Promise.window window.now values.now) words.old numbers.old (given_off result s.new) words.new numbers.new }
+    ensures { Emits s.old (Promise.window window.old values.old) words.old numbers.old
+        (given_off result s.new) (Promise.window window.new values.new) words.new numbers.new }
 {
     let held = HeldFrames {
         window: WindowRef {
@@ -126,25 +127,28 @@ fn emit_oldest(
         words: emit_words(words, *s, window),
         numbers: emit_numbers(numbers, &held),
     };
-    s.drop_oldest();
+    s.drop_oldest(window, values);
     size
 }
 
-// A smoother that holds nothing, over these window buffers, into which it writes nothing yet. The density must be the
-// tracker's.
+// A smoother that holds nothing, over window buffers that it clears. A refusal leaves them as they were. The density
+// must be the tracker's.
 pub fn open(
     config: SmootherConfig,
-    window: &[u64],
-    values: &[f64],
+    window: &mut [u64],
+    values: &mut [f64],
 ) -> Result<FixedLagSmoother, Refusal>
-    ensures opened { opening_of result (Promise.window window.now values.now) ≡ Smoother.opens config (length window.now) (length values.now) }
+    ensures opened { opening_of result (Promise.window window.new values.new) ≡ Smoother.opens config (length window.old) (length values.old) }
     ensures new { (s : FixedLagSmoother) → result ≡ Ok s → s ≡ new_by config }
+    ensures window { Opens config (Promise.window window.old values.old) (Promise.window window.new values.new) }
 {
     let size = WindowSize {
         words: window.len(),
         numbers: values.len(),
     };
     check_open(config, size)?;
+    buffers::clear(window, 0, size.words, 0);
+    buffers::clear(values, 0, size.numbers, 0.0);
     Ok(FixedLagSmoother {
         config,
         first: 0,
@@ -181,13 +185,54 @@ pub fn push(
     Ok(Some(emit_oldest(s, window, values, words, numbers)))
 }
 
-// The next frame, over so much of the longest window; the rest of it stays.
-// As it is: a function of its own, to which a caller lends both arrays of its struct whole. It was tried to cut them
+// The oldest held frame.
+pub fn take(
+    s: &mut FixedLagSmoother,
+    window: &mut [u64],
+    values: &mut [f64],
+    words: &mut [u64],
+    numbers: &mut [f64],
+) -> Answer
+    ensures { Promised taken s.old (Promise.window window.old values.old) words.old numbers.old
+        (pushed_as result s.new) (Promise.window window.new values.new) words.new numbers.new }
+{
+    check_call(*s, window, values, words.len(), numbers.len())?;
+    if s.held == 0 {
+        return Err(Refusal::Empty);
+    }
+    Ok(Some(emit_oldest(s, window, values, words, numbers)))
+}
+
+// ---- over so much of the longest window; the rest of it stays
+//
+// As it is: functions of their own, to which a caller lends both arrays of its struct whole. It was tried to cut them
 // where `push` is called, and the proof did not close: of two fields of a struct of which parts are lent in one call,
 // the check does not know what the call leaves there.
 // As it is: a size within WINDOW and VALUES is asked here and in calls_smoother's `LentWindow::lend`, and is a fact of
 // those who keep one. It is no fact of `WindowSize`, which is also made of the lengths that a caller lends, and these
 // may be any: `window_fits` compares them.
+
+// A smoother that holds nothing.
+pub fn open_over(
+    config: SmootherConfig,
+    size: WindowSize,
+    window: &mut [u64; WINDOW],
+    values: &mut [f64; VALUES],
+) -> Result<FixedLagSmoother, Refusal>
+    requires { (size.words ≤ WINDOW) × (size.numbers ≤ VALUES) }
+    ensures opened { opening_of result (lent_of size (Promise.window window.new values.new)) ≡ Smoother.opens config size.words size.numbers }
+    ensures new { (s : FixedLagSmoother) → result ≡ Ok s → s ≡ new_by config }
+    ensures window { Opens config (lent_of size (Promise.window window.old values.old)) (lent_of size (Promise.window window.new values.new)) }
+    ensures rest { rest_of size (Promise.window window.new values.new) ≡ rest_of size (Promise.window window.old values.old) }
+{
+    open(
+        config,
+        &mut window[..size.words],
+        &mut values[..size.numbers],
+    )
+}
+
+// The next frame.
 pub fn push_over(
     s: &mut FixedLagSmoother,
     size: WindowSize,
@@ -214,19 +259,24 @@ pub fn push_over(
 }
 
 // The oldest held frame.
-pub fn take(
+pub fn take_over(
     s: &mut FixedLagSmoother,
-    window: &[u64],
-    values: &[f64],
+    size: WindowSize,
+    window: &mut [u64; WINDOW],
+    values: &mut [f64; VALUES],
     words: &mut [u64],
     numbers: &mut [f64],
 ) -> Answer
-    ensures { Promised taken s.old (Promise.window window.now values.now) words.old numbers.old
-        (pushed_as result s.new) (Promise.window window.now values.now) words.new numbers.new }
+    requires { (size.words ≤ WINDOW) × (size.numbers ≤ VALUES) }
+    ensures promised { Promised taken s.old (lent_of size (Promise.window window.old values.old)) words.old numbers.old
+        (pushed_as result s.new) (lent_of size (Promise.window window.new values.new)) words.new numbers.new }
+    ensures rest { rest_of size (Promise.window window.new values.new) ≡ rest_of size (Promise.window window.old values.old) }
 {
-    check_call(*s, window, values, words.len(), numbers.len())?;
-    if s.held == 0 {
-        return Err(Refusal::Empty);
-    }
-    Ok(Some(emit_oldest(s, window, values, words, numbers)))
+    take(
+        s,
+        &mut window[..size.words],
+        &mut values[..size.numbers],
+        words,
+        numbers,
+    )
 }

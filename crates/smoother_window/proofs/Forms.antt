@@ -1,13 +1,12 @@
 -- Frames in slots that are well formed. Assumes nothing.
-use Prim.Native.Nat.{ℕ, zero, suc, ◌+◌, ◌-◌, ◌*◌, ◌≤◌, ◌<◌}
+use Prim.Native.Nat.{ℕ, zero, suc, ◌+◌, ◌-◌, ◌≤◌, ◌<◌}
 use mathlib.Core.Path.{◌≡◌, refl, sym, ap, ◌∙◌}
 use mathlib.Core.Bool.{Bool, true, false, ◌&&◌}
 use mathlib.Core.List.{List, [], ◌∷◌, ◌++◌}
 use native.Mathlib.Nat.{zero-add, add-zero, suc-add, add-suc}
 use native.Mathlib.Omega.{arith}
 use native.Mathlib.Numerals.{add-one}
-use lib.ListN.{length, drop, length-drop}
-use lib.Seq.{length-take-le}
+use lib.ListN.{length}
 use lib.Ieee.{Float}
 use Rattle.bounds.specs.Bounds.{HEAD, words_for}
 use Rattle.buffers.specs.Answer.{Written}
@@ -17,9 +16,9 @@ use Rattle.smoother_window.specs.declared.FixedLagSmoother.{FixedLagSmoother}
 use Rattle.smoother_window.specs.declared.SmootherConfig.{SmootherConfig}
 use Rattle.smoother_frame.specs.Frame.{head_ok, well_formed}
 use Rattle.smoother_window.specs.Config.{most}
-use Rattle.smoother_window.specs.Window.{slot_of, slot_words, words_in, held_frame, frames_from, frames_in, all_formed, Fitting, SlotCounts, AllCounted, Fits}
+use Rattle.smoother_window.specs.Window.{slot_words, words_in, held_frame, frames_from, frames_in, all_formed, Fitting, SlotCounts, AllCounted, Fits}
 use Rattle.smoother_frame.proofs.WellFormed.{headed, exact_of, head_taken}
-use Rattle.smoother_window.proofs.Slots.{slot_within, room}
+use Rattle.smoother_window.proofs.Slots.{slot_whole}
 
 module _ (s : FixedLagSmoother) (win : List ℕ) (nums : List Float) where
   pub malformed : (k : ℕ) → HEAD ≤ length (slot_words s win k) → head_ok (most s.config) (slot_words s win k) ≡ false → well_formed (most s.config) (held_frame s win nums k) ≡ false
@@ -51,8 +50,7 @@ module _ (s : FixedLagSmoother) (win : List ℕ) (nums : List Float) where
   pub all_counted : Fitting s win nums → all_formed (most s.config) (frames_in s win nums) ≡ true → AllCounted s win
   unfolding slot_words
   all_counted g h k l =
-      let wide = words_for (most s.config) in
-      let n : length (slot_words s win k) ≡ wide = length-take-le wide (drop (slot_of s k * wide) win) (omega (arith, room (slot_within s k) refl g.words, length-drop (slot_of s k * wide) win)) in
+      let n = slot_whole s k (words_for (most s.config)) win g.words in
       counted k (omega (arith, n)) (all-at _ s.held k (sym all_held ∙ h) l)
 
   -- so many frames as are counted

@@ -1,8 +1,11 @@
 -- Slots in a window: each lies within its buffer. Assumes nothing.
-use mathlib.Core.Path.{◌≡◌, ◌∙◌}
+use mathlib.Core.Path.{◌≡◌, refl, ◌∙◌}
+use mathlib.Core.List.{List}
 use Prim.Native.Nat.{ℕ, suc, ◌+◌, ◌*◌, ◌%◌, ◌≤◌}
 use native.Mathlib.Omega.{arith}
 use native.Mathlib.Nat.{mul-le-mul_right, suc-mul, mod-lt, mod-add-mod, add-mod-mod}
+use lib.ListN.{length, take, drop, length-drop}
+use lib.Seq.{length-take-le}
 use Rattle.smoother_window.specs.declared.FixedLagSmoother.{FixedLagSmoother}
 use Rattle.smoother_window.specs.Config.{lag}
 use Rattle.smoother_window.specs.Window.{slot_of}
@@ -24,3 +27,7 @@ pub room : {at n w wide long : ℕ} → at ≤ n → w ≡ wide → long ≡ (n 
 room {at} {n} {w} {wide} h d e =
     let l : suc at ≤ n + 1 = omega arith in
     rw (d, e) (rw (suc-mul at wide) at (mul-le-mul_right wide l))
+
+-- so it is whole there
+pub slot_whole : {A : Type 0} (s : FixedLagSmoother) (k w : ℕ) (d : List A) → length d ≡ (lag s.config + 1) * w → length (take w (drop (slot_of s k * w) d)) ≡ w
+slot_whole s k w d h = length-take-le w (drop (slot_of s k * w) d) (omega (arith, room (slot_within s k) refl h, length-drop (slot_of s k * w) d))

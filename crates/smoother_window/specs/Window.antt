@@ -3,7 +3,10 @@
 use Rattle.std.specs.Prelude.{ℕ, zero, suc, ◌+◌, ◌-◌, ◌*◌, ◌%◌, ◌≤◌, ◌<◌, ◌≡◌}
 use Rattle.std.specs.Prelude.{Bool, true, ◌&&◌, List, [], ◌∷◌, ◌++◌, length, take, drop, Float}
 use Rattle.bounds.specs.Bounds.{LAG, TRACKS, ASSOCIATIONS, SENSORS, words_for, numbers_for}
+use Rattle.std.specs.Float.{binary64}
+use Rattle.std.specs.Float.Ieee.{of_bits}
 use Rattle.buffers.specs.Answer.{Written}
+use Rattle.buffers.specs.Buffers.{over, cleared}
 use Rattle.smoother_frame.specs.Frame.{frame, track_count, association_count, sensor_count, words_long, numbers_long, well_formed}
 use Rattle.smoother_window.specs.declared.FixedLagSmoother.{FixedLagSmoother}
 use Rattle.smoother_window.specs.declared.SmootherConfig.{SmootherConfig}
@@ -81,10 +84,29 @@ pub record Fits (c : SmootherConfig) (f : Written) : Type 0 where
   pub associations : association_count f.words ≤ ASSOCIATIONS
   pub sensors : sensor_count f.words ≤ SENSORS
 
--- the frame f is stored: what it leaves in the window
+-- where the words of the k-th held frame's slot begin, and where its numbers do
+abbrev pub words_at : FixedLagSmoother → ℕ → ℕ
+words_at s k = slot_of s k * words_for (most s.config)
+
+abbrev pub numbers_at : FixedLagSmoother → ℕ → ℕ
+numbers_at s k = slot_of s k * numbers_for (most s.config)
+
+-- the frame f is stored in the next free slot: what it leaves in the window
 pub record Stored (s : FixedLagSmoother) (win : List ℕ) (nums : List Float) (f : Written)
     (r : FixedLagSmoother) (win' : List ℕ) (nums' : List Float) : Type 0 where
+  pub words_put : win' ≡ over (words_at s s.held) f.words win
+  pub numbers_put : nums' ≡ over (numbers_at s s.held) f.numbers nums
   pub state : r ≡ more s
   pub frames : frames_in r win' nums' ≡ frames_in s win nums ++ (f ∷ [])
+  pub words : length win' ≡ length win
+  pub numbers : length nums' ≡ length nums
+
+-- the oldest frame is given up: its slot is cleared, as much of it as the frame took
+pub record Dropped (s : FixedLagSmoother) (win : List ℕ) (nums : List Float)
+    (r : FixedLagSmoother) (win' : List ℕ) (nums' : List Float) : Type 0 where
+  pub words_cleared : win' ≡ cleared 0 (words_at s 0) (length (words_in s win 0)) win
+  pub numbers_cleared : nums' ≡ cleared (of_bits binary64 0) (numbers_at s 0) (length (numbers_in s win nums 0)) nums
+  pub state : r ≡ fewer s
+  pub frames : frames_in s win nums ≡ held_frame s win nums 0 ∷ frames_in r win' nums'
   pub words : length win' ≡ length win
   pub numbers : length nums' ≡ length nums

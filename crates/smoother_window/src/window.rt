@@ -4,7 +4,7 @@ ghost use Rattle.bounds.specs.Bounds.{LAG, TRACKS, words_for, numbers_for};
 ghost use Rattle.smoother_frame.specs.Frame.{track_count, words_long, well_formed};
 ghost use Rattle.smoother_window.specs.Config.{lag, most};
 ghost use Rattle.smoother_window.specs.Window.{slot_of, slot_words, slot_numbers, words_in, held_frame, frames_in, all_formed};
-ghost use Rattle.smoother_window.specs.Window.{fewer, Fitting, SlotCounts, Stored};
+ghost use Rattle.smoother_window.specs.Window.{Fitting, SlotCounts, AllCounted, Stored, Dropped};
 
 use crate::FixedLagSmoother;
 use crate::size::slot_size;
@@ -14,7 +14,7 @@ use smoother_frame::frame::Frame;
 
 impl FixedLagSmoother {
     // The slot of the k-th held frame.
-    // As it is: lag ≤ LAG is asked here, of a window's words, in `drop_oldest`, in `store` as a part of `Fitting`, in
+    // As it is: lag ≤ LAG is asked here, of a window's words, in `store` and `drop_oldest` as a part of `Fitting`, in
     // `window_size`, in smoother's `window_fits` and in playback's `Sink::open`. A type that holds it is no plainer:
     // this, `store` and `drop_oldest` are methods of the state, whose settings are fields to which a caller may write
     // any number, so no fact can stand in it.
@@ -72,12 +72,21 @@ impl FixedLagSmoother {
         &slot[..FrameCounts::of(slot).words_long()]
     }
 
-    // The oldest frame is given up: nothing moves, the next slot is the first. It asks that one is held.
-    pub fn drop_oldest(&mut self)
-        requires lags { lag self.old.config ≤ LAG }
+    // The oldest frame is given up: it is cleared, nothing moves, and the next slot is the first. It asks that one is
+    // held and no more than there are slots for, that the window has its length, and that the counts in the slots in
+    // use are in bounds.
+    pub fn drop_oldest(&mut self, words: &mut [u64], values: &mut [f64])
+        requires fitting { Fitting self.old words.old values.old }
+        requires few { self.old.held ≤ lag self.old.config + 1 }
         requires some { 0 < self.old.held }
-        ensures { self.new ≡ fewer self.old }
+        requires counted { AllCounted self.old words.old }
+        ensures { Dropped self.old words.old values.old self.new words.new values.new }
     {
+        let at = self.slot(0);
+        let size = slot_size(self.config.max_tracks);
+        let counts = FrameCounts::of(self.slot_words(words, 0));
+        buffers::clear(words, at * size.words, counts.words_long(), 0);
+        buffers::clear(values, at * size.numbers, counts.numbers_long(), 0.0);
         self.first = self.slot(1);
         self.held -= 1;
     }

@@ -1,7 +1,7 @@
 //! A list of calls of a refiner and of a smoother as the program `calls` reads it, and what it prints.
+use crate::digest;
 use crate::frames::{self, Lists};
 use crate::image::{self, RefinerImage};
-use crate::junk::Junk;
 use crate::reading::{number, numbers};
 use crate::refiner_calls::{self, Answer, Refusal, Room};
 use crate::smoother_calls::Smoother;
@@ -78,10 +78,10 @@ pub struct Player {
     room: Room,
     /// The frame that the refiner gave last.
     last: Lists,
+    /// The output buffers, at their full length.
+    output: Lists,
     /// Whether the broken clauses stand after `refused 3`.
     pub names: bool,
-    /// Junk that is put past the counts after each call that was carried out.
-    pub junk: Option<Junk>,
 }
 
 impl Player {
@@ -94,8 +94,11 @@ impl Player {
                 words: Vec::new(),
                 numbers: Vec::new(),
             },
+            output: Lists {
+                words: vec![0; BUFFERS.0],
+                numbers: vec![0; BUFFERS.1],
+            },
             names: false,
-            junk: None,
         }
     }
 
@@ -112,12 +115,14 @@ impl Player {
         }
     }
 
-    /// Prints an answer; the frame, if there is one.
-    fn answered(&self, out: &mut impl Write, answer: Answer) -> Option<Lists> {
+    /// Prints an answer; the frame, if there is one, which is written into the output buffers.
+    fn answered(&mut self, out: &mut impl Write, answer: Answer) -> Option<Lists> {
         match answer {
             Ok(Some(f)) => {
                 let f = frames::lists(&f);
                 frames::print(out, &f);
+                self.output.words[..f.words.len()].copy_from_slice(&f.words);
+                self.output.numbers[..f.numbers.len()].copy_from_slice(&f.numbers);
                 return Some(f);
             }
             Ok(None) => writeln!(out, "held").unwrap(),
@@ -127,19 +132,9 @@ impl Player {
     }
 
     fn refined(&mut self, out: &mut impl Write, answer: Answer) {
-        if let (Some(junk), Ok(_)) = (&mut self.junk, &answer) {
-            junk.spill(&mut self.refiner);
-        }
         if let Some(f) = self.answered(out, answer) {
             self.last = f;
         }
-    }
-
-    fn smoothed(&mut self, out: &mut impl Write, answer: Answer) {
-        if let (Some(junk), Ok(_)) = (&mut self.junk, &answer) {
-            junk.spill_smoother(&mut self.smoother.image);
-        }
-        self.answered(out, answer);
     }
 
     /// Plays one call and prints its answer; none where it names a cell that is not there.
@@ -163,23 +158,27 @@ impl Player {
             },
             Call::Lend(room) => self.room = room,
             Call::Write(place, index, value) => self.refiner.put(place, index, value)?,
-            // what lies past the counts is free, so the numbers are not known here
-            Call::Digest => writeln!(out, "digest -").unwrap(),
+            Call::Digest => {
+                let refiner = digest::of_refiner(&self.refiner);
+                let smoother = digest::of_smoother(&self.smoother.image);
+                let output = digest::of_output(&self.output);
+                writeln!(out, "digest {refiner:016x} {smoother:016x} {output:016x}").unwrap();
+            }
             Call::OpenSmoother(lag, density, most) => {
                 let answer = self.smoother.open(lag, density, most);
                 self.opened(out, answer);
             }
             Call::PushLast => {
                 let answer = self.smoother.push(&self.last, self.room);
-                self.smoothed(out, answer);
+                self.answered(out, answer);
             }
             Call::PushFrame(f) => {
                 let answer = self.smoother.push(&f, self.room);
-                self.smoothed(out, answer);
+                self.answered(out, answer);
             }
             Call::TakeSmoothed => {
                 let answer = self.smoother.take(self.room);
-                self.smoothed(out, answer);
+                self.answered(out, answer);
             }
             Call::LendWindow(window) => self.smoother.lend(window),
             Call::WriteSmoother(place, index, value) => self.smoother.put(place, index, value)?,

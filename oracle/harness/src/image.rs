@@ -63,6 +63,14 @@ impl RefinerImage {
         }
     }
 
+    /// Clears the memory.
+    pub fn clear(&mut self) {
+        self.bodies.fill(0);
+        for cells in [&mut self.columns, &mut self.owners, &mut self.tracks, &mut self.filters] {
+            cells.fill(0);
+        }
+    }
+
     pub fn settings(&self) -> FgoConfig {
         reading::settings(&self.fields[..11])
     }

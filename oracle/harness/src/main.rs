@@ -1,10 +1,9 @@
 //! Runs a recording through the published refiner and smoother and prints what refine, frames or smooth should print; or a list of calls of a refiner and of a
-//! smoother, and prints what calls should print, but for the numbers of a digest.
+//! smoother, and prints what calls should print.
 //!
 //!     oracle refine|frames|smooth < RECORDING
 //!     oracle calls < CALLS
 //!     oracle calls_named < CALLS          the same, and after `refused 3` the clauses of the state rule that are broken
-//!     oracle calls_over_junk < CALLS      the same as calls, with junk past the counts after each call that was carried out
 //!     oracle calls_cells < CALLS          what the callers keep and lend at the end, in binary
 //!
 //! The refusals are not the published code's: they are worked out here from document 01, so that the published code sees the accepted frames only.
@@ -12,11 +11,11 @@
 
 mod arithmetic;
 mod calls;
+mod digest;
 mod engine;
 mod fgo;
 mod frames;
 mod image;
-mod junk;
 mod models;
 mod reading;
 mod refiner_calls;
@@ -30,7 +29,7 @@ use smoother::FixedLagSmoother;
 use std::collections::BTreeSet;
 use std::io::{Read, Write};
 
-const USE: &str = "oracle refine|frames|smooth < RECORDING, or oracle calls|calls_named|calls_over_junk|calls_cells < CALLS";
+const USE: &str = "oracle refine|frames|smooth < RECORDING, or oracle calls|calls_named|calls_cells < CALLS";
 
 #[derive(Clone, Copy, PartialEq)]
 enum Program {
@@ -114,7 +113,6 @@ fn main() {
         match how {
             "" => {}
             "_named" => player.names = true,
-            "_over_junk" => player.junk = Some(junk::Junk::new()),
             "_cells" => {
                 player.play(&mut std::io::sink(), &bytes);
                 return out.write_all(&player.cells()).unwrap();

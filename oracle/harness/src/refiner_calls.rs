@@ -57,7 +57,7 @@ fn ten(v: &View, new: &[u64]) -> bool {
     joined.len() > 256
 }
 
-/// "a setting out of bounds or not finite" is 1; else a new refiner, and the memory as it was.
+/// "a setting out of bounds or not finite" is 1; else a new refiner, and the memory is cleared.
 pub fn open(image: &mut RefinerImage, settings: &[u8]) -> Result<(), Refusal> {
     let fields = reading::numbers(settings);
     if !reading::legal(&reading::settings(&fields)) {
@@ -66,6 +66,7 @@ pub fn open(image: &mut RefinerImage, settings: &[u8]) -> Result<(), Refusal> {
     image.fields = [0; 20];
     image.fields[..11].copy_from_slice(&fields);
     image.fields[NEXT_ID] = 1;
+    image.clear();
     Ok(())
 }
 
@@ -75,7 +76,7 @@ fn refiner(v: View) -> FixedLagRefiner {
 }
 
 /// The owner table: entries keep their place, engine ids that are new come after them in the order in which the frame names them, and those that have no live
-/// owner go.
+/// owner go: what they took is cleared.
 fn put_owners(image: &mut RefinerImage, r: &FixedLagRefiner, new: &[u64]) {
     let mut engine_ids: Vec<u64> = image.owners.chunks(2).map(|p| p[0]).take(image.fields[OWNED_IDS] as usize).collect();
     for e in new {
@@ -86,13 +87,19 @@ fn put_owners(image: &mut RefinerImage, r: &FixedLagRefiner, new: &[u64]) {
     let entries: Vec<[u64; 2]> = engine_ids.iter().filter_map(|e| r.owner(*e).map(|id| [*e, id])).collect();
     assert_eq!(entries.len(), r.owned_engine_ids().len());
     image.fields[OWNED_IDS] = entries.len() as u64;
+    image.owners[..2 * engine_ids.len()].fill(0);
     for (cells, entry) in image.owners.chunks_mut(2).zip(entries) {
         cells.copy_from_slice(&entry);
     }
 }
 
-fn put_parts(image: &mut RefinerImage, r: &FixedLagRefiner) {
+/// The frozen parts after a frame was emitted: those that are forgotten, also where they are new, are cleared, and so are the heights that a part does not have.
+fn put_parts(image: &mut RefinerImage, r: &FixedLagRefiner, emitted: &LidarFrameOutput) {
     let parts = r.frozen();
+    let mut ids: BTreeSet<u64> = image.tracks.chunks(PART).map(|p| p[0]).take(image.fields[FROZEN_PARTS] as usize).collect();
+    ids.extend(emitted.associations.iter().filter_map(|a| a.track_id));
+    image.tracks[..PART * ids.len()].fill(0);
+    image.filters[..FILTER * ids.len()].fill(0);
     image.fields[FROZEN_PARTS] = parts.len() as u64;
     for ((w, x), p) in image.tracks.chunks_mut(PART).zip(image.filters.chunks_mut(FILTER)).zip(parts) {
         let class = p.class_label.map_or(1 << 32, u64::from);
@@ -103,8 +110,20 @@ fn put_parts(image: &mut RefinerImage, r: &FixedLagRefiner) {
     }
 }
 
+/// The slot of scan n is cleared, as much of it as the scan took.
+fn clear_slot(image: &mut RefinerImage, n: u64) {
+    let size = image.body(n).len();
+    let associations = reading::frame(image.body(n)).expect("a held frame").associations.len();
+    image.slot(n)[..size].fill(0);
+    image.column(n)[..1 + associations].fill(0);
+}
+
 /// What is kept of a refiner after a call; new are the engine ids that the call's frame named.
-fn put_back(image: &mut RefinerImage, r: &FixedLagRefiner, new: &[u64]) {
+fn put_back(image: &mut RefinerImage, r: &FixedLagRefiner, new: &[u64], emitted: Option<&LidarFrameOutput>) {
+    if let Some(f) = emitted {
+        clear_slot(image, image.first());
+        put_parts(image, r, f);
+    }
     let ids = r.ids();
     image.fields[FIRST] = r.first() as u64;
     image.fields[HELD] = ids.len() as u64;
@@ -112,7 +131,6 @@ fn put_back(image: &mut RefinerImage, r: &FixedLagRefiner, new: &[u64]) {
         image.column((r.first() + k) as u64)[1..1 + ids.len()].copy_from_slice(ids);
     }
     put_owners(image, r, new);
-    put_parts(image, r);
     image.fields[NEXT_ID] = r.next_id();
     let k = r.counters();
     image.fields[COUNTERS..].copy_from_slice(&[k.swaps, k.merges, k.splits, k.drops]);
@@ -137,8 +155,9 @@ pub fn push(image: &mut RefinerImage, body: &[u8], room: Room) -> Answer {
     assert!(emitted.len() <= 1, "at most one frame leaves");
     image.slot(n)[..body.len()].copy_from_slice(body);
     image.column(n)[0] = body.len() as u64;
-    put_back(image, &r, &new);
-    Ok(emitted.pop())
+    let emitted = emitted.pop();
+    put_back(image, &r, &new, emitted.as_ref());
+    Ok(emitted)
 }
 
 pub fn take(image: &mut RefinerImage, room: Room) -> Answer {
@@ -147,7 +166,7 @@ pub fn take(image: &mut RefinerImage, room: Room) -> Answer {
     unless_short(room)?;
     let mut r = refiner(v);
     let frame = r.take().ok_or(13)?;
-    put_back(image, &r, &[]);
+    put_back(image, &r, &[], Some(&frame));
     Ok(Some(frame))
 }
 

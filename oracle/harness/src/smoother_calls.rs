@@ -42,7 +42,8 @@ impl Smoother {
         self.image.put(place, index, value)
     }
 
-    /// "a setting out of bounds or not finite" is 1, then "window buffers not of the length below" 2; else a new smoother, and the window as it was.
+    /// "a setting out of bounds or not finite" is 1, then "window buffers not of the length below" 2; else a new smoother, and the
+    /// window is cleared.
     pub fn open(&mut self, lag: u64, density: u64, most: u64) -> Result<(), Refusal> {
         let asked = window_of(lag, most);
         if !self.said {
@@ -55,6 +56,8 @@ impl Smoother {
             return Err(2.into());
         }
         self.image.fields = [lag, density, most, 0, 0];
+        self.image.words[..self.window.0].fill(0);
+        self.image.numbers[..self.window.1].fill(0);
         self.live = None;
         Ok(())
     }
@@ -77,8 +80,13 @@ impl Smoother {
         Ok(self.live.get_or_insert_with(made))
     }
 
-    /// The oldest frame leaves its slot, which is not cleared.
+    /// The oldest frame leaves its slot, which is cleared, as much of it as the frame took.
     fn left(&mut self) {
+        let most = self.image.fields[MOST];
+        let (words, numbers) = self.image.cells(self.image.slot(0));
+        let (w, x) = frames::lengths(words, most).expect("a frame");
+        words[..w].fill(0);
+        numbers[..x].fill(0);
         self.image.fields[OLDEST] = self.image.slot(1);
         self.image.fields[HELD_FRAMES] -= 1;
     }

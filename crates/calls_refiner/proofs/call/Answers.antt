@@ -6,7 +6,14 @@ use Rattle.calls_refiner.proofs.call.Goals as goal
 pub returns-in-Open : goal.returns-in-Open
 returns-in-Open c =
     rw c.in-Open.is
-    (record { refiner_is = c.open.ensures.refiner; memory_is = refl; words = refl; numbers = refl; last_is = refl; text_is = ready_in _ c.open.ensures.text })
+    (record {
+      refiner_is = c.open.ensures.refiner;
+      memory_is = c.open.ensures.memory;
+      words = refl;
+      numbers = refl;
+      last_is = refl;
+      text_is = ready_in _ c.open.ensures.text;
+    })
 
 pub returns-in-Push : goal.returns-in-Push
 returns-in-Push c = rw c.in-Push.is (answers_in _ c.push.ensures)

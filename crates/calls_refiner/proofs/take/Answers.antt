@@ -4,4 +4,4 @@ use Rattle.print.proofs.Showing.{shown}
 use Rattle.calls_refiner.proofs.take.Goals as goal
 
 pub invariant_of-shown : goal.invariant_of-shown
-invariant_of-shown c = record { shown = shown written state_of c.take-answer.ensures.promised.ends }
+invariant_of-shown c = record { shown = shown written state_of c.take-answer.ensures.ends }

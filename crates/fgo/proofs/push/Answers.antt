@@ -15,7 +15,7 @@ returns-in_err-gathered c = let a = c.args in
     let m = a.memory.now in
     let r = c.in_err-gathered.field-0.0 in
     let p = err_from_is_err_and c.from_residual.result c.from_residual.ensures.1 in
-    rw (p.1, p.2) (refusal_ends a.r.now m a.words.now a.numbers.now (due_refused a.r.now m a.words.now a.numbers.now (pushed (body_of a.b.now)) c.in_err-gathered.ensures.refusal (eqb-false _ 0 (numbered r))))
+    rw (p.1, p.2) (refusal_ends a.r.now m a.words.now a.numbers.now (pushed (body_of a.b.now)) (due_refused a.r.now m a.words.now a.numbers.now (pushed (body_of a.b.now)) c.in_err-gathered.ensures.refusal (eqb-false _ 0 (numbered r))))
 
 pub check_push-requires : goal.check_push-requires
 check_push-requires c = let a = c.args in
@@ -30,7 +30,7 @@ returns-in_err-check_push c = let a = c.args in
     let r = c.in_err-check_push.field-0.0 in
     let p = err_from_is_err_and c.from_residual-in_err-check_push.result c.from_residual-in_err-check_push.ensures.1 in
     let due = push_numbered a.r.now m b a.words.now a.numbers.now (sym c.in_ok-gathered.ensures.refusal) (number_of r) c.in_err-check_push.ensures (eqb-false _ 0 (numbered r)) in
-    rw (p.1, p.2) (refusal_ends a.r.now m a.words.now a.numbers.now due)
+    rw (p.1, p.2) (refusal_ends a.r.now m a.words.now a.numbers.now (pushed b) due)
 
 pub arrive-requires : goal.arrive-requires
 arrive-requires c = let a = c.args in
@@ -53,7 +53,7 @@ returns-then-r c = let a = c.args in
     let e = c.in_ok-gathered.ensures.refusal in
     let b = body_of a.b.now in
     let none = sym e in
-    push_leaves a.r.now m b a.words.now a.numbers.now none (sym c.in_ok-check_push.ensures) _ _ c.arrive.ensures.arrived c.if-r.true c.freeze_oldest.ensures.promised
+    push_leaves a.r.now m b a.words.now a.numbers.now none (sym c.in_ok-check_push.ensures) _ _ c.arrive.ensures.arrived c.if-r.true c.freeze_oldest.ensures
 
 pub returns : goal.returns
 returns c = let a = c.args in

@@ -1,6 +1,6 @@
 use Prim.Native.Nat.{ℕ, ◌+◌, ◌<◌}
-use mathlib.Core.Path.{◌≡◌, refl, sym, ap, ◌∙◌}
-use mathlib.Core.List.{List, map}
+use mathlib.Core.Path.{◌≡◌, refl, sym, ap, subst, ◌∙◌}
+use mathlib.Core.List.{List, map, flat_map}
 use lib.ListN.{length, take, replicate, length-replicate}
 use Rattle.bounds.specs.Bounds.{ACCEPTED, DETECTIONS}
 use Rattle.kf.specs.declared.filter.Dot.{Dot}
@@ -16,7 +16,8 @@ use Rattle.search.specs.Represents.{Represents, Finds}
 use Rattle.fgo_state.specs.declared.state.FixedLagRefiner.{FixedLagRefiner}
 use Rattle.fgo_part.specs.Parts.{table_in}
 use Rattle.fgo_state.specs.declared.state.Memory.{Memory}
-use Rattle.fgo_state.specs.Memory.{scan_in, scans_in, owners_in}
+use Rattle.fgo_state.specs.Memory.{scan_in, scans_in, owner_words, owners_in}
+use Rattle.fgo_state.specs.Contents.{ids_put}
 use Rattle.fgo_state.specs.Gathering.{found_of, dots_of, latest_of, GatheredAll, StartsWithin, Scattered, held_latest}
 use Rattle.fgo_arrive.specs.Arriving.{SearchesHeld, SearchedHeld, improved_in}
 use Rattle.fgo_spec.proofs.Rows.{row_of}
@@ -33,17 +34,26 @@ searched_by :
     (ids columns' owners' : List ℕ) (t : Tally) → length ids ≡ DETECTIONS →
     Finds (scene_of (record { config = r.config; first = r.first; detections = n; frozen = r.frozen }) ts dots m.parts.tracks m.parts.filters) r.next_id.0 r.counters
     (table_in m.parts.tracks m.parts.filters r.frozen) (scans_in m.scans.bodies m.scans.columns r.first.0 r.held) ids t →
-    Scattered m.scans.bodies r.first.0 r.held ids m.scans.columns columns' →
+    {held : ℕ} → held ≡ r.held → Scattered m.scans.bodies r.first.0 held ids m.scans.columns columns' →
+    owners' ≡ over 0 (flat_map owner_words (owners_in owners' r.owned)) m.owners →
     owners_in owners' r.owned ≡ held_latest ids (take n es') ts r.held (owners_in m.owners r.owned) → SearchedHeld r m columns' owners' t
-searched_by r m w n is es is' es' ts dots g es-long ids columns' owners' t long f s o =
+searched_by r m w n is es is' es' ts dots g es-long ids columns' owners' t long f {held} many put oc o =
     record {
-      scans = scans_put_back m.scans.bodies m.scans.columns r.first.0 r.held n is es is' es' ts w.held g s ∙ sym f.scans;
+      scans = found;
       bodies = λ i l. ap (body_refusal) (s.same i l) ∙ w.held.passes i l;
+      columns_put = s.put ∙ ap (λ ss. ids_put r.first.0 ss m.scans.columns) (sym s.scans ∙ found);
+      owners_put = oc;
       owners = o ∙ ap (λ (h : ℕ × ℕ → ℕ × ℕ). map h (owners_in m.owners r.owned)) (λ z p. (p.0, same p.0 p.1 z));
       next_id = f.next_id;
       counters = f.counters;
     }
   where
+    s : Scattered m.scans.bodies r.first.0 r.held ids m.scans.columns columns'
+    s = subst (λ (k : ℕ). Scattered m.scans.bodies r.first.0 k ids m.scans.columns columns') many put
+
+    found : scans_in m.scans.bodies columns' r.first.0 r.held ≡ (improved_in r m).search.scans
+    found = scans_put_back m.scans.bodies m.scans.columns r.first.0 r.held n is es is' es' ts w.held g s ∙ sym f.scans
+
     scan : ℕ → Scan
     scan = scan_in m.scans.bodies m.scans.columns
 
@@ -94,4 +104,4 @@ returns-clause-found c = let f = c.args in
     let k = c.requires.gathered.as_many in
     let v = c.improve-t.ensures in
     searched_by f.r.now f.m.now w _ _ _ _ _ _ _ g refl _ _ _ _ v.long (v.found _ _ (represents_held f.r.now f.m.now w _ _ _ _ _ _ _ g d))
-    (rw k at c.scatter.ensures.ids) (rw (k, c.of-index.ensures) at c.hold_latest.ensures)
+    k c.scatter.ensures.ids c.hold_latest.ensures.cells (rw (k, c.of-index.ensures) at c.hold_latest.ensures.latest)

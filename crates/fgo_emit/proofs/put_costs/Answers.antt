@@ -4,7 +4,7 @@ use Rattle.engine.specs.Body.{body_of}
 use Rattle.fgo_spec.specs.Emitting.{cost_number}
 use Rattle.fgo_emit.specs.Writing.{costs_in}
 use Rattle.fgo_emit.proofs.Associations.{costs_long}
-use Rattle.fgo_emit.proofs.Filling.{filled}
+use Rattle.buffers.proofs.Filling.{filled}
 use Rattle.fgo_emit.proofs.put_costs.Goals as goal
 
 pub returns : goal.returns

@@ -1,7 +1,7 @@
 use Rattle.std.proofs.Common.{arith, ◌≡◌, ◌+◌, ◌-◌}
 use Rattle.engine.specs.Body.{body_of, frame_in}
 use Rattle.fgo_state.proofs.Counts.{sensors_long}
-use Rattle.fgo_emit.proofs.Filling.{filled}
+use Rattle.buffers.proofs.Filling.{filled}
 use Rattle.fgo_emit.proofs.put_sensors.Goals as goal
 
 pub returns : goal.returns

@@ -4,13 +4,13 @@ use mathlib.Core.Path.{sym, subst}
 use mathlib.Core.List.{List}
 use lib.ListN.{length-take}
 use lib.Ieee.{Float}
-use Rattle.buffers.specs.Answer.{Reply, refused, waits, gives, answer_of, words_after, Answer}
+use Rattle.buffers.specs.Answer.{Op, Reply, refused, waits, gives, answer_of, words_after, Answer}
+use Rattle.engine.specs.Body.{Body}
 use Rattle.fgo_spec.specs.Emitting.{Emitted, words_of, written}
-use Rattle.fgo_spec.specs.Refiner.{State}
 use Rattle.fgo_state.specs.declared.state.FixedLagRefiner.{FixedLagRefiner}
 use Rattle.fgo_state.specs.declared.state.Memory.{Memory}
 use Rattle.fgo_state.specs.Memory.{state_of}
-use Rattle.fgo.specs.Promise.{GivenSized, Promised}
+use Rattle.fgo.specs.Promise.{due, GivenSized, Promised}
 use Rattle.smoother_frame.specs.Frame.{Counts}
 use Rattle.print.specs.Printed.{Counted}
 use Rattle.print.proofs.Fitting.{ready, short_answer_few}
@@ -28,9 +28,9 @@ counted (gives e) ws h =
 
 -- likewise of a call's answer and its buffer
 given :
-    {a : Reply Emitted × State} {r r' : FixedLagRefiner} {m m' : Memory} {ws ws' : List ℕ} {ns ns' : List Float} {answer : Answer} →
-    Promised a r m ws ns answer r' m' ws' ns' → Counted answer ws'
-given {a} {ws = ws} h = rw (h.ends.answered, h.ends.words) (counted a.0 ws h.sized)
+    {o : Op Body} {r r' : FixedLagRefiner} {m m' : Memory} {ws ws' : List ℕ} {ns ns' : List Float} {answer : Answer} →
+    Promised o r m ws ns answer r' m' ws' ns' → Counted answer ws'
+given {o} {r} {m = m} {ws = ws} {ns = ns} h = rw (h.ends.answered, h.ends.words) (counted (due r m o ws ns).0 ws h.sized)
 
 pub invariant_of-shown : goal.invariant_of-shown
 invariant_of-shown c = record { shown = shown written state_of c.push-answer.ensures.ends }

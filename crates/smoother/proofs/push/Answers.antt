@@ -92,4 +92,5 @@ returns c =
     let h = had_when _ _ c.well_formed-formed.ensures c.in_ok-frame.ensures.value in
     let v = window c.store.new.words c.store.new.values in
     let d = rw h.1 at c.store.ensures in
-    push_gives g.s.now w ws ns f z h.0 c.store.new.self v d c.if-s.false c.emit_oldest.ensures c.emit_oldest.auto.words c.emit_oldest.auto.numbers
+    let n = c.emit_oldest.auto in
+    push_gives g.s.now w ws ns f z h.0 c.store.new.self v d c.if-s.false c.emit_oldest.ensures n.window n.values n.words n.numbers

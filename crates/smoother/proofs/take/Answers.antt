@@ -48,4 +48,5 @@ returns c =
     let w = window g.window.now g.values.now in
     let ws = g.words.now in
     let ns = g.numbers.now in
-    gives_oldest taken g.s.now w ws ns g.s.now w refl refl (due_passed taken g.s.now w ws ns (sym c.in_ok-check_call.ensures)) (omega (arith, c.if-s-eq0.false)) c.emit_oldest.ensures c.emit_oldest.auto.words c.emit_oldest.auto.numbers
+    let n = c.emit_oldest.auto in
+    gives_oldest taken g.s.now w ws ns g.s.now w (due_passed taken g.s.now w ws ns (sym c.in_ok-check_call.ensures)) refl refl c.emit_oldest.ensures n.window n.values n.words n.numbers

@@ -28,4 +28,7 @@ loop-k-preserved c = let a = c.args in
 
 pub returns : goal.returns
 unfolding kept_owners
-returns c = compacts_all _ _ _ c.loop-k.invariant c.loop-k-test.false
+returns c =
+    let few : OWNER * c.args.owned ≤ length c.args.owners.now = omega (arith, c.requires) in
+    let both = compacts_all _ _ _ c.loop-k.invariant c.loop-k-test.false few c.clear.ensures in
+    record { cells = both.0; kept = both.1 }

@@ -1,13 +1,16 @@
 use Prim.Native.Nat.{ℕ, ◌+◌, ◌≤◌}
 use native.Mathlib.Numerals.{add-one}
 use native.Mathlib.Omega.{arith}
-use mathlib.Core.Path.{◌≡◌, refl, ap, ◌∙◌, subst}
-use lib.ListN.{take}
+use mathlib.Core.Path.{◌≡◌, refl, sym, ap, ◌∙◌, subst}
+use lib.ListN.{length, take}
 use lib.Seq.{take_all}
 use borrow.Author.Rules.{rules}
+use Rattle.bounds.specs.Bounds.{OWNERS}
 use Rattle.engine.specs.Body.{body_of, frame_in, associations_in}
 use Rattle.fgo_place.specs.Placing.{placed_all, Placed, begins}
 use Rattle.fgo_state.proofs.Counts.{associations_long, associations_few}
+use Rattle.fgo_state.proofs.OwnerCells.{owners_over}
+use Rattle.fgo_place.proofs.Owners.{grown_none, grown_more}
 use Rattle.fgo_place.proofs.PlacingSteps.{placed-more}
 use Rattle.fgo_place.proofs.place.place_all.Goals as goal
 
@@ -18,6 +21,7 @@ loop-j-init c = let f = c.args in
       omega arith,
       low,
       (unfold placed_all in record { few = f.begun.few; owners_long = search rules; ids_long = search rules; ids_are = refl; owners_are = refl; next_is = refl }),
+      grown_none f.begun.owned f.owners.now,
     )
 
 pub place_one-p-requires : goal.place_one-p-requires
@@ -42,10 +46,18 @@ loop-j-preserved c = let f = c.args in
       omega arith,
       omega arith,
       rw (step, ← c.association.ensures) (c.place_one-p.ensures.placed _ v.2),
+      grown_more v.3 c.place_one-p.ensures.grown,
     )
 
-pub returns : goal.returns
-returns c = let f = c.args in
+pub returns-clause-cells : goal.returns-clause-cells
+returns-clause-cells c = let f = c.args in
+    let l = c.loop-j in
+    let v = l.invariant in
+    let long : length f.owners.now ≡ OWNERS = search rules in
+    owners_over l.p.owned l.owners f.owners.now (omega (arith, v.2.few)) (v.2.owners_long ∙ sym long) v.3.rest
+
+pub returns-clause-placed : goal.returns-clause-placed
+returns-clause-placed c = let f = c.args in
     let l = c.loop-j in
     let v = c.loop-j.invariant in
     let left = c.loop-j-test.false in

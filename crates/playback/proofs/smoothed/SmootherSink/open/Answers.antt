@@ -1,15 +1,40 @@
+use Prim.Native.Nat.{◌≤◌}
 use native.Mathlib.Omega.{arith}
-use mathlib.Core.Path.{sym}
+use mathlib.Core.Path.{sym, subst, ◌∙◌}
+use lib.ListN.{length}
 use lib.Seq.{length-take-le}
+use Rattle.smoother.specs.Promise.{Window, window, lent_of}
+use Rattle.playback.specs.Smoothed.{Smoothed}
+use Rattle.playback.proofs.Opening.{refused_keeps, opens_long}
 use Rattle.playback.proofs.Playing.{opened_serves}
 use Rattle.playback.proofs.smoothed.SmootherSink.open.Goals as goal
 
-pub slice_bounds-open-end-2 : goal.slice_bounds-open-end-2
-slice_bounds-open-end-2 c = sym (length-take-le c.window_size-size.result.numbers _ (omega (arith, c.requires, c.window_size-size.ensures)))
+pub open_over-requires : goal.open_over-requires
+open_over-requires c = (omega (arith, c.requires, c.window_size-size.ensures), omega (arith, c.requires, c.window_size-size.ensures))
 
-pub invariant_of-result : goal.invariant_of-result
-invariant_of-result c =
+pub invariant_of-self : goal.invariant_of-self
+invariant_of-self c =
+    let s = c.args.self.now in
+    let size = c.window_size-size.result in
+    let w : Window = window s.words s.values in
+    let w' : Window = window c.open_over.new.window c.open_over.new.values in
+    let long : size.words ≤ length s.words = omega (arith, c.requires, c.window_size-size.ensures) in
+    let deep : size.numbers ≤ length s.values = omega (arith, c.requires, c.window_size-size.ensures) in
+    let e = c.open_over.ensures in
+    let same = refused_keeps _ size w (long, deep) w' _ (length-take-le size.words _ long) (length-take-le size.numbers _ deep) c.in_err-self.was e.opened e.window e.rest in
+    record { fits = s.fits; led = subst (λ (v : Window). ∥ Smoothed s.state (lent_of s.size v) ∥₁) (sym same) s.led }
+
+pub invariant_of-self-2 : goal.invariant_of-self-2
+invariant_of-self-2 c =
+    let s = c.args.self.now in
+    let size = c.window_size-size.result in
+    let w : Window = window s.words s.values in
+    let w' : Window = window c.open_over.new.window c.open_over.new.values in
+    let long : size.words ≤ length s.words = omega (arith, c.requires, c.window_size-size.ensures) in
+    let deep : size.numbers ≤ length s.values = omega (arith, c.requires, c.window_size-size.ensures) in
+    let e = c.open_over.ensures in
+    let l = opens_long _ (lent_of size w) (lent_of size w') e.window in
     record {
       fits = (omega (arith, c.requires, c.window_size-size.ensures), omega (arith, c.requires, c.window_size-size.ensures));
-      led = ∣ opened_serves _ _ c.in_ok-state.was c.open.ensures.opened ∣₁;
+      led = ∣ opened_serves _ _ (l.0 ∙ length-take-le size.words _ long) (l.1 ∙ length-take-le size.numbers _ deep) c.in_ok-self.was e.opened ∣₁;
     }

@@ -1,0 +1,58 @@
+-- A smoother before it is opened, and after an opening that is refused. Assumes nothing.
+use Prim.Native.Nat.{ℕ, zero, suc}
+use mathlib.Core.Path.{◌≡◌, refl, sym, ap, ◌∙◌}
+use lib.ListN.{length, length-replicate}
+use Rattle.std.specs.Prelude.{Result, Ok, Err}
+use Rattle.std.specs.Float.{binary64}
+use Rattle.std.specs.Float.Ieee.{of_bits}
+use Rattle.bounds.specs.Bounds.{TRACKS, words_for, numbers_for}
+use Rattle.refusals.specs.declared.Refusal.{Refusal}
+use Rattle.refusals.specs.Refusals.{number_of}
+use Rattle.buffers.specs.Answer.{Opening, opened, unopened, opened_by, left_by}
+use Rattle.smoother_window.specs.declared.FixedLagSmoother.{FixedLagSmoother}
+use Rattle.smoother_window.specs.declared.SmootherConfig.{SmootherConfig}
+use Rattle.smoother_window.specs.declared.size.WindowSize.{WindowSize}
+use Rattle.smoother_window.specs.Config as Config
+use Rattle.smoother_window.specs.Window.{frames_from}
+use Rattle.scalar.specs.Scalar.{finite}
+use Rattle.smoother.specs.Smoother.{State, new, window_fits, open_refusal, opens}
+use Rattle.smoother.specs.Promise.{Window, state_in, new_by, opening_of, Opens, emptied, lent_of, rest_of}
+use Rattle.smoother.proofs.Fronts.{Within, left_whole}
+use Rattle.playback.specs.Smoothed.{Smoothed}
+use Rattle.playback.proofs.Playing.{opened_serves}
+
+-- the settings before it is opened
+abbrev first : SmootherConfig
+first = record { lag_frames = 0; accel_spectral_density = of_bits binary64 0; max_tracks = TRACKS }
+
+first_opens : (w : Window) → opening_of (Ok (new_by first)) w ≡ opens first (words_for TRACKS) (numbers_for TRACKS)
+unfolding opens open_refusal Config.legal Config.bounded window_fits finite of_bits state_in frames_from
+first_opens w = refl
+
+-- it holds nothing, as if it had been opened with lag 0
+pub first_serves : (w : Window) → length w.words ≡ words_for TRACKS → length w.numbers ≡ numbers_for TRACKS → Smoothed (new_by first) w
+first_serves w long deep = opened_serves first w long deep refl (first_opens w)
+
+-- an opening leaves a window as long as it was
+pub opens_long : (d : SmootherConfig) (w w' : Window) → Opens d w w' → (length w'.words ≡ length w.words) × (length w'.numbers ≡ length w.numbers)
+opens_long d w w' e = go (open_refusal d (length w.words) (length w.numbers)) e
+  where
+    go : (n : ℕ) → w' ≡ left_by n (emptied w) w → (length w'.words ≡ length w.words) × (length w'.numbers ≡ length w.numbers)
+    go zero e = (ap (λ w. length w.words) e ∙ length-replicate (length w.words) 0, ap (λ w. length w.numbers) e ∙ length-replicate (length w.numbers) (of_bits binary64 0))
+    go (suc n) e = (ap (λ w. length w.words) e, ap (λ w. length w.numbers) e)
+
+-- an opening over the front of a window that is refused leaves the whole as it was
+module _ (d : SmootherConfig) (size : WindowSize) (w : Window) (h : Within size w) where
+  pub refused_keeps :
+      (w' v : Window) {o : Result FixedLagSmoother Refusal} {r : Refusal} → length (lent_of size w).words ≡ size.words →
+      length (lent_of size w).numbers ≡ size.numbers → o ≡ Err r → opening_of o v ≡ opens d size.words size.numbers →
+      Opens d (lent_of size w) (lent_of size w') → rest_of size w' ≡ rest_of size w → w' ≡ w
+  unfolding opens
+  refused_keeps w' v {r = r} long deep e opening left rest =
+      let n : ℕ = open_refusal d (length (lent_of size w).words) (length (lent_of size w).numbers) in
+      left_whole size w h w' n rest left
+      ∙ stays _ _ _ n (sym (ap (λ o. opening_of o v) e) ∙ opening ∙ (λ i. opened_by (open_refusal d (sym long i) (sym deep i)) (new d)))
+    where
+      stays : (a b : Window) (s : State) (n : ℕ) → unopened (number_of r) ≡ opened_by n s → left_by n a b ≡ b
+      stays a b s zero q = cc
+      stays a b s (suc n) q = refl
