@@ -2,7 +2,7 @@
 import math
 import struct
 
-from .cells import FIRST, LAG, NEXT, OWNED, Image, changes
+from .cells import BODY, COLUMN, FILTER, FIRST, FROZEN, LAG, NEXT, OWNED, PART, Image, changes
 from .refiner_changes import class_word, filter_values, owners_in_another_order, past_the_counts
 from .refiner_clauses import CLAUSES, sum_of_nine_holds
 from .refiner_kinds import broken_once, generate, hall, parts
@@ -117,18 +117,19 @@ def kept(out):
 
 
 def alike(out, scans, last):
-    """A refiner and a smoother are opened and get these scans, then the last one. The digest, when that alone is held,
-    and when all is taken, from the smoother too."""
+    """A refiner and a smoother are opened and get these scans, then the last one. The digest before that one, when that
+    alone is held, and when all is taken, from the smoother too."""
     out.add(opening(generate.settings(lag=2, forget=STEP)), smoother(2, bits(0.5), 128))
-    for b in scans + [last]:
+    for b in scans:
         out.add(push(b), PUSH_LAST)
-    out.add(TAKE, PUSH_LAST, DIGEST, TAKE, PUSH_LAST, TAKE_SMOOTHED, TAKE_SMOOTHED, DIGEST)
+    out.add(DIGEST, push(last), PUSH_LAST, TAKE, PUSH_LAST, DIGEST, TAKE, PUSH_LAST, TAKE_SMOOTHED, TAKE_SMOOTHED, DIGEST)
 
 
 def forgotten(out):
-    """What is kept of people: lists of calls that differ and end alike. Two of other dots, all of them clutter but for an
-    equal last scan; two of other people, who have all been forgotten when the last scan comes. The first numbers of the
-    digests of each two are equal, and so are the second ones at the end."""
+    """What is kept of people: lists of calls that differ and end alike. Two of other dots, all of them clutter but for
+    an equal last scan; two of other people, who have all been forgotten when the last scan comes. Once it alone is
+    held, and of the people before it too, the first numbers of the digests of each two are equal; at the end the second
+    ones are too."""
     r = out.r
     out.add(lend_window(*window(2, 128)))
     for n in (3, 9):
@@ -142,6 +143,27 @@ def forgotten(out):
         alike(out, scans + [scan(STEP * k, [None]) for k in range(40, 44)], scan(44 * STEP, [7, None, 8]))
 
 
+def next_cells(s):
+    """Calls that write the first cells that no count reaches: past each body and each scan's ids, past the owners, the
+    frozen parts and the heights of each."""
+    held, frozen = s.slots(), s.fields[FROZEN]
+    bodies = [(1, BODY * slot + len(s.body(slot)), 5) for slot in held]
+    columns = [(2, COLUMN * slot + 1 + s.body(slot)[3], 9) for slot in held]
+    heights = [(5, FILTER * k + 8 + n, bits(0.5)) for k in range(frozen) if (n := s.tracks[PART * k + 5]) < 5]
+    return [write(*c) for c in bodies + columns + heights + [(3, 2 * s.fields[OWNED], 9), (4, PART * frozen, 9), (5, FILTER * frozen, bits(0.5))]]
+
+
+def littered(out):
+    """A refiner in whose memory the caller writes past the counts before each push: it stays where it was written, or
+    is cleared with what was in use before it. Then a smoother, opened again over a window that was in use."""
+    _, bodies = parts(generate.make("grid", 190))  # people are forgotten, and scans are empty
+    out.add(opening(generate.settings(lag=1, forget=2 * STEP)))
+    for b in bodies:
+        out.add(*next_cells(Image.after(out)), push(b))
+    again = smoother(2, bits(0.7), 2)
+    out.add(DIGEST, lend_window(*window(2, 2)), again, *[push_frame(*some(out.r, k)) for k in (1, 2)], DIGEST, again, DIGEST)
+
+
 def sample(out):
     """What `rt ci` plays: a little of each kind, every code, every refusal but those of a recording, and a bad call at
     the end."""
@@ -150,4 +172,5 @@ def sample(out):
     full(out)
     kept(out)
     forgotten(out)
+    littered(out)
     out.add(write(1, 0, 256), COUNTERS)

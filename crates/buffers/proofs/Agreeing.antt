@@ -1,5 +1,5 @@
--- Lists that agree in part: there they say the same, and one that agrees outside of a place is the other one written over
--- there. Assumes nothing.
+-- Lists that agree in part: there they say the same, and one that agrees outside of a place is the other one written
+-- over there. Assumes nothing.
 use Prim.Native.Nat.{ℕ, ◌+◌, ◌-◌, ◌≤◌, ◌<◌, min}
 use native.Mathlib.Nat.{zero-add}
 use native.Mathlib.Omega.{arith}

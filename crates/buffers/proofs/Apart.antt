@@ -191,29 +191,7 @@ module _ {A : Type 0} where
     pub renewed_laid : (n m : ℕ) (g h : List A) → length h ≤ n → n ≤ m → renewed z n g (over 0 h (replicate m z)) ≡ over 0 g (replicate m z)
     renewed_laid n m g h few fits = ap (over 0 g) (clear_again 0 n m h few (omega arith))
 
-    -- over one that was written anew: a cells were in use, and b before it
-    module _ (a b : ℕ) (g h l : List A) (few : length g ≤ a) where
-      pub renewed_twice : a ≤ b → b ≤ length l → renewed z a h (renewed z b g l) ≡ renewed z b h l
-      renewed_twice c fits =
-          let x = length-replicate b z in
-          let y = length-replicate a z in
-          let cells : cleared z 0 a (cleared z 0 b l) ≡ cleared z 0 b l =
-          over_within 0 0 (replicate b z) (replicate a z) l (omega (arith, x, y)) (omega (arith, x))
-          ∙ ap (λ k. over 0 k l) (clear_stays 0 a b (omega arith)) in
-          ap (over 0 h) (cleared_over 0 a g (cleared z 0 b l) few (omega (arith, length_over 0 (replicate b z) l (omega (arith, x)))) ∙ cells)
-
-      pub renewed_wider : b ≤ a → a ≤ length l → renewed z a h (renewed z b g l) ≡ renewed z a h l
-      renewed_wider c fits =
-          let x = length-replicate b z in
-          ap (over 0 h)
-          (cleared_over 0 a g (cleared z 0 b l) few (omega (arith, length_over 0 (replicate b z) l (omega (arith, x))))
-          ∙ cleared_over 0 a (replicate b z) l (omega (arith, x)) (omega arith))
-
     module _ (n : ℕ) (g l : List A) where
-      -- all that was in use is written
-      pub renewed_full : n ≤ length g → length g ≤ length l → renewed z n g l ≡ over 0 g l
-      renewed_full few fits = let a = length-replicate n z in over_covered 0 0 g (replicate n z) l (omega arith) (omega (arith, a)) (omega arith)
-
       -- the front is written, and the rest of what was in use cleared
       pub renewed_by : length g ≤ n → n ≤ length l → cleared z (length g) (n - length g) (over 0 g l) ≡ renewed z n g l
       unfolding over

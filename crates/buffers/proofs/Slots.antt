@@ -27,12 +27,9 @@ apart_in_round n a b h k e = go (dec_lt (a / n) (b / n))
         let q : b / n ≤ a / n = omega arith in
         omega (arith, mul-le-mul_right n q, div-add-mod' a n, div-add-mod' b n)
 
--- the first of some in a row is none of the others, and so is the last
+-- the first of some in a row is none of the others
 pub first_in_round : (n a m : ℕ) → m < n → (i : ℕ) → i < m → a % n ≡ (suc a + i) % n → ⊥
 first_in_round n a m h i k = apart_in_round n a (suc a + i) (omega arith) (omega arith)
-
-pub last_in_round : (n a m : ℕ) → m < n → (i : ℕ) → i < m → (a + m) % n ≡ (a + i) % n → ⊥
-last_in_round n a m h i k e = apart_in_round n (a + i) (a + m) (omega arith) (omega arith) (sym e)
 
 -- no list is longer than a slot
 abbrev pub Narrow : {A : Type 0} → ℕ → List (List A) → Type 0

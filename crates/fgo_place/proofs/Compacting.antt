@@ -1,4 +1,4 @@
--- The owner table, those that pass a test moved together. Assumes nothing.
+-- The owner table, those that pass a test moved together, and the others cleared. Assumes nothing.
 use Prim.Native.Nat.{ℕ, ◌+◌, ◌-◌, ◌*◌, ◌≤◌, ◌<◌}
 use native.Mathlib.Omega.{arith}
 use mathlib.Core.Path.{◌≡◌, refl, sym, ap, ◌∙◌}

@@ -14,7 +14,7 @@ use Rattle.buffers.specs.Buffers.{over}
 use Rattle.buffers.proofs.Over.{length_over, over-before, over_in, over_after}
 use Rattle.engine.specs.Body.{rows}
 use Rattle.fgo_spec.specs.Lists.{assign}
-use Rattle.fgo_state.specs.Memory.{engine_at, owner_entry, owners_in}
+use Rattle.fgo_state.specs.Memory.{engine_at, owner_entry, owner_words, owners_in}
 use Rattle.buffers.proofs.Agreeing.{drop_later, drop_over}
 use Rattle.fgo_place.specs.Placing.{assigned_in, Grown}
 use Rattle.engine.proofs.Passing.{length-rows}
@@ -43,19 +43,19 @@ module _ (owners : List ℕ) (e n k x : ℕ) where
 
 -- the table with an entry put at place w
 abbrev pub owning : List ℕ → ℕ → ℕ → ℕ → List ℕ
-owning os w e x = over (OWNER * w) (e ∷ x ∷ []) os
+owning os w e x = over (OWNER * w) (owner_words (e, x)) os
 
 pair_same : {a a' b b' : ℕ} → a ≡ a' → b ≡ b' → ◌≡◌ {A = ℕ × ℕ} (a, b) (a', b')
 pair_same e f = rw (e, f)
 
 module _ (os : List ℕ) (w e x : ℕ) (room : OWNER * w + OWNER ≤ length os) where
   pub owning_long : length (owning os w e x) ≡ length os
-  owning_long = length_over (OWNER * w) (e ∷ x ∷ []) os room
+  owning_long = length_over (OWNER * w) (owner_words (e, x)) os room
 
   pub owning_at : owner_entry (owning os w e x) w ≡ (e, x)
   owning_at =
-      let first : engine_at (owning os w e x) w ≡ e = rw add-zero at (over_in (OWNER * w) (e ∷ x ∷ []) os room 0 0 (lit< tt)) in
-      pair_same first (over_in (OWNER * w) (e ∷ x ∷ []) os room 1 0 (lit< tt))
+      let first : engine_at (owning os w e x) w ≡ e = rw add-zero at (over_in (OWNER * w) (owner_words (e, x)) os room 0 0 (lit< tt)) in
+      pair_same first (over_in (OWNER * w) (owner_words (e, x)) os room 1 0 (lit< tt))
 
   -- the others are as they were
   pub owning_else : (i : ℕ) → (i ≡ w → ⊥) → owner_entry (owning os w e x) i ≡ owner_entry os i
@@ -64,14 +64,14 @@ module _ (os : List ℕ) (w e x : ℕ) (room : OWNER * w + OWNER ≤ length os) 
       go : (b : Bool) → ltb i w ≡ b → owner_entry (owning os w e x) i ≡ owner_entry os i
       go true q =
           let h = ltb-true i w q in
-          pair_same (over-before (OWNER * w) (e ∷ x ∷ []) os room (OWNER * i) 0 (omega arith)) (over-before (OWNER * w) (e ∷ x ∷ []) os room (OWNER * i + 1) 0 (omega arith))
+          pair_same (over-before (OWNER * w) (owner_words (e, x)) os room (OWNER * i) 0 (omega arith)) (over-before (OWNER * w) (owner_words (e, x)) os room (OWNER * i + 1) 0 (omega arith))
       go false q =
           let h : w < i = omega (arith, ltb-false i w q, ne) in
-          pair_same (over_after (OWNER * w) (e ∷ x ∷ []) os room (OWNER * i) 0 (omega arith)) (over_after (OWNER * w) (e ∷ x ∷ []) os room (OWNER * i + 1) 0 (omega arith))
+          pair_same (over_after (OWNER * w) (owner_words (e, x)) os room (OWNER * i) 0 (omega arith)) (over_after (OWNER * w) (owner_words (e, x)) os room (OWNER * i + 1) 0 (omega arith))
 
   -- and so is all that is past n of them
   pub owning_rest : (n : ℕ) → w < n → drop (OWNER * n) (owning os w e x) ≡ drop (OWNER * n) os
-  owning_rest n h = drop_over (OWNER * w) (e ∷ x ∷ []) os room (OWNER * n) (omega arith)
+  owning_rest n h = drop_over (OWNER * w) (owner_words (e, x)) os room (OWNER * n) (omega arith)
 
   pub owning_same : (o m : ℕ) → ((i : ℕ) → o ≤ i → i < o + m → i ≡ w → ⊥) → rows (owner_entry os) o m ≡ rows (owner_entry (owning os w e x)) o m
   owning_same o m d = rows_same (owner_entry os) (owner_entry (owning os w e x)) o m (λ i a b. sym (owning_else i (d i a b)))

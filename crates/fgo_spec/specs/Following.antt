@@ -46,4 +46,5 @@ pub record Followed (c : FgoConfig) (ops : List (Op Body)) : Type 0 where
       (e x y : ℕ) → 0 < x → Memᴰ (e, x) (sightings (standing c ops)) → T (live (run c ops).state.prefixes (run c ops).state.scans x) →
       Memᴰ (e, y) (sightings (s ∷ [])) → y ≡ x
 
--- the theorem, in proofs/: followed : (c : FgoConfig) → max_passes_of c ≡ 0 → (ops : List (Op Body)) → Followed c ops
+-- the theorem, in proofs/:
+-- followed : (c : FgoConfig) → max_passes_of c ≡ 0 → (ops : List (Op Body)) → Followed c ops

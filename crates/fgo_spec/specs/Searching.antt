@@ -223,8 +223,8 @@ module _ (c : FgoConfig) (first : ℕ) (ps : List (ℕ × Prefix)) where
 
   -- ---- the best move of a pair: "The base is the old cost of a plus the old cost of b"
 
-  -- "d = (new cost of a + new cost of b) − base"; a swap that leaves a's window equal never wins (proofs/NoGain.antt),
-  -- so that it is as if skipped
+  -- "d = (new cost of a + new cost of b) − base"; a swap that leaves a's window equal never wins
+  -- (proofs/NoGain.antt), so that it is as if skipped
   unfoldable pub try_swap : ℕ → ℕ → List Scan → Float → ℕ → PairMove
   try_swap a b ss base f =
       let t = swapped a b f ss in

@@ -1,9 +1,8 @@
 -- Held scans, the windows of the tracks, and what a window costs. Definitions only.
 --
 -- A held scan has, for each of its associations in order, the refined id of the track in whose window the association
--- lies, 0 where it is clutter.
--- So each held association lies in exactly one window or in clutter, and a window is read off the scans, rising in
--- scan. A track is live where it has a frozen part or a window: nothing else is kept of it.
+-- lies, 0 where it is clutter. So each held association lies in exactly one window or in clutter, and a window is read
+-- off the scans, rising in scan. A track is live where it has a frozen part or a window: nothing else is kept of it.
 use Rattle.std.specs.Prelude.{ℕ, suc, Bool, cond, ◌||◌, length, get_or, eqb, ltb, ℤ, Float, None, Some}
 use mathlib.Core.List.{List, [], ◌∷◌, ◌++◌, map, flat_map, foldr}
 use Rattle.std.proofs.Math.Option.{Option, none, some}

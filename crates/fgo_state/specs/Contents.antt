@@ -28,8 +28,9 @@ unfoldable pub ids_put : ℕ → List Scan → List ℕ → List ℕ
 ids_put n [] columns = columns
 ids_put n (s ∷ ss) columns = ids_put (suc n) ss (over (COLUMN * slot_at n + 1) s.ids columns)
 
--- The frame of the body b arrived: its body and its column lie in its slot, the columns of all held scans have their
--- ids anew, and so have the owners. The owners that placing made, and that are not live, are cleared. No part changes.
+-- The frame of the body b arrived: its body and its column lie in its slot, and the columns of all held scans have
+-- their ids anew. The owners that stay lie at the front; those that went are cleared, also where placing made them. No
+-- part changes.
 abbrev pub arrived : FgoConfig → State → Body → Memory → Memory
 arrived c t b m =
     let p = placed t (frame_in b) in
@@ -54,7 +55,7 @@ slot_cleared n s =
     }
 
 -- The scan s left, and the scans ss stay: its slot is cleared, the owners and the frozen parts that stay lie at the
--- front, and those that went are cleared, also where a part was new.
+-- front, and those that went are cleared, also parts that freezing this scan made.
 abbrev pub departed : FgoConfig → State → Scan → List Scan → Memory → Memory
 departed c t s ss m =
     let u = leave c t s ss in

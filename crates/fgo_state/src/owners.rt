@@ -1,9 +1,9 @@
 // The owners of engine ids in lent memory: which refined id an engine id belongs to.
 // As it is, here and below: an array of words, of which an entry is OWNER: the published format of the lent memory.
-ghost use Rattle.std.specs.Prelude.{◌≡◌, ◌*◌, ◌<◌, ◌≤◌, [], ◌∷◌};
+ghost use Rattle.std.specs.Prelude.{◌≡◌, ◌*◌, ◌<◌, ◌≤◌};
 ghost use Rattle.bounds.specs.Bounds.{OWNED, OWNER};
 ghost use Rattle.buffers.specs.Buffers.{over};
-ghost use Rattle.fgo_state.specs.Memory.{engine_at, owner_at, owner_of};
+ghost use Rattle.fgo_state.specs.Memory.{engine_at, owner_at, owner_of, owner_words};
 ghost use Rattle.fgo_state.specs.Owners.{IsPlaceOf, engines_in, id_from};
 
 use bounds::{OWNED, OWNER, OWNERS};
@@ -29,7 +29,7 @@ pub fn owner_at(owners: &[u64; OWNERS], k: usize) -> RefinedId
 // As it is: both words by one `put`, as the clause says it: a store of each would be no plainer.
 pub fn put_owner(owners: &mut [u64; OWNERS], k: usize, e: EngineId, x: RefinedId)
     requires { k < OWNED }
-    ensures { owners.new ≡ over (OWNER * k) (e.0 ∷ x.0 ∷ []) owners.old }
+    ensures { owners.new ≡ over (OWNER * k) (owner_words (e.0, x.0)) owners.old }
 {
     buffers::put(owners, OWNER * k, &[e.0, x.0]);
 }

@@ -1,5 +1,5 @@
 -- From an opening on the refiner's memory is a function of the state and of the bodies held. Assumes nothing but that
--- each call is as the contracts of push and take say.
+-- the opening, and each call, is as its contract says.
 use Prim.Native.Nat.{ℕ, zero, suc, ◌+◌, ◌≤◌, ◌<◌}
 use native.Mathlib.Omega.{arith}
 use mathlib.Core.Path.{◌≡◌, refl, sym, ap, ◌∙◌, subst}

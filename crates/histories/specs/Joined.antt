@@ -106,4 +106,5 @@ pub record Joined (c : FgoConfig) (ks : List refiner.Call) (d : SmootherConfig) 
       (f : Written) → k.sent ≡ pushed f →
       (before after : List Written) → wrote ks ≡ before ++ (f ∷ after) → (n : ℕ) → k.answer ≡ Refused n → ⊥
 
--- the theorem, in proofs/: joined : .. → refiner.Session c r m ks → Session d s w js → InOrder ks js → Joined c ks d js
+-- the theorem, in proofs/:
+-- joined : .. → refiner.Session c r m ks → Session d s w js → InOrder ks js → Joined c ks d js

@@ -3,7 +3,7 @@
 --
 -- Opening clears, and each call gets the memory that came back from the one before it. Then the memory is that of the
 -- state and of the bodies held, as `laid` writes it: these in their places, and zero in every other cell. So two lists
--- of calls that lead to equal states, with equal bodies held, leave equal memory, bit for bit, and any NaN for a NaN:
+-- of calls that lead to equal states, with equal bodies held, leave equal memory, bit for bit, any NaN taken for a NaN:
 -- from the memory nothing can be told of a person who was forgotten, nor of a dot of a scan that was emitted, but for
 -- what the state says of those who are kept (crates/fgo_spec/specs/Refiner.antt): of a frozen part its filter, how many
 -- dots, the last five heights, the class, and the last dot's scan and time. The smoother likewise: its window is a

@@ -1,7 +1,6 @@
 // Reads frame bodies from standard input and prints one line for each: the refusal that it gets, and for a body that
-// passes its mode, time,
-// numbers of engine tracks, observations, associations and sensors, and for each association index, engine id ("-"
-// where it has none) and outcome.
+// passes its mode, time, numbers of engine tracks, observations, associations and sensors, and for each association
+// index, engine id ("-" where it has none) and outcome.
 //
 // In the input each body stands after its length, two bytes, little-endian. The cases are, in this order:
 // - bodies that pass: one with no rows; document 01's example; one with 32 engine tracks, 32 observations, 32

@@ -124,12 +124,6 @@ at_mid s (suc x) t a e p n z =
     sym here ∙ ap (λ (b : Bool). odd 53 b q x 1074) plus ∙ ap (λ (y : ℕ). odd 53 false q y 1074) (omega arith)
 
 -- ---- a number by the fields of its pattern
-pub positive_no_nan : (a : Float) → lt nil a ≡ true → T (not (is_nan a))
-unfolding lt is_nan of_bits
-positive_no_nan nan e = subst T (sym e) tt
-positive_no_nan (inf s) e = tt
-positive_no_nan (fin s m x) e = tt
-
 sign : ℕ → Bool
 sign b = leb 0x8000_0000_0000_0000 b
 

@@ -43,11 +43,3 @@ module _ (starts ids : List ℕ) (x : ℕ) where
   pub row_at : (k : ℕ) → k < SCANS → get_or (row_of starts ids x) k 0 ≡ row_entry starts ids x k
   unfolding row_of
   row_at k h = map_up_at (row_entry starts ids x) 0 SCANS k 0 h ∙ ap (row_entry starts ids x) (zero-add k)
-
-  -- the places are those of the detections gathered
-  pub row_within : Starts starts → (k : ℕ) → k < SCANS → get_or (row_of starts ids x) k 0 ≤ DETECTIONS
-  row_within s k h =
-      let a = get_or starts k 0 in
-      let b = get_or starts (suc k) 0 in
-      rw (row_at k h)
-      (omega (arith, slot_within x a (column_at starts ids k), length-take (b - a) (drop a ids), s.rises k h, starts_within s (suc k) h))

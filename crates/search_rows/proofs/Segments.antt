@@ -26,12 +26,6 @@ module _ {A : Type 0} where
       ∙ take-suc (drop a l) (b - a) z (omega (arith, length-drop a l))
       ∙ ap (λ (x : A). segment a b l ++ (x ∷ [])) (get_or-drop a l (b - a) z ∙ ap (λ (n : ℕ). get_or l n z) q)
 
-  -- its first entry, and the rest
-  pub segment-cons : (a b : ℕ) (l : List A) (z : A) → a < b → b ≤ length l → segment a b l ≡ get_or l a z ∷ segment (suc a) b l
-  segment-cons a b l z h g =
-      let e : b - a ≡ suc (b - suc a) = omega arith in
-      ap (λ (n : ℕ). take n (drop a l)) e ∙ ap (take (suc (b - suc a))) (drop-cons l a z (omega arith))
-
   -- the same part, cut off at its end first
   pub segment_cut : (a b : ℕ) (l : List A) → segment a b l ≡ drop a (take b l)
   segment_cut zero b l = ap (λ (n : ℕ). take n l) (sub-zero b)

@@ -1,4 +1,3 @@
 pub mod Forms
 pub mod Slots
 pub mod Storing
-pub mod Longest
