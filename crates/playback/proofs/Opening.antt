@@ -1,14 +1,14 @@
--- A smoother before it is opened, and after an opening that is refused. Assumes nothing.
+-- A smoother before it is opened, its window after an opening, and after one that is refused. Assumes nothing.
 use Prim.Native.Nat.{ℕ, zero, suc}
 use mathlib.Core.Path.{◌≡◌, refl, sym, ap, ◌∙◌}
-use lib.ListN.{length, length-replicate}
+use lib.ListN.{length, replicate, length-replicate}
 use Rattle.std.specs.Prelude.{Result, Ok, Err}
 use Rattle.std.specs.Float.{binary64}
 use Rattle.std.specs.Float.Ieee.{of_bits}
 use Rattle.bounds.specs.Bounds.{TRACKS, words_for, numbers_for}
 use Rattle.refusals.specs.declared.Refusal.{Refusal}
 use Rattle.refusals.specs.Refusals.{number_of}
-use Rattle.buffers.specs.Answer.{Opening, opened, unopened, opened_by, left_by}
+use Rattle.buffers.specs.Answer.{opened, unopened, opened_by, left_by}
 use Rattle.smoother_window.specs.declared.FixedLagSmoother.{FixedLagSmoother}
 use Rattle.smoother_window.specs.declared.SmootherConfig.{SmootherConfig}
 use Rattle.smoother_window.specs.declared.size.WindowSize.{WindowSize}
@@ -16,7 +16,7 @@ use Rattle.smoother_window.specs.Config as Config
 use Rattle.smoother_window.specs.Window.{frames_from}
 use Rattle.scalar.specs.Scalar.{finite}
 use Rattle.smoother.specs.Smoother.{State, new, window_fits, open_refusal, opens}
-use Rattle.smoother.specs.Promise.{Window, state_in, new_by, opening_of, Opens, emptied, lent_of, rest_of}
+use Rattle.smoother.specs.Promise.{Window, window, state_in, new_by, opening_of, Opens, emptied, lent_of, rest_of}
 use Rattle.smoother.proofs.Fronts.{Within, left_whole}
 use Rattle.playback.specs.Smoothed.{Smoothed}
 use Rattle.playback.proofs.Playing.{opened_serves}
@@ -40,6 +40,21 @@ opens_long d w w' e = go (open_refusal d (length w.words) (length w.numbers)) e
     go : (n : ℕ) → w' ≡ left_by n (emptied w) w → (length w'.words ≡ length w.words) × (length w'.numbers ≡ length w.numbers)
     go zero e = (ap (λ w. length w.words) e ∙ length-replicate (length w.words) 0, ap (λ w. length w.numbers) e ∙ length-replicate (length w.numbers) (of_bits binary64 0))
     go (suc n) e = (ap (λ w. length w.words) e, ap (λ w. length w.numbers) e)
+
+-- one that gives a smoother leaves it clear
+pub opens_clear :
+    (d : SmootherConfig) (w w' : Window) {words numbers : ℕ} {o : Result FixedLagSmoother Refusal} {s : FixedLagSmoother} →
+    length w.words ≡ words → length w.numbers ≡ numbers → o ≡ Ok s → opening_of o w' ≡ opens d words numbers → Opens d w w' → w' ≡ emptied w'
+unfolding opens
+opens_clear d w w' {s = s} long deep e opening left =
+    let q = sym (ap (λ o. opening_of o w') e) ∙ opening ∙ (λ i. opened_by (open_refusal d (sym long i) (sym deep i)) (new d)) in
+    let l = opens_long d w w' left in
+    go (open_refusal d (length w.words) (length w.numbers)) q left
+    ∙ (λ i. window (replicate (sym l.0 i) 0) (replicate (sym l.1 i) (of_bits binary64 0)))
+  where
+    go : (n : ℕ) → opened (state_in s w') ≡ opened_by n (new d) → w' ≡ left_by n (emptied w) w → w' ≡ emptied w
+    go zero q left = left
+    go (suc n) q left = cc
 
 -- an opening over the front of a window that is refused leaves the whole as it was
 module _ (d : SmootherConfig) (size : WindowSize) (w : Window) (h : Within size w) where

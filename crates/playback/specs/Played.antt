@@ -1,6 +1,8 @@
 -- What a run of a recording is: every frame pushed in order, then takes until none is held. Definitions only.
-use Rattle.std.specs.Prelude.{ℕ, suc, ◌<◌, ◌≡◌, true, List, ◌++◌, replicate}
+use Rattle.std.specs.Prelude.{ℕ, suc, ◌+◌, ◌*◌, ◌<◌, ◌≡◌, true, List, ◌++◌, replicate}
+use Rattle.bounds.specs.Bounds.{TRACKS, words_for, numbers_for}
 use Rattle.buffers.specs.Answer.{Op, pushed, taken}
+use Rattle.engine.specs.declared.config.FgoConfig.{FgoConfig}
 use Rattle.engine.specs.declared.types.BodyKind.TheVariants.{Narrow}
 use Rattle.engine.specs.Body.{Body, body, rows}
 use Rattle.engine.specs.Config.{legal}
@@ -8,9 +10,12 @@ use Rattle.recording.specs.Recording.{recorded_body}
 use Rattle.fgo_state.specs.declared.state.FixedLagRefiner.{FixedLagRefiner}
 use Rattle.fgo_state.specs.declared.state.Memory.{Memory}
 use Rattle.fgo.specs.Promise.{new_by}
+use Rattle.smoother.specs.Promise as Promise
 use Rattle.histories.specs.Refined as Refined
 use Rattle.playback.specs.declared.smoothed.Smoother.{Smoother}
 use Rattle.playback.specs.declared.steps.Player.{Player}
+use Rattle.playback.specs.Smoothed.{smoothing_of}
+use Rattle.playback.specs.Told.{lent_to}
 
 -- ---- the refiner
 
@@ -47,11 +52,21 @@ pub record TakesAll (r : FixedLagRefiner) (m : Memory) (r' : FixedLagRefiner) (m
   pub leads : Leads (takes r.held) r m r' m'
   pub none : r'.held ≡ 0
 
--- ---- the run
+-- ---- the smoother
+
+-- a smoother as it is opened behind a refiner of these settings: it has their lag and density and holds no frame, and
+-- its window is clear, and as long as that lag asks for
+pub record Opened (c : FgoConfig) (k : Smoother) : Type 0 where
+  pub state : k.state ≡ Promise.new_by (smoothing_of c)
+  pub words : k.size.words ≡ (c.lag_frames + 1) * words_for TRACKS
+  pub numbers : k.size.numbers ≡ (c.lag_frames + 1) * numbers_for TRACKS
+  pub clear : lent_to k ≡ Promise.emptied (lent_to k)
 
 -- a smoother holds none
 abbrev pub Emptied : Smoother → Type 0
 Emptied k = k.state.held ≡ 0
+
+-- ---- the run
 
 -- the n frames of the recording s were pushed to a refiner r as it is opened, then all taken, so that none is held,
 -- then all from where its frames go, as emptied says

@@ -26,7 +26,8 @@ fn print_refusal(rt: &(impl Print + Eprint), refusal: Refusal) {
 
 // A recording of n frames, played from this start: all the frames, then what a smoother holds, then the counters.
 fn run<S: Sink>(rt: &(impl Print + Eprint), s: &[u8], n: usize, player: &mut Player<S>)
-    requires { Fresh player.old.refiner }
+    requires fresh { Fresh player.old.refiner }
+    requires opened { S.opened_of player.old.refiner.config player.old.sink }
     ensures { Played S.emptied_of s.now n player.old.refiner player.new }
 {
     player.push_all(rt, s, n);

@@ -1,7 +1,7 @@
 // Where the refiner's frames go: into text, in short or in full; or to a smoother, whose frames go into text in full.
 //
 // The text of an answer is put together at the start of text, and a function gives back the place where it ends.
-ghost use Rattle.std.specs.Prelude.{◌≤◌, length};
+ghost use Rattle.std.specs.Prelude.{◌≤◌, length, OnOk};
 ghost use Rattle.bounds.specs.Bounds.{LAG};
 ghost use Rattle.buffers.specs.Answer.{answer_in};
 ghost use Rattle.print.specs.Printed.{Counted};
@@ -17,6 +17,10 @@ use refusals::Refusal;
 pub trait Sink: Drop {
     ghost use Rattle.std.specs.Prelude.{ℕ, List, Float};
     ghost use Rattle.buffers.specs.Answer.{Answer};
+    ghost use Rattle.engine.specs.declared.config.FgoConfig.{FgoConfig};
+
+    // It is opened behind a refiner of these settings, and holds no frame yet.
+    ghost opened_of: { FgoConfig → Self → Type 0 };
 
     // It holds no frame.
     ghost emptied_of: { Self → Type 0 };
@@ -32,7 +36,8 @@ pub trait Sink: Drop {
     // As it is: a sink that is there already is opened, and no sink is given: a smoother's window is long, and would be
     // copied from call to call on its way to where it stays.
     fn open(&mut self, c: FgoConfig) -> Result<(), Refusal>
-        requires { c.lag_frames ≤ LAG };
+        requires { c.lag_frames ≤ LAG }
+        ensures { OnOk result (opened_of c self.new) };
 
     // An answer of the refiner, to where its frames go.
     fn put_answer(&mut self, shown: &AnswerRef<'_>, text: &mut [u8; TEXT]) -> usize
@@ -57,6 +62,8 @@ pub struct Short;
 impl Sink for Short {
     ghost use Rattle.print.specs.Text.{short_answer};
     ghost use Rattle.playback.specs.Told.{Puts};
+
+    ghost opened_of = { λ c k. Unit {0} };
 
     ghost emptied_of = { λ k. Unit {0} };
 
@@ -92,6 +99,8 @@ pub struct Full;
 impl Sink for Full {
     ghost use Rattle.print.specs.Text.{full_answer};
     ghost use Rattle.playback.specs.Told.{Puts};
+
+    ghost opened_of = { λ c k. Unit {0} };
 
     ghost emptied_of = { λ k. Unit {0} };
 

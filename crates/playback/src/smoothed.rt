@@ -1,10 +1,10 @@
 // A smoother behind the refiner, with its window. The text of an answer is put together at the start of text, and a
 // function gives back the place where it ends.
-ghost use Rattle.std.specs.Prelude.{◌≤◌};
+ghost use Rattle.std.specs.Prelude.{◌≡◌, ◌≤◌};
 ghost use Rattle.bounds.specs.Bounds.{WINDOW, VALUES};
 ghost use Rattle.buffers.specs.Answer.{pushed, taken};
 ghost use Rattle.smoother.specs.Promise.{window as window_of, lent_of};
-ghost use Rattle.playback.specs.Smoothed.{Smoothed};
+ghost use Rattle.playback.specs.Smoothed.{smoothing_of, Smoothed};
 
 use crate::output::FrameBuffers;
 use crate::sink::Sink;
@@ -31,7 +31,9 @@ pub struct Smoother {
 }
 
 // The settings of a smoother of the refiner's lag and density, for frames of as many tracks as it may emit.
-fn smoothing(c: FgoConfig) -> SmootherConfig {
+fn smoothing(c: FgoConfig) -> SmootherConfig
+    ensures { result ≡ smoothing_of c }
+{
     SmootherConfig {
         lag_frames: c.lag_frames,
         accel_spectral_density: c.accel_spectral_density,
@@ -89,7 +91,9 @@ impl Smoother {
 
 impl Sink for Smoother {
     ghost use Rattle.playback.specs.Told.{Smooths};
-    ghost use Rattle.playback.specs.Played.{Emptied};
+    ghost use Rattle.playback.specs.Played.{Opened, Emptied};
+
+    ghost opened_of = { Opened };
 
     ghost emptied_of = { Emptied };
 

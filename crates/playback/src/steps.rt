@@ -35,6 +35,7 @@ impl<S: Sink> Player<S> {
     // A run that has not begun, of a refiner and the memory that it was opened over.
     pub fn new(refiner: FixedLagRefiner, memory: Memory, sink: S) -> Player<S>
         ensures refiner { result.refiner ≡ refiner }
+        ensures memory { result.memory ≡ memory }
         ensures sink { result.sink ≡ sink }
     {
         Player {

@@ -1,9 +1,7 @@
-use Prim.Native.Nat.{◌≤◌, ◌+◌, ◌*◌}
 use native.Mathlib.Omega.{arith}
 use mathlib.Core.Path.{◌≡◌, ◌∙◌}
-use lib.ListN.{length, replicate, length-replicate}
 use lib.Seq.{length-take-le}
-use Rattle.bounds.specs.Bounds.{WINDOW, VALUES, TRACKS, words_for, numbers_for}
+use Rattle.bounds.specs.Bounds.{TRACKS, words_for, numbers_for}
 use Rattle.playback.proofs.Opening.{first_serves}
 use Rattle.playback.proofs.smoothed.SmootherSink.new.Goals as goal
 
