@@ -25,6 +25,8 @@ pub record First (d : Desk) : Type 0 where
   pub refiner : d.stages.refiner.state ≡ refiner_of (replicate REFINER 0)
   pub memory : d.stages.refiner.memory ≡ no_memory
   pub last : d.stages.refiner.last.size ≡ record { words = 0; numbers = 0 }
+  pub last_words : d.stages.refiner.last.words ≡ replicate WORDS 0
+  pub last_numbers : d.stages.refiner.last.numbers ≡ replicate NUMBERS (from_bits binary64 0)
   pub smoother : d.stages.smoother.state ≡ smoother_of (replicate SMOOTHER 0)
   pub room : d.stages.smoother.window.room ≡ Asked (record { words = 0; numbers = 0 })
   pub window_words : d.stages.smoother.window.words ≡ replicate WINDOW 0

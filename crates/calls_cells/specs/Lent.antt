@@ -34,6 +34,10 @@ pub record RestStays (o o' : Output) : Type 0 where
   pub words : drop o.size.words o'.words ≡ drop o.size.words o.words
   pub numbers : drop o.size.numbers o'.numbers ≡ drop o.size.numbers o.numbers
 
--- the frame that the refiner gave last
-abbrev pub last_frame : FrameRoom WORDS NUMBERS → Written
+-- where the frame that the refiner gave last is kept
+abbrev pub LastFrame : Type 0
+LastFrame = FrameRoom WORDS NUMBERS
+
+-- that frame
+abbrev pub last_frame : LastFrame → Written
 last_frame l = record { words = take l.size.words l.words; numbers = take l.size.numbers l.numbers }

@@ -63,9 +63,11 @@ impl Output {
 }
 
 impl LastFrame {
-    // None yet: of no words and no numbers.
+    // None yet: all zero, and of no words and no numbers.
     pub fn new() -> LastFrame
-        ensures { result.size ≡ record { words = 0; numbers = 0 } }
+        ensures size { result.size ≡ record { words = 0; numbers = 0 } }
+        ensures words { result.words ≡ replicate WORDS 0 }
+        ensures numbers { result.numbers ≡ replicate NUMBERS (from_bits binary64 0) }
     {
         FrameRoom::of(FrameSize {
             words: 0,

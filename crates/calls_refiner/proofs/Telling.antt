@@ -1,16 +1,12 @@
--- What a call of the refiner prints, and the frame that it keeps. Assumes nothing.
-use Prim.Native.Nat.{ℕ, zero, suc, ◌≤◌}
-use mathlib.Core.Path.{◌≡◌, sym, ap, ◌∙◌}
+-- What a call of the refiner prints. Assumes nothing.
+use Prim.Native.Nat.{ℕ, zero, suc}
+use mathlib.Core.Path.{◌≡◌, ap}
 use mathlib.Core.List.{List, ◌++◌}
-use lib.ListN.{length, take}
-use lib.Seq.{length-take-le}
 use Rattle.refusals.specs.declared.Refusal.{Refusal}
 use Rattle.refusals.specs.Refusals.{number_of}
-use Rattle.buffers.specs.Buffers.{over}
 use Rattle.fgo_spec.specs.declared.moves.FgoCounters.{FgoCounters}
 use Rattle.fgo.specs.Promise.{counted_in, counted_by}
 use Rattle.print.specs.Text.{refused_line, counters_line, counted_line}
-use Rattle.print.proofs.Showing.{front}
 use Rattle.calls_cells.proofs.Opened.{ready_in}
 use Rattle.std.specs.Prelude.{Float, Result, Ok, Err}
 use Rattle.buffers.specs.Answer.{Op}
@@ -29,12 +25,6 @@ counting (Ok q) zero k h = let e : q ≡ k = cc in ap counters_line e
 counting (Ok q) (suc n) k h = cc
 counting (Err r) zero k h = cc
 counting (Err r) (suc n) k h = let e : number_of r ≡ suc n = cc in ap refused_line e
-
--- ---- the frame that is kept
-
--- what is put from the front of one list to the front of another stands there
-pub kept : {A : Type 0} (n : ℕ) (l k k' : List A) → n ≤ length l → k' ≡ over 0 (take n l) k → take n k' ≡ take n l
-kept n l k k' h e = let long : n ≡ length (take n l) = sym (length-take-le n l h) in (λ i. take (long i) (e i)) ∙ front (take n l) k
 
 -- ---- a call that prints to the front of a buffer prints to the buffer
 

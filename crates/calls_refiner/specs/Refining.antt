@@ -3,7 +3,8 @@
 use Rattle.std.specs.Prelude.{ℕ, zero, suc, ◌≡◌, List, [], take, set, Float}
 use Rattle.std.specs.Float.{binary64}
 use Rattle.std.specs.Float.Ieee.{of_bits}
-use Rattle.buffers.specs.Answer.{left_by, Op, pushed, taken, Written, Answer, Refused, Held, Frame}
+use Rattle.buffers.specs.Answer.{left_by, Op, pushed, taken, Answer, Refused, Held, Frame}
+use Rattle.buffers.specs.Buffers.{renewed}
 use Rattle.engine.specs.declared.types.BodyKind.TheVariants.{Narrow}
 use Rattle.engine.specs.declared.config.FgoConfig.{FgoConfig}
 use Rattle.engine.specs.Body.{Body, body}
@@ -20,15 +21,18 @@ use Rattle.calls_input.specs.declared.cells.RefinerPlace.TheVariants.{Fields, Bo
 use Rattle.calls_input.specs.declared.RefinerCall.{RefinerCall}
 use Rattle.calls_input.specs.declared.RefinerCall.TheVariants.{Open, Push, Take, Counters, Write}
 use Rattle.calls_cells.specs.Cells.{refiner_fields, refiner_of}
-use Rattle.calls_cells.specs.Lent.{last_frame}
+use Rattle.calls_cells.specs.Lent.{LastFrame}
 use Rattle.calls_cells.specs.Opening.{opening_text}
 use Rattle.calls_refiner.specs.declared.LentRefiner.{LentRefiner}
 
--- what is kept after an answer: the frame that it gives, or the one before
-abbrev pub kept_after : Answer → List ℕ → List Float → Written → Written
-kept_after (Refused n) ws ns f = f
-kept_after Held ws ns f = f
-kept_after (Frame w x) ws ns f = record { words = take w ws; numbers = take x ns }
+-- what is kept after an answer, where f was: the frame that it gives, with what else f took cleared; or f itself
+abbrev pub Keeps : Answer → List ℕ → List Float → LastFrame → LastFrame → Type 0
+Keeps (Refused n) ws ns f f' = f' ≡ f
+Keeps Held ws ns f f' = f' ≡ f
+Keeps (Frame w x) ws ns f f' =
+    (f'.size ≡ record { words = w; numbers = x })
+    × (f'.words ≡ renewed 0 f.size.words (take w ws) f.words)
+    × (f'.numbers ≡ renewed (of_bits binary64 0) f.size.numbers (take x ns) f.numbers)
 
 -- what a question for the counters prints, by its refusal, 0 for none
 abbrev pub counting_text : ℕ → FgoCounters → List ℕ
@@ -78,7 +82,7 @@ module _ (r : LentRefiner) (ws : List ℕ) (ns : List Float) (r' : LentRefiner) 
   pub record Answers (op : Op Body) : Type 0 where
     pub given : Answer
     pub promised : Promised op r.state r.memory ws ns given r'.state r'.memory ws' ns'
-    pub frame : last_frame r'.last ≡ kept_after given ws' ns' (last_frame r.last)
+    pub frame : Keeps given ws' ns' r.last r'.last
     pub text_is : Ready (call_answer given ws' ns') out' end
 
   -- an opening with these settings: the refiner there was and its memory stay where it is refused

@@ -15,12 +15,11 @@ ghost use Rattle.fgo.specs.Promise.{new_by, open_refusal, count_refusal};
 ghost use Rattle.print.specs.Text.{Ready, call_answer};
 ghost use Rattle.calls_input.specs.declared.Call.TheVariants as calls;
 ghost use Rattle.calls_input.specs.Input.{refiner_has, Sane};
-ghost use Rattle.calls_cells.specs.Lent.{last_frame};
 ghost use Rattle.calls_cells.specs.Opening.{opening_text};
-ghost use Rattle.calls_refiner.specs.Refining.{kept_after, counting_text, refiner_with, memory_with, Answers, Refines};
+ghost use Rattle.calls_refiner.specs.Refining.{Keeps, counting_text, refiner_with, memory_with, Answers, Refines};
 
 use bounds::TEXT;
-use buffers::put;
+use buffers::{clear, put};
 use calls_cells::cells::Fields;
 use calls_cells::lent::LastFrame;
 use calls_input::RefinerCall;
@@ -61,12 +60,15 @@ fn open(r: &mut FixedLagRefiner, memory: &mut Memory, s: &[u8], out: &mut [u8; T
 
 // ---- push and take
 
-// A frame that is given is kept.
+// A frame that is given is kept. What the one before took is cleared first.
 fn keep_frame(last: &mut LastFrame, shown: &AnswerRef<'_>)
-    ensures { last_frame last.new ≡ kept_after (answer_in shown.now.answer) shown.now.words.now shown.now.numbers.now (last_frame last.old) }
+    ensures { Keeps (answer_in shown.now.answer) shown.now.words.now shown.now.numbers.now last.old last.new }
 {
     if let Ok(Some(frame)) = shown.answer {
+        let before = last.size;
+        clear(&mut last.words, 0, before.words, 0);
         put(&mut last.words, 0, &shown.words[..frame.words]);
+        clear(&mut last.numbers, 0, before.numbers, 0.0);
         put(&mut last.numbers, 0, &shown.numbers[..frame.numbers]);
         last.size = frame;
     }
@@ -75,7 +77,7 @@ fn keep_frame(last: &mut LastFrame, shown: &AnswerRef<'_>)
 // After a push or a take: its frame is kept, and its answer printed.
 #[tactic(auto, using(print::proofs::Fitting::ready, print::proofs::Fitting::call_answer_few))]
 fn tell(shown: &AnswerRef<'_>, last: &mut LastFrame, out: &mut [u8; TEXT]) -> usize
-    ensures frame { last_frame last.new ≡ kept_after (answer_in shown.now.answer) shown.now.words.now shown.now.numbers.now (last_frame last.old) }
+    ensures frame { Keeps (answer_in shown.now.answer) shown.now.words.now shown.now.numbers.now last.old last.new }
     ensures text { Ready (call_answer (answer_in shown.now.answer) shown.now.words.now shown.now.numbers.now) out.new result }
 {
     keep_frame(last, shown);

@@ -50,7 +50,7 @@ use Rattle.fgo_emit.specs.Writing.{Roomy, emitted_in, PutsFrame, PutFrame}
 use Rattle.fgo_state.specs.Sound.{bodies_ok}
 use Rattle.fgo_arrive.specs.Arriving.{Ready}
 use Rattle.fgo.specs.Promise.{Sized, Carried}
-use Rattle.fgo_place.specs.Owning.{kept_owners}
+use Rattle.fgo_place.proofs.Owners.{owners_are}
 use Rattle.fgo.proofs.Sizes.{sized-small}
 use Rattle.fgo_spec.proofs.Rows.{rows_all, row_of, rows-first}
 use Rattle.engine.proofs.ReadBack.{time_fits}
@@ -212,16 +212,21 @@ module _ (r : FixedLagRefiner) (m : Memory) (ready : Ready r m) (some : 1 ≤ r.
 
       -- ---- the owners
 
-      module _ (owners' : List ℕ) (owned : ℕ) (alive : owners_in owners' owned ≡ kept_owners m.scans.bodies m.scans.columns (n + 1) (r.held - 1) tracks' kept (owners_in m.owners r.owned)) where
-        owners-left : owners_in owners' owned ≡ live_owners (remember r.config s.frame.time ss fs) ss (owners_in m.owners r.owned)
-        unfolding kept_owners
-        owners-left =
+      -- those that have a live owner
+      abbrev living : List (ℕ × ℕ)
+      living = keep (λ o. live_in m.scans.bodies m.scans.columns (n + 1) (r.held - 1) tracks' kept o.1) (owners_in m.owners r.owned)
+
+      module _ (owners' : List ℕ) (owned : ℕ) (alive : (owned ≡ length living) × (owners' ≡ renewed 0 (OWNER * r.owned) (flat_map owner_words living) m.owners)) where
+        living-are : living ≡ live_owners (remember r.config s.frame.time ss fs) ss (owners_in m.owners r.owned)
+        living-are =
             let os = owners_in m.owners r.owned in
-            alive
-            ∙ keep_same (λ o. live_in m.scans.bodies m.scans.columns (n + 1) (r.held - 1) tracks' kept o.1) (λ o. live (table_in tracks' filters' kept) ss o.1) os
+            keep_same (λ o. live_in m.scans.bodies m.scans.columns (n + 1) (r.held - 1) tracks' kept o.1) (λ o. live (table_in tracks' filters' kept) ss o.1) os
             (mem_All (λ o. live_in m.scans.bodies m.scans.columns (n + 1) (r.held - 1) tracks' kept o.1 ≡ live (table_in tracks' filters' kept) ss o.1) os
             (λ o i. live_rule m.scans.bodies m.scans.columns (n + 1) (r.held - 1) tracks' filters' kept o.1))
             ∙ ap (λ es. live_owners es ss os) left
+
+        owners-left : owners_in owners' owned ≡ live_owners (remember r.config s.frame.time ss fs) ss (owners_in m.owners r.owned)
+        owners-left = owners_are living _ alive.0 alive.1 ∙ living-are
 
         -- ---- the slot is cleared, and no other one
 
@@ -271,16 +276,16 @@ module _ (r : FixedLagRefiner) (m : Memory) (ready : Ready r m) (some : 1 ≤ r.
 
           -- every cell
           memory-left :
-              owners' ≡ renewed 0 (OWNER * r.owned) (flat_map owner_words (owners_in owners' owned)) m.owners → Past frozen m.parts.tracks m.parts.filters tracks filters →
+              Past frozen m.parts.tracks m.parts.filters tracks filters →
               after ≡ departed r.config (state_of r m) s ss m
           unfolding state_of spec.leave
-          memory-left cells past =
+          memory-left past =
               λ i.
               record {
                 scans = cleared;
                 owners =
-                    (cells
-                    ∙ (λ j. renewed 0 (OWNER * sym (length-rows (owner_entry m.owners) 0 r.owned) j) (flat_map owner_words (owners-left j)) m.owners))
+                    (alive.1
+                    ∙ (λ j. renewed 0 (OWNER * sym (length-rows (owner_entry m.owners) 0 r.owned) j) (flat_map owner_words (living-are j)) m.owners))
                     i;
                 parts =
                     record {
@@ -305,10 +310,10 @@ module _ (r : FixedLagRefiner) (m : Memory) (ready : Ready r m) (some : 1 ≤ r.
           pub leaving_ends :
               {z : FrameSize} {ws ws' : List ℕ} {ns ns' : List Float} →
               PutFrame (emitted_in r.config m.scans.bodies m.scans.columns n tracks filters frozen) z ws ns ws' ns' →
-              owners' ≡ renewed 0 (OWNER * r.owned) (flat_map owner_words (owners_in owners' owned)) m.owners → Past frozen m.parts.tracks m.parts.filters tracks filters →
+              Past frozen m.parts.tracks m.parts.filters tracks filters →
               Carried taken (spec.takes r.config (state_of r m)) r m ws ns (Gives z.words z.numbers) refiner after ws' ns'
           unfolding state_of spec.takes spec.freeze_oldest
-          leaving_ends {z} {ws} {ws'} {ns} {ns'} u cells past =
+          leaving_ends {z} {ws} {ws'} {ns} {ns'} u past =
               let g : Emitted = spec.emit r.config n ps s in
               let a : Reply Emitted × spec.State = (gives g, spec.leave r.config (state_of r m) s ss) in
               let is : spec.takes r.config (state_of r m) ≡ a = ap (spec.freeze_oldest r.config (state_of r m)) scans-are in
@@ -316,7 +321,7 @@ module _ (r : FixedLagRefiner) (m : Memory) (ready : Ready r m) (some : 1 ≤ r.
               subst (λ x. Carried taken x r m ws ns (Gives z.words z.numbers) refiner after ws' ns') (sym is)
               (record {
                 ends = record { answered = rw (put.words_count, put.numbers_count); state = state-left; words = put.words; numbers = put.numbers; small = sized-small g sized; unchanged = tt };
-                memory = memory-left cells past ∙ ap (λ z. settled r.config (state_of r m) z m) (sym scans-are);
+                memory = memory-left past ∙ ap (λ z. settled r.config (state_of r m) z m) (sym scans-are);
                 settings = refl;
                 bodies = bodies-left;
                 sized = sized;

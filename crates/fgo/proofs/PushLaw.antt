@@ -22,19 +22,31 @@ use Rattle.fgo_state.specs.declared.state.Memory.{Memory}
 use Rattle.fgo_state.specs.Memory.{scan_in, state_of}
 use Rattle.fgo_state.specs.Contents.{arrived, settled, memory_after}
 use Rattle.fgo_state.specs.Sound.{bodies_ok, sound_ok}
+use Rattle.fgo_state.specs.declared.gather.Gathered.{Gathered}
+use Rattle.fgo_state.specs.Gathered.{GatheredOf}
+use Rattle.fgo_state.proofs.GatheringHeld.{found_count}
 use Rattle.fgo_refuse.specs.Refusing.{Refuses, push_refusal}
-use Rattle.fgo_refuse.proofs.Refusals.{push_refused, push-accepted}
+use Rattle.fgo_refuse.proofs.Refusals.{detections, push_refused, push-accepted}
 use Rattle.fgo_arrive.specs.Arriving.{Arrived}
 use Rattle.fgo_arrive.proofs.ReadyLaw.{sound_tells, sound_ready}
 use Rattle.fgo.specs.Promise.{later_refusal, due, Carried, Promised}
 use Rattle.fgo.proofs.Answering.{due_passed}
 
 -- counts that are few
-pub refuses : (r : FixedLagRefiner) (m : Memory) → sound_ok r m ≡ true → Refuses r
+pub refuses : (r : FixedLagRefiner) (m : Memory) → sound_ok r m ≡ true → Refuses r (detections r m)
 refuses r m h =
     let z = sound_ready r m h in
     let k = (sound_tells r m h).room in
-    record { few = z.few; early = z.early; frozen = omega arith; owned = z.owners }
+    record { few = z.few; early = z.early; frozen = omega arith; owned = z.owners; room = omega arith }
+
+-- as many were gathered
+pub as_gathered : (r : FixedLagRefiner) (m : Memory) {es es' : List ℕ} {g : Gathered} → GatheredOf m.scans r.first.0 r.held es g es' → g.count ≡ detections r m
+as_gathered r m g = omega (arith, g.all.scans.count, found_count m.scans.bodies m.scans.columns r.first.0 r.held)
+
+-- so it is refused as by that many
+pub as_many_refused : (r : FixedLagRefiner) (m : Memory) (b : Body) {es es' : List ℕ} {g : Gathered} {k : ℕ} → GatheredOf m.scans r.first.0 r.held es g es' →
+    k ≡ push_refusal r g.count m.owners b → k ≡ push_refusal r (detections r m) m.owners b
+as_many_refused r m b g h = h ∙ ap (λ (n : ℕ). push_refusal r n m.owners b) (as_gathered r m g)
 
 module _ (r : FixedLagRefiner) (m : Memory) (b : Body) (ws : List ℕ) (ns : List Float) (none : later_refusal r m (length ws) (length ns) ≡ 0) where
   abbrev t : State
@@ -44,13 +56,13 @@ module _ (r : FixedLagRefiner) (m : Memory) (b : Body) (ws : List ℕ) (ns : Lis
   replied = due r m (pushed b) ws ns
 
   -- 5 to 10
-  pub push_numbered : (k : ℕ) → k ≡ push_refusal r m.scans.bodies m.scans.columns m.owners b → (k ≡ 0 → ⊥) → replied ≡ (refused k, t)
+  pub push_numbered : (k : ℕ) → k ≡ push_refusal r (detections r m) m.owners b → (k ≡ 0 → ⊥) → replied ≡ (refused k, t)
   push_numbered zero h n = absurd (n refl)
   push_numbered (suc k) h n = due_passed r m ws ns (pushed b) none ∙ push_refused r m b k (sym h)
 
   -- ---- a frame that is accepted
 
-  module _ (accepted : push_refusal r m.scans.bodies m.scans.columns m.owners b ≡ 0) (u : FixedLagRefiner) (m' : Memory) (a : Arrived r m b u m') where
+  module _ (accepted : push_refusal r (detections r m) m.owners b ≡ 0) (u : FixedLagRefiner) (m' : Memory) (a : Arrived r m b u m') where
     push-settles : replied ≡ settle r.config (state_of u m') (ltb (lag r.config) u.held)
     unfolding state_of
     push-settles =

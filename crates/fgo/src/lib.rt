@@ -147,7 +147,7 @@ pub fn push(
 {
     let mut engines = [0; DETECTIONS];
     let mut gathered = check_call(r, memory, words.len(), numbers.len(), &mut engines)?;
-    fgo_refuse::check_push(r, &memory.scans, &memory.owners, b)?;
+    fgo_refuse::check_push(r, gathered.count, &memory.owners, b)?;
     fgo_arrive::arrive(r, b, memory, &mut gathered, &mut engines);
     if r.config.lag_frames < r.held {
         return freeze_oldest(r, memory, words, numbers);

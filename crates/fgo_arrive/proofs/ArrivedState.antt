@@ -5,7 +5,7 @@ use native.Mathlib.Numerals.{add-one}
 use native.Mathlib.Omega.{arith}
 use mathlib.Core.Path.{◌≡◌, refl, sym, ap, subst, fun_ext, ◌∙◌}
 use mathlib.Core.List.{List, map, flat_map}
-use lib.ListN.{length}
+use lib.ListN.{length, length-map}
 use Rattle.bounds.specs.Bounds.{BODY, COLUMN, DETECTIONS, OWNED, OWNER}
 use Rattle.buffers.specs.Buffers.{over, renewed}
 use Rattle.engine.specs.Frame.{Frame}
@@ -27,10 +27,10 @@ use Rattle.fgo_state.specs.declared.state.Memory.{Memory}
 use Rattle.fgo_state.specs.Memory.{memory, slot_at, scan_in, scans_in, live_in, column_words, owner_entry, owner_words, owners_in, state_of}
 use Rattle.fgo_state.specs.Contents as contents
 use Rattle.fgo_state.specs.Contents.{ids_put}
-use Rattle.fgo_place.specs.Owning.{kept_owners}
-use Rattle.fgo_arrive.specs.Arriving.{Ready, Arrives, HeldBy, improved_in, SearchedHeld, Arrived}
+use Rattle.fgo_arrive.specs.Arriving.{Ready, Arrives, HeldBy, improved_in, told_in, SearchedHeld, Arrived}
 use Rattle.fgo_state.proofs.Live.{live_rule}
 use Rattle.fgo_state.proofs.OwnerCells.{words_long}
+use Rattle.fgo_place.proofs.Owners.{owners_are}
 use Rattle.fgo_arrive.proofs.Placements.{before}
 use Rattle.buffers.proofs.Agreeing.{renewed_again}
 use Rattle.fgo_arrive.proofs.ReadyLaw.{sound_ready}
@@ -53,10 +53,14 @@ after u k y =
 owners_long : (owners : List ℕ) (n : ℕ) → length (owners_in owners n) ≡ n
 owners_long owners n = length-rows (owner_entry owners) 0 n
 
--- the entries that keep_owners leaves, and every cell of their array
+-- the entries that have a live owner
+abbrev living : FixedLagRefiner → Memory → List ℕ → List ℕ → List (ℕ × ℕ)
+living u m columns owners = keep (λ o. live_in m.scans.bodies columns u.first.0 u.held m.parts.tracks u.frozen o.1) (owners_in owners u.owned)
+
+-- what keep_owners leaves: these, and every cell of their array
 pub record Keeps (u : FixedLagRefiner) (m : Memory) (columns owners owners' : List ℕ) (k : ℕ) : Type 0 where
-  pub kept : owners_in owners' k ≡ kept_owners m.scans.bodies columns u.first.0 u.held m.parts.tracks u.frozen (owners_in owners u.owned)
-  pub cells : owners' ≡ renewed 0 (OWNER * u.owned) (flat_map owner_words (owners_in owners' k)) owners
+  pub many : k ≡ length (living u m columns owners)
+  pub cells : owners' ≡ renewed 0 (OWNER * u.owned) (flat_map owner_words (living u m columns owners)) owners
 
 module _ (r : FixedLagRefiner) (m : Memory) (s : Body) (a : Arrives r m s) (l : Bytes m.scans.bodies) (b : Bytes s.bytes) where
   abbrev t : State
@@ -92,17 +96,26 @@ module _ (r : FixedLagRefiner) (m : Memory) (s : Body) (a : Arrives r m s) (l : 
       scans-as : scans_in bodies columns' r.first.0 (r.held + 1) ≡ e.scans
       scans-as = q.scans ∙ ap (λ x. x.search.scans) found_as
 
-      owners-as : owners_in owners'' k ≡ reown t.prefixes e.scans (placed t f).owners
-      unfolding kept_owners reown state_of
-      owners-as =
-          o.kept
-          ∙ ap (λ g. keep g (owners_in owners' w.owned))
+      -- the owners that the search leaves
+      told-long : w.owned ≡ length (told_in w m')
+      told-long = sym (length-map (owners_in owners w.owned) (λ p. (p.0, latest p.0 p.1 (improved_in w m').search.scans)) ∙ owners_long owners w.owned)
+
+      told-as : owners_in owners' w.owned ≡ told_in w m'
+      told-as = owners_are (told_in w m') owners told-long q.owners_put
+
+      living-as : living w m' columns' owners' ≡ reown t.prefixes e.scans (placed t f).owners
+      unfolding reown state_of
+      living-as =
+          ap (λ g. keep g (owners_in owners' w.owned))
           (fun_ext (λ p. live_rule bodies columns' r.first.0 (r.held + 1) m.parts.tracks m.parts.filters r.frozen p.1))
           ∙ ap (λ ss. live_owners t.prefixes ss (owners_in owners' w.owned)) scans-as
           ∙ ap (live_owners t.prefixes e.scans)
-          (q.owners
+          (told-as
           ∙ ap (λ x. map (λ p. (p.0, latest p.0 p.1 x.search.scans)) (owners_in owners w.owned)) found_as
           ∙ ap (map (λ p. (p.0, latest p.0 p.1 e.scans))) (owners_held r m s a l b u bodies columns owners h))
+
+      owners-as : owners_in owners'' k ≡ reown t.prefixes e.scans (placed t f).owners
+      owners-as = owners_are (living w m' columns' owners') _ o.many o.cells ∙ living-as
 
       state-as : state_of (after w k y) m'' ≡ arrive r.config t f
       unfolding state_of arrive
@@ -118,13 +131,11 @@ module _ (r : FixedLagRefiner) (m : Memory) (s : Body) (a : Arrives r m s) (l : 
           }
 
       few-owners : k ≤ OWNED
-      unfolding kept_owners
       few-owners =
           omega (
             arith,
-            owners_long owners'' k,
             owners_long owners' w.owned,
-            ap length o.kept,
+            o.many,
             count-le (λ p. live_in bodies columns' r.first.0 (r.held + 1) m.parts.tracks r.frozen p.1) (owners_in owners' w.owned),
             h.owned,
           )
@@ -180,15 +191,15 @@ module _ (r : FixedLagRefiner) (m : Memory) (s : Body) (a : Arrives r m s) (l : 
       owners-cells : owners'' ≡ renewed 0 (OWNER * length (placed t f).owners) (flat_map owner_words (arrive r.config t f).owners) m.owners
       unfolding arrive
       owners-cells =
-          let g = flat_map owner_words (owners_in owners'' k) in
+          let g = flat_map owner_words (living w m' columns' owners') in
           let n : ℕ = OWNER * length (placed t f).owners in
           let put : owners ≡ over 0 (flat_map owner_words (placed t f).owners) m.owners =
           h.owners_put ∙ ap (λ p. over 0 (flat_map owner_words p.owners) m.owners) (placed_same r m s a l b u bodies columns owners h) in
           o.cells
           ∙ ap (λ (i : ℕ). renewed 0 i g owners') owned-long
-          ∙ renewed_again 0 n g _ owners' owners (words_long (owners_in owners' w.owned) ∙ ap (λ (i : ℕ). OWNER * i) (owners_long owners' w.owned) ∙ owned-long) q.owners_put
+          ∙ renewed_again 0 n g _ owners' owners (words_long (told_in w m') ∙ ap (λ (i : ℕ). OWNER * i) (sym told-long) ∙ owned-long) q.owners_put
           ∙ renewed_again 0 n g _ owners m.owners (words_long (placed t f).owners) put
-          ∙ ap (λ os. renewed 0 n (flat_map owner_words os) m.owners) owners-as
+          ∙ ap (λ os. renewed 0 n (flat_map owner_words os) m.owners) living-as
 
       memory-as : m'' ≡ contents.arrived r.config t s m
       memory-as = λ i. memory (bodies-as i) (columns-as i) (owners-cells i) m.parts.tracks m.parts.filters

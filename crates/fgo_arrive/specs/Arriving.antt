@@ -78,14 +78,17 @@ improved_in r m =
     improve r.config r.first.0 (table_in m.parts.tracks m.parts.filters r.frozen) (scans_in m.scans.bodies m.scans.columns r.first.0 r.held) r.next_id.0
     r.counters
 
+-- the owners after it: each engine id goes to the track that holds its latest detection, if a window has one
+abbrev pub told_in : FixedLagRefiner → Memory → List (ℕ × ℕ)
+told_in r m = map (λ o. (o.0, latest o.0 o.1 (improved_in r m).search.scans)) (owners_in m.owners r.owned)
+
 -- after the search: the columns and the owners, next id and counters; of columns only the ids were written, and of
 -- owners those in use
 pub record SearchedHeld (r : FixedLagRefiner) (m : Memory) (columns' owners' : List ℕ) (t : Tally) : Type 0 where
   pub scans : scans_in m.scans.bodies columns' r.first.0 r.held ≡ (improved_in r m).search.scans
   pub bodies : (i : ℕ) → i < r.held → body_refusal (body_at m.scans.bodies columns' (r.first.0 + i)) ≡ 0
   pub columns_put : columns' ≡ ids_put r.first.0 (improved_in r m).search.scans m.scans.columns
-  pub owners_put : owners' ≡ over 0 (flat_map owner_words (owners_in owners' r.owned)) m.owners
-  pub owners : owners_in owners' r.owned ≡ map (λ o. (o.0, latest o.0 o.1 (improved_in r m).search.scans)) (owners_in m.owners r.owned)
+  pub owners_put : owners' ≡ over 0 (flat_map owner_words (told_in r m)) m.owners
   pub next_id : t.next_id.0 ≡ (improved_in r m).search.next_id
   pub counters : t.counters ≡ (improved_in r m).search.counters
 
@@ -102,7 +105,7 @@ pub record Ready (r : FixedLagRefiner) (m : Memory) : Type 0 where
 -- what an arriving frame asks: a refiner that meets the rule, and a body that no number refuses
 pub record Arrives (r : FixedLagRefiner) (m : Memory) (b : Body) : Type 0 where
   pub sound : sound_ok r m ≡ true
-  pub accepted : push_refusal r m.scans.bodies m.scans.columns m.owners b ≡ 0
+  pub accepted : push_refusal r (window_count (scans_in m.scans.bodies m.scans.columns r.first.0 r.held)) m.owners b ≡ 0
 
 -- after it: the state is fgo_spec's, every cell is as defined, and the oldest scan may leave
 pub record Arrived (r : FixedLagRefiner) (m : Memory) (b : Body) (u : FixedLagRefiner) (m' : Memory) : Type 0 where

@@ -8,6 +8,7 @@ use lib.ListN.{length, drop}
 use Rattle.bounds.specs.Bounds.{OWNER}
 use Rattle.buffers.specs.Buffers.{cleared, renewed}
 use Rattle.engine.specs.Body.{rows}
+use Rattle.engine.proofs.Passing.{length-rows}
 use Rattle.fgo_spec.specs.Lists.{cons_if, keep}
 use Rattle.fgo_spec.proofs.Counting.{keep_append}
 use Rattle.fgo_state.specs.Memory.{engine_at, owner_at, owner_words, owner_entry, owners_in}
@@ -80,11 +81,14 @@ module _ (p : ℕ × ℕ → Bool) (os : List ℕ) (n : ℕ) where
   -- where the entries from w on are then cleared
   pub compacts_all :
       {w k : ℕ} {os' os'' : List ℕ} → Compacts p os n w k os' → n ≤ k → OWNER * n ≤ length os → os'' ≡ cleared 0 (OWNER * w) (OWNER * (n - w)) os' →
-      (os'' ≡ renewed 0 (OWNER * n) (flat_map owner_words (owners_in os'' w)) os) × (owners_in os'' w ≡ keep p (owners_in os n))
-  compacts_all {w} {k} {os'} c h room e =
+      (w ≡ length (keep p (owners_in os n))) × (os'' ≡ renewed 0 (OWNER * n) (flat_map owner_words (keep p (owners_in os n))) os)
+  compacts_all {w} {k} {os'} {os''} c h room e =
       let some = c.some in
       let few = c.few in
       let long = c.long in
       let z : k ≡ n = omega arith in
       let left = owners_left w n os' os (omega arith) (omega arith) c.past e in
-      (left.1, left.0 ∙ c.kept ∙ ap (λ (i : ℕ). keep p (owners_in os i)) z)
+      let kept : owners_in os'' w ≡ keep p (owners_in os n) = left.0 ∙ c.kept ∙ ap (λ (i : ℕ). keep p (owners_in os i)) z in (
+        sym (length-rows (owner_entry os'') 0 w) ∙ ap length kept,
+        left.1 ∙ ap (λ (q : List (ℕ × ℕ)). renewed 0 (OWNER * n) (flat_map owner_words q) os) kept,
+      )

@@ -5,7 +5,7 @@ use native.Mathlib.Omega.{arith}
 use native.Mathlib.Nat.{zero-add, add-zero, sub-zero}
 use mathlib.Core.Path.{◌≡◌, refl, sym, ap, ◌∙◌, subst}
 use mathlib.Core.Bool.{Bool, true, false}
-use mathlib.Core.List.{List, [], ◌∷◌, ◌++◌, append_assoc}
+use mathlib.Core.List.{List, [], ◌∷◌, ◌++◌, append_assoc, flat_map}
 use lib.ListN.{length, drop, length-append}
 use lib.Dec.{ltb, lit<}
 use borrow.Author.Tests.{eq-eqb, ne_eqb, le-leb, lt-leb, ltb-true, ltb-false}
@@ -15,6 +15,7 @@ use Rattle.buffers.proofs.Over.{length_over, over-before, over_in, over_after}
 use Rattle.engine.specs.Body.{rows}
 use Rattle.fgo_spec.specs.Lists.{assign}
 use Rattle.fgo_state.specs.Memory.{engine_at, owner_entry, owner_words, owners_in}
+use Rattle.fgo_state.proofs.OwnerCells.{owners_back}
 use Rattle.buffers.proofs.Agreeing.{drop_later, drop_over}
 use Rattle.fgo_place.specs.Placing.{assigned_in, Grown}
 use Rattle.engine.proofs.Passing.{length-rows}
@@ -82,6 +83,10 @@ module _ (os : List ℕ) (w e x : ℕ) (room : OWNER * w + OWNER ≤ length os) 
       front_more (owner_entry (owning os w e x)) w
       ∙ ap (λ (l : List (ℕ × ℕ)). l ++ (owner_entry (owning os w e x) w ∷ [])) (sym (owning_same 0 w (λ i a b z. omega arith)))
       ∙ ap (λ (o : ℕ × ℕ). owners_in os w ++ (o ∷ [])) owning_at
+
+-- where the words of entries lie at the front, as many entries are these
+pub owners_are : (os : List (ℕ × ℕ)) (l : List ℕ) {k : ℕ} {l' : List ℕ} → k ≡ length os → l' ≡ over 0 (flat_map owner_words os) l → owners_in l' k ≡ os
+owners_are os l many is = (λ i. owners_in (is i) (many i)) ∙ owners_back os l
 
 -- ---- a table grows
 

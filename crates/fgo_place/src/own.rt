@@ -4,9 +4,10 @@ ghost use Rattle.std.specs.Prelude.{◌≡◌, ◌*◌, ◌≤◌, length};
 ghost use mathlib.Core.List.{flat_map};
 ghost use Rattle.bounds.specs.Bounds.{OWNED, OWNER};
 ghost use Rattle.buffers.specs.Buffers.{over, renewed};
+ghost use Rattle.fgo_spec.specs.Lists.{keep};
+ghost use Rattle.fgo_state.specs.Live.{live_among};
 ghost use Rattle.fgo_state.specs.Memory.{owner_words, owners_in};
 ghost use Rattle.fgo_state.specs.Gathering.{held_latest};
-ghost use Rattle.fgo_place.specs.Owning.{kept_owners};
 
 use bounds::{OWNER, OWNERS};
 use fgo_state::gather::Gathered;
@@ -26,9 +27,8 @@ pub fn hold_latest(
     engines: &IdIndex<'_>,
 )
     requires { (owned ≤ OWNED) × (gathered.now.count ≤ length engines.now.ids.now) }
-    ensures cells { owners.new ≡ over 0 (flat_map owner_words (owners_in owners.new owned)) owners.old }
-    ensures latest { owners_in owners.new owned
-        ≡ held_latest gathered.now.ids engines.now.ids.now gathered.now.starts gathered.now.held (owners_in owners.old owned) }
+    ensures { let g = gathered.now in let os = held_latest g.ids engines.now.ids.now g.starts g.held (owners_in owners.old owned) in
+        owners.new ≡ over 0 (flat_map owner_words os) owners.old }
 {
     for k in 0..owned {
         let e = engine_at(owners, k);
@@ -46,10 +46,8 @@ pub fn hold_latest(
 // says.
 pub fn keep_owners(live: &LiveTracks<'_>, owned: usize, owners: &mut [u64; OWNERS]) -> usize
     requires { owned ≤ OWNED }
-    ensures cells { owners.new ≡ renewed 0 (OWNER * owned) (flat_map owner_words (owners_in owners.new result)) owners.old }
-    ensures kept { let l = live.now in owners_in owners.new result
-        ≡ kept_owners l.held.scans.now.bodies l.held.scans.now.columns l.held.first.0 l.held.count l.frozen.tracks.now l.frozen.count
-        (owners_in owners.old owned) }
+    ensures { let os = keep (λ o. live_among live.now o.1) (owners_in owners.old owned) in
+        (result ≡ length os) × (owners.new ≡ renewed 0 (OWNER * owned) (flat_map owner_words os) owners.old) }
 {
     let mut w: usize = 0;
     for k in 0..owned {

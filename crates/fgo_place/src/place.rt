@@ -111,9 +111,8 @@ pub fn place_all(
     ids: &mut [u64; ASSOCIATIONS],
 ) -> Placing
     requires { begun.next_id.0 < 2 ^ 62 }
-    ensures cells { owners.new ≡ over 0 (flat_map owner_words (owners_in owners.new result.owned)) owners.old }
-    ensures placed { Placed (associations_in (body_of b.now.body)) (placed_all begun.next_id.0 (frame_in (body_of b.now.body)).associations
-        (begins owners.old begun.owned begun.next_id.0)) result owners.new ids.new }
+    ensures { let p = placed_all begun.next_id.0 (frame_in (body_of b.now.body)).associations (begins owners.old begun.owned begun.next_id.0) in
+        (owners.new ≡ over 0 (flat_map owner_words p.owners) owners.old) × Placed (associations_in (body_of b.now.body)) p result owners.new ids.new }
 {
     let mut p = begun;
     for j in 0..b.body.association_count() {

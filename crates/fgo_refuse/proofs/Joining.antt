@@ -11,10 +11,10 @@ use lib.Dec.{eqb}
 use Rattle.engine.specs.declared.types.Association.{Association}
 use Rattle.engine.specs.Frame.{no_association, Associated}
 use Rattle.engine.specs.Body.{Body, frame_in, associations_in, rows}
-use Rattle.fgo_spec.specs.Lists.{any, has}
-use Rattle.fgo_spec.specs.Refiner.{join}
+use Rattle.fgo_spec.specs.Lists.{any, has, keep, cons_if}
+use Rattle.fgo_spec.specs.Refiner.{has_id, id_count, join}
 use Rattle.fgo_part.specs.Parts.{cells}
-use Rattle.fgo_state.specs.Memory.{association_in}
+use Rattle.fgo_state.specs.Memory.{association_in, engine_at}
 use Rattle.fgo_state.specs.Owners.{engines_in}
 use Rattle.fgo_refuse.specs.Refusing.{join_end, joined_in}
 use Rattle.engine.proofs.Passing.{length-rows}
@@ -52,6 +52,20 @@ alike_joined (Some e) k l p = go (has e.0 k) (has e.0 l) (p.same e.0)
     go true false q = let z : ◌≡◌ {A = ℕ} 0 1 = cc in absurd (omega arith)
     go false true q = let z : ◌≡◌ {A = ℕ} 0 1 = cc in absurd (omega arith)
 
+-- no more than the ids of the list and the associations that have one
+joined_few : (l : List ℕ) (bs : List Association) → length (foldr (λ a. join a.track) l bs) ≤ length l + id_count bs
+unfolding keep
+joined_few l [] = omega arith
+joined_few l (a ∷ bs) = go a.track (foldr (λ b. join b.track) l bs) (joined_few l bs)
+  where
+    go : (e : Associated) (k : List ℕ) → length k ≤ length l + id_count bs → length (join e k) ≤ length l + length (cons_if (has_id e) a (keep (λ b. has_id b.track) bs))
+    go None k h = h
+    go (Some e) k h = new (has e.0 k)
+      where
+        new : (b : Bool) → length (cond b k (e.0 ∷ k)) ≤ length l + suc (id_count bs)
+        new true = omega arith
+        new false = omega arith
+
 -- ---- the associations of a body from the last one on
 
 module _ (owners : List ℕ) (owned : ℕ) (s : Body) where
@@ -64,6 +78,10 @@ module _ (owners : List ℕ) (owned : ℕ) (s : Body) where
   unfolding joined_in
   joined-more j h =
       ap (foldr (λ (a : Association). join a.track) (engines_in owners owned)) (drop-cons (frame_in s).associations j no_association (rw (associations_long s) h))
+
+  pub joined_most : length (joined_in owners owned s 0) ≤ owned + id_count (frame_in s).associations
+  unfolding joined_in
+  joined_most = omega (arith, joined_few (engines_in owners owned) (frame_in s).associations, length-rows (engine_at owners) 0 owned)
 
   -- where the engine ids with an owner and the first n of a list are those joined with the associations' from j on
   pub record Joins (all : List ℕ) (n j : ℕ) : Type 0 where

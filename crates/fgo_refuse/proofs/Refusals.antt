@@ -24,6 +24,10 @@ use Rattle.fgo_state.specs.Memory.{scan_in, scans_in, owner_entry, or_none, stat
 use Rattle.fgo_refuse.specs.Refusing.{full_in, joined_in, refused_by, push_refusal}
 use Rattle.fgo_spec.proofs.Rows.{map_rows}
 
+-- how many detections lie in windows
+abbrev pub detections : FixedLagRefiner → Memory → ℕ
+detections r m = window_count (scans_in m.scans.bodies m.scans.columns r.first.0 r.held)
+
 module _ (r : FixedLagRefiner) (m : Memory) (s : Body) where
   abbrev t : State
   t = state_of r m
@@ -34,14 +38,14 @@ module _ (r : FixedLagRefiner) (m : Memory) (s : Body) where
   -- 8, 9 and 10, on the lent memory
   abbrev pub found : Option ℕ
   found =
-      first_of (full_in r) (ltb DETECTIONS (r.frozen + window_count (scans_in m.scans.bodies m.scans.columns r.first.0 r.held) + id_count f.associations))
+      first_of (full_in r) (ltb DETECTIONS (r.frozen + detections r m + id_count f.associations))
       (ltb OWNED (length (joined_in m.owners r.owned s 0)))
 
   eight : full8 t ≡ full_in r
   unfolding full8 full_in state_of
   eight = rw (length-rows (scan_in m.scans.bodies m.scans.columns) r.first.0 r.held)
 
-  nine : full9 t f ≡ ltb DETECTIONS (r.frozen + window_count (scans_in m.scans.bodies m.scans.columns r.first.0 r.held) + id_count f.associations)
+  nine : full9 t f ≡ ltb DETECTIONS (r.frozen + detections r m + id_count f.associations)
   unfolding full9 state_of
   nine = rw (length-rows (entry_in m.parts.tracks m.parts.filters) 0 r.frozen)
 
@@ -53,7 +57,7 @@ module _ (r : FixedLagRefiner) (m : Memory) (s : Body) where
   found_same = ap (λ b. first_of b (full9 t f) (full10 t f)) eight ∙ ap (λ b. first_of (full_in r) b (full10 t f)) nine ∙ ap (first_of (full_in r) _) ten
 
   -- no number refuses the frame
-  pub none_found : push_refusal r m.scans.bodies m.scans.columns m.owners s ≡ 0 → (body_refusal s ≡ 0) × (found ≡ none)
+  pub none_found : push_refusal r (detections r m) m.owners s ≡ 0 → (body_refusal s ≡ 0) × (found ≡ none)
   unfolding push_refusal
   none_found = by (body_refusal s) (full_in r) _ _
     where
@@ -82,7 +86,7 @@ module _ (r : FixedLagRefiner) (m : Memory) (s : Body) where
       by (suc n) = refl
 
   -- a number refuses it
-  pub push_refused : (k : ℕ) → push_refusal r m.scans.bodies m.scans.columns m.owners s ≡ suc k → spec.push c t s ≡ (refused (suc k), t)
+  pub push_refused : (k : ℕ) → push_refusal r (detections r m) m.owners s ≡ suc k → spec.push c t s ≡ (refused (suc k), t)
   unfolding push_refusal
   push_refused k h = push_by_lem ∙ by (body_refusal s) (full_in r) _ _ h
     where
@@ -94,5 +98,5 @@ module _ (r : FixedLagRefiner) (m : Memory) (s : Body) where
       by (suc n) a b d e = ap (λ (i : ℕ). (refused i, t)) e
 
   -- none does: the frame arrives
-  pub push-accepted : push_refusal r m.scans.bodies m.scans.columns m.owners s ≡ 0 → spec.push c t s ≡ push_by none c t f
+  pub push-accepted : push_refusal r (detections r m) m.owners s ≡ 0 → spec.push c t s ≡ push_by none c t f
   push-accepted h = let a = none_found h in push_by_lem ∙ ap (λ (n : ℕ). pushed_by n found) a.0 ∙ ap (λ o. push_by o c t f) a.1

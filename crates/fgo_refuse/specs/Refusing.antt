@@ -4,10 +4,9 @@ use mathlib.Core.List.{List, [], ◌∷◌, ◌++◌, foldr}
 use Rattle.bounds.specs.Bounds.{SCANS, ACCEPTED, COUNTED, DETECTIONS, FROZEN, OWNED}
 use Rattle.engine.specs.Body.{Body, frame_in, body_refusal}
 use Rattle.fgo_spec.specs.Lists.{has}
-use Rattle.fgo_spec.specs.Windows.{window_count}
 use Rattle.fgo_spec.specs.Refiner.{first_of, id_count, join}
 use Rattle.fgo_state.specs.declared.state.FixedLagRefiner.{FixedLagRefiner}
-use Rattle.fgo_state.specs.Memory.{scans_in, or_none}
+use Rattle.fgo_state.specs.Memory.{or_none}
 use Rattle.fgo_state.specs.Owners.{engines_in}
 use Rattle.engine.specs.Frame.{Associated}
 
@@ -33,19 +32,19 @@ abbrev pub refused_by : ℕ → ℕ → ℕ
 refused_by zero n = n
 refused_by (suc m) n = suc m
 
--- 5, 6 and 7, then 8, 9 and 10; 0 for none
-unfoldable pub push_refusal : FixedLagRefiner → List ℕ → List ℕ → List ℕ → Body → ℕ
-push_refusal r bodies columns owners b =
-    let ss = scans_in bodies columns r.first.0 r.held in
+-- 5, 6 and 7, then 8, 9 and 10, where so many detections lie in windows; 0 for none
+unfoldable pub push_refusal : FixedLagRefiner → ℕ → List ℕ → Body → ℕ
+push_refusal r detections owners b =
     refused_by (body_refusal b)
     (or_none
     (first_of (full_in r)
-    (ltb DETECTIONS (r.frozen + window_count ss + id_count (frame_in b).associations))
+    (ltb DETECTIONS (r.frozen + detections + id_count (frame_in b).associations))
     (ltb OWNED (length (joined_in owners r.owned b 0)))))
 
 -- what finding it asks: counts that are few
-pub record Refuses (r : FixedLagRefiner) : Type 0 where
+pub record Refuses (r : FixedLagRefiner) (detections : ℕ) : Type 0 where
   pub few : r.held ≤ SCANS
   pub early : r.first.0 + r.held ≤ ACCEPTED + 1
   pub frozen : r.frozen ≤ FROZEN
   pub owned : r.owned ≤ OWNED
+  pub room : detections ≤ DETECTIONS

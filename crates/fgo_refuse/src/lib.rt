@@ -14,7 +14,6 @@ use engine::body::Body;
 use engine::checked::CheckedBody;
 use engine::types::EngineId;
 use fgo_state::owners::OwnersRef;
-use fgo_state::scans::Scans;
 use fgo_state::state::FixedLagRefiner;
 use id_index::IdIndex;
 use refusals::Refusal;
@@ -84,29 +83,31 @@ fn is_full(r: &FixedLagRefiner) -> bool
 }
 
 // Whether a frame may be pushed, after `State` and `Output`: or the first that it is refused for of `Frame`,
-// `Coordinate`, `Index`, `Count`, `Detections` and `Owners`. It asks that SCANS scans at most are held, with FROZEN
-// parts and OWNED owners at most.
+// `Coordinate`, `Index`, `Count`, `Detections` and `Owners`, where so many detections lie in windows. It asks that SCANS
+// scans at most are held, with FROZEN parts, OWNED owners and DETECTIONS such detections at most.
 pub fn check_push(
     r: &FixedLagRefiner,
-    scans: &Scans,
+    detections: usize,
     owners: &[u64; OWNERS],
     b: &Body<'_>,
 ) -> Result<(), Refusal>
-    requires { Refuses r.now }
-    ensures { refused result ≡ push_refusal r.now scans.now.bodies scans.now.columns owners.now (body_of b.now) }
+    requires { Refuses r.now detections }
+    ensures { refused result ≡ push_refusal r.now detections owners.now (body_of b.now) }
 {
     let b = engine_check::check_body(b)?;
     if is_full(r) {
         return Err(Refusal::Count);
     }
-    if DETECTIONS < r.frozen + r.held_in(scans).window_count() + id_count(&b) {
+    let ids = id_count(&b);
+    if DETECTIONS < r.frozen + detections + ids {
         return Err(Refusal::Detections);
     }
     let owners = OwnersRef {
         entries: owners,
         owned: r.owned,
     };
-    if OWNED < joined_count(&owners, &b) {
+    // Joined they are no more than both together, which mostly are few.
+    if OWNED < r.owned + ids && OWNED < joined_count(&owners, &b) {
         return Err(Refusal::Owners);
     }
     Ok(())

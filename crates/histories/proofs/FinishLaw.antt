@@ -36,7 +36,7 @@ takes_one c =
     }
 
 -- as many frames are held as the refiner counts
-held_is : (r : FixedLagRefiner) (m : Memory) → length (state_of r m).scans ≡ r.held
+pub held_is : (r : FixedLagRefiner) (m : Memory) → length (state_of r m).scans ≡ r.held
 unfolding state_of
 held_is r m = length-rows (scan_in m.scans.bodies m.scans.columns) r.first.0 r.held
 

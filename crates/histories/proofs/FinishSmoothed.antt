@@ -7,10 +7,10 @@ use mathlib.Core.List.{List, [], ◌∷◌, ◌++◌, append-nil}
 use lib.ListN.{length, length-append}
 use Rattle.smoother_window.specs.declared.FixedLagSmoother.{FixedLagSmoother}
 use Rattle.smoother_window.specs.declared.SmootherConfig.{SmootherConfig}
-use Rattle.smoother_window.proofs.Forms.{frames_long}
 use Rattle.smoother_pass.specs.Pass.{emitted}
 use Rattle.smoother.specs.Smoother.{new, emit_oldest, takes, reply, finish}
 use Rattle.smoother.specs.Promise.{Window, state_in}
+use Rattle.smoother.proofs.Refusals.{held_is}
 use Rattle.histories.specs.Calls.{left, operations, Finish, Ending}
 use Rattle.histories.specs.Smoothed.{smoothing}
 use Rattle.histories.specs.Joined.{Call, Keeps, Session, Finished}
@@ -32,11 +32,6 @@ takes_one d =
         ap (finish s) e ∙ ap (λ l. let u = (emit_oldest s l).1 in emitted s.config (f ∷ fs) f ∷ finish u u.frames) (sym e),
       );
     }
-
--- as many frames are held as the smoother counts
-held_is : (s : FixedLagSmoother) (w : Window) → length (state_in s w).frames ≡ s.held
-unfolding state_in
-held_is s w = frames_long s w.words w.numbers 0 s.held
 
 module _ (d : SmootherConfig) (s : FixedLagSmoother) (w : Window) (ks fs : List Call) (h : Session d s w (ks ++ fs)) where
   pub finished : Finish fs → Finished d s w ks fs

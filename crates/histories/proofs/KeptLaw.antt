@@ -34,6 +34,7 @@ use Rattle.histories.proofs.CallsLaw.{more}
 use Rattle.histories.specs.Refined.{Call, Meets, Same, Reached}
 use Rattle.histories.specs.Kept.{Returned, Own, Kept, Alike}
 use Rattle.histories.proofs.RefinedLaw.{known, at_new}
+use Rattle.histories.proofs.FinishLaw.{held_is}
 use Rattle.histories.proofs.HeldBodies.{Complete, Bodied, bodied_many, bodied_rest}
 use Rattle.histories.proofs.StateRoom.{Fits, rule_fits, arrived_fits}
 use Rattle.histories.proofs.Laying.{new_laid, arrived_bodied, arrived_laid, departed_laid, held_laid}
@@ -108,10 +109,6 @@ module _ (c : FgoConfig) where
 -- ---- a refiner and its memory
 
 module _ (r : FixedLagRefiner) (m : Memory) where
-  held_many : length (state_of r m).scans ≡ r.held
-  unfolding state_of
-  held_many = length-rows (scan_in m.scans.bodies m.scans.columns) r.first.0 r.held
-
   -- the bodies that it lies with are those that are read
   lies_kept : Lies (state_of r m) m → Kept r m
   lies_kept l =
@@ -121,7 +118,7 @@ module _ (r : FixedLagRefiner) (m : Memory) where
       first = unfold state_of in refl
 
       held : r.held ≡ length l.bodies
-      held = sym (bodied_many l.bodies (state_of r m).scans l.bodied ∙ held_many)
+      held = sym (bodied_many l.bodies (state_of r m).scans l.bodied ∙ held_is r m)
 
   -- after the pushes and takes ops
   module _ (c : FgoConfig) (ok : legal c ≡ true) (ops : List (Op Body)) (a : Reached c ops r m) where
@@ -147,7 +144,7 @@ module _ (r : FixedLagRefiner) (m : Memory) where
         record {
           bodies = held_bodies r m;
           bodied = held_bodied;
-          few = omega (arith, many, held_many, ruled.lagged, (legal_tells r.config ruled.settings).lag);
+          few = omega (arith, many, held_is r m, ruled.lagged, (legal_tells r.config ruled.settings).lag);
           is = k;
         }
 

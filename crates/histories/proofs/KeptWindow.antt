@@ -27,12 +27,12 @@ use Rattle.smoother_window.specs.declared.FixedLagSmoother.{FixedLagSmoother}
 use Rattle.smoother_window.specs.declared.SmootherConfig.{SmootherConfig}
 use Rattle.smoother_window.specs.Config.{lag, most, legal}
 use Rattle.smoother_window.specs.Window.{slot_of, slot_words, slot_numbers, words_in, numbers_in, held_frame, frames_from, frames_in, all_formed, more, fewer, Fits}
-use Rattle.smoother_window.proofs.Forms.{fits, formed_more, frames_long}
+use Rattle.smoother_window.proofs.Forms.{fits, formed_more}
 use Rattle.smoother_window.proofs.Storing.{front_read}
 use Rattle.smoother_pass.specs.Pass.{emitted}
 use Rattle.smoother.specs.Smoother.{State, holding, held, window_fits, open_refusal, settle, settle_by, emit_oldest, takes, reply}
 use Rattle.smoother.specs.Promise.{Window, window, state_in, new_by, later_refusal, due, stored, freed, window_after, struct_after, emptied, laid}
-use Rattle.smoother.proofs.Refusals.{passing}
+use Rattle.smoother.proofs.Refusals.{held_is, passing}
 use Rattle.smoother.proofs.Calls.{due_refused, due_passed, push_malformed, push_formed}
 use Rattle.histories.specs.Calls.{Calls, left}
 use Rattle.histories.specs.Joined.{Call, Meets}
@@ -191,7 +191,7 @@ module _ (s : FixedLagSmoother) (w : Window) (kept : KeptWindow s w) (u : FixedL
 
   module _ (lagged : s.held ≤ lag s.config) (formed : all_formed (most s.config) fs ≡ true) where
     many : length fs ≡ s.held
-    many = frames_long s w.words w.numbers 0 s.held
+    many = unfold state_in in held_is s w
 
     -- a frame is stored
     module _ (f : Written) (well : well_formed (most s.config) f ≡ true) where

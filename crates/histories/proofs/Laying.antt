@@ -1,6 +1,6 @@
 -- The memory of a state and of the bodies of its scans: that of a new refiner, what a frame that arrives and the oldest
 -- scan that leaves make of it, and the bodies read back. Assumes nothing.
-use Prim.Native.Nat.{ℕ, suc, ◌+◌, ◌-◌, ◌*◌, ◌%◌, ◌≤◌, ◌<◌}
+use Prim.Native.Nat.{ℕ, suc, ◌+◌, ◌*◌, ◌%◌, ◌≤◌, ◌<◌}
 use native.Mathlib.Nat.{mod-lt, mul_comm}
 use native.Mathlib.Omega.{arith}
 use mathlib.Core.Path.{◌≡◌, refl, sym, ap, ◌∙◌}
@@ -10,7 +10,7 @@ use lib.Ieee.{Float}
 use Rattle.std.specs.Float.{binary64}
 use Rattle.std.specs.Float.Ieee.{of_bits}
 use Rattle.std.proofs.lemmas.List.{drop_all}
-use Rattle.bounds.specs.Bounds.{SCANS, BODY, BODIES, COLUMN, COLUMNS, OWNER, OWNERS, FROZEN, PART, PARTS, HEIGHTS, FILTER, FILTERS}
+use Rattle.bounds.specs.Bounds.{SCANS, BODY, BODIES, COLUMN, COLUMNS, OWNER, OWNERS, FROZEN, PART, PARTS, FILTER, FILTERS}
 use Rattle.buffers.specs.Buffers.{over, cleared}
 use Rattle.buffers.specs.Slots.{slotted}
 use Rattle.buffers.proofs.Over.{length_over}
@@ -29,6 +29,7 @@ use Rattle.fgo_spec.proofs.Keeping.{Known}
 use Rattle.fgo_spec.proofs.Arrival.{Column}
 use Rattle.fgo_spec.proofs.Accepting.{Room}
 use Rattle.fgo_part.specs.Parts.{part_words, part_numbers}
+use Rattle.fgo_part.proofs.Parts.{part_long}
 use Rattle.fgo_state.specs.declared.state.FixedLagRefiner.{FixedLagRefiner}
 use Rattle.fgo_state.specs.Memory.{memory, no_memory, slot_at, head_at, head_for, length_in, kind_in, bytes_at, body_at, column_words, owner_words}
 use Rattle.fgo_state.specs.Contents.{ids_put, columns_of, arrived, departed, held_bodies, laid}
@@ -128,13 +129,7 @@ words_long = length-flat part_words PART (λ e. refl)
 numbers_long : (ps : List (ℕ × Prefix)) → All Low ps → length (flat_map part_numbers ps) ≡ FILTER * length ps
 unfolding flat_map
 numbers_long [] h = refl
-numbers_long (e ∷ ps) h =
-    let hs : List Float = e.1.heights in
-    let z : List Float = replicate (HEIGHTS - length hs) (of_bits binary64 0) in
-    let a = length-append (hs ++ z) (flat_map part_numbers ps) in
-    let b = length-append hs z in
-    let c = length-replicate (HEIGHTS - length hs) (of_bits binary64 0) in
-    omega (arith, a, b, c, h.0, numbers_long ps h.1)
+numbers_long (e ∷ ps) h = omega (arith, length-append (part_numbers e) (flat_map part_numbers ps), part_long e h.0, numbers_long ps h.1)
 
 -- ---- a frame arrives
 

@@ -20,7 +20,8 @@ use Rattle.smoother_frame.specs.Frame.{well_formed}
 use Rattle.smoother_window.specs.declared.SmootherConfig.{SmootherConfig}
 use Rattle.smoother_window.specs.Config.{lag, most}
 use Rattle.smoother_pass.specs.Pass.{emitted}
-use Rattle.smoother.specs.Smoother.{State, new, held, settle, push_by, push, reply}
+use Rattle.smoother.specs.Smoother.{State, new, reply}
+use Rattle.smoother.proofs.Calls.{push_formed}
 use Rattle.histories.specs.Smoothed.{smoothing, Sourced, handed, sourced_after, sourced, picked, Smoothed, Both, Passes}
 use Rattle.histories.proofs.SmootherRun.{Block, ran, last_left, reply-stays}
 use Rattle.histories.proofs.Parts.{Parts, parts}
@@ -132,10 +133,6 @@ module _ (c : FgoConfig) (ops : List (Op Body)) (sent : All Sent ops) where
 
     formed-here : most d ≡ TRACKS → (e : Emitted) → well_formed TRACKS (written e) ≡ true → well_formed (most r.state.config) (written e) ≡ true
     formed-here wide e w = ap (λ s. well_formed (most s.config) (written e)) (ran d os).same ∙ ap (λ n. well_formed n (written e)) wide ∙ w
-
-    push_formed : (s : State) (f : Written) → well_formed (most s.config) f ≡ true → push s f ≡ settle (held s f)
-    unfolding push
-    push_formed s f w = ap (λ b. push_by b s f) w
 
     pub both : Both c ops d os first
     both =

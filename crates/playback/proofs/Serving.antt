@@ -5,12 +5,11 @@ use native.Mathlib.Omega.{arith}
 use mathlib.Core.Path.{◌≡◌, refl, sym, ap, ◌∙◌, subst}
 use mathlib.Core.Bool.{true, cond}
 use mathlib.Core.List.{List, [], ◌∷◌, ◌++◌}
-use lib.ListN.{length, length-replicate}
+use lib.ListN.{length}
 use lib.Ieee.{Float}
 use Rattle.std.proofs.Math.Logic.{∥∥₁_map, ∥∥₁_elim}
 use Rattle.std.proofs.Math.Nat.{ℕ_set}
 use Rattle.bounds.specs.Bounds.{WORDS, NUMBERS, TEXT}
-use Rattle.scalar.specs.Digits.{nil}
 use Rattle.buffers.specs.Answer.{Op, taken, Written, roomy, checked}
 use Rattle.print.specs.Text.{Puts, full_answer}
 use Rattle.print.proofs.Showing.{shown}
@@ -18,32 +17,29 @@ use Rattle.print.proofs.Fitting.{full_answer_few, ready}
 use Rattle.smoother_window.specs.declared.FixedLagSmoother.{FixedLagSmoother}
 use Rattle.smoother_window.specs.declared.SmootherConfig.{SmootherConfig}
 use Rattle.smoother_window.specs.Config.{legal}
-use Rattle.smoother_window.proofs.Forms.{frames_long}
+use Rattle.smoother.proofs.Refusals.{held_is}
 use Rattle.smoother.specs.Smoother.{State, emit_oldest, takes, reply}
 use Rattle.smoother.specs.Promise.{Window, state_in, Promised, Pushed}
 use Rattle.histories.specs.Smoothed.{smoothing}
 use Rattle.histories.specs.Joined.{Call, Same, Reached}
 use Rattle.histories.proofs.CallsLaw.{more}
 use Rattle.histories.proofs.JoinedLaw.{known, settings}
-use Rattle.playback.specs.declared.output.FrameBuffers.{FrameBuffers}
 use Rattle.playback.specs.declared.smoothed.Smoother.{Smoother}
-use Rattle.playback.specs.Told.{empty_buffers, lent_to, Tells}
+use Rattle.playback.specs.Told.{lent_to, Tells}
 use Rattle.playback.specs.Smoothed.{Smoothed}
 
 -- ---- what is told
 
 pub tells :
-    {o : Op Written} (k k' : Smoother) {b : FrameBuffers} {p : Pushed} {ws : List ℕ} {ns : List Float} {out out' : List ℕ} {end : ℕ} →
-    b ≡ empty_buffers → Promised o k.state (lent_to k) b.words b.numbers p (lent_to k') ws ns → k'.state ≡ p.state → length out ≡ TEXT →
-    Puts (full_answer p.answer ws ns) 0 out out' end → Tells k k' out' end o
-tells {o} k k' {p = p} {ws} {ns} e h state room q =
+    {o : Op Written} (k k' : Smoother) {p : Pushed} {out out' : List ℕ} {end : ℕ} →
+    Promised o k.state (lent_to k) k.output.words k.output.numbers p (lent_to k') k'.output.words k'.output.numbers → k'.state ≡ p.state →
+    length out ≡ TEXT → Puts (full_answer p.answer k'.output.words k'.output.numbers) 0 out out' end → Tells k k' out' end o
+tells k k' {p = p} h state room q =
     record {
       given = p;
-      words = ws;
-      numbers = ns;
-      promised = subst (λ (b : FrameBuffers). Promised o k.state (lent_to k) b.words b.numbers p (lent_to k') ws ns) e h;
+      promised = h;
       state = state;
-      text = ready q (full_answer_few ws ns p.answer (shown (λ f. f) state_in h.ends)) (omega (arith, room));
+      text = ready q (full_answer_few k'.output.words k'.output.numbers p.answer (shown (λ f. f) state_in h.ends)) (omega (arith, room));
     }
 
 -- ---- where it leads
@@ -52,14 +48,9 @@ tells {o} k k' {p = p} {ws} {ns} e h state room q =
 same : (s : FixedLagSmoother) (w : Window) → Same s w w
 same s w = record { words = refl; numbers = refl; state = refl }
 
--- as many frames are held as the smoother counts
-held_is : (s : FixedLagSmoother) (w : Window) → length (state_in s w).frames ≡ s.held
-unfolding state_in
-held_is s w = frames_long s w.words w.numbers 0 s.held
-
--- empty output buffers for the longest frame are long enough
-enough : roomy (length empty_buffers.words) (length empty_buffers.numbers) ≡ true
-enough = λ i. roomy (length-replicate {A = ℕ} WORDS 0 i) (length-replicate NUMBERS nil i)
+-- output buffers for the longest frame are long enough
+enough : {a b : ℕ} → a ≡ WORDS → b ≡ NUMBERS → roomy a b ≡ true
+enough a b = λ i. roomy (a i) (b i)
 
 -- a take leaves one frame fewer, if one is held
 take-fewer : (t : State) (l : List Written) → 0 < length l → length l ≡ suc (length (emit_oldest t l).1.frames)
@@ -67,21 +58,21 @@ unfolding emit_oldest
 take-fewer t [] h = absurd (omega arith)
 take-fewer t (f ∷ fs) h = refl
 
-module _ (o : Op Written) (s : FixedLagSmoother) (w : Window) {p : Pushed} {w' : Window} {ws : List ℕ} {ns : List Float}
-    (l : Smoothed s w) (h : Promised o s w empty_buffers.words empty_buffers.numbers p w' ws ns) where
+module _ (o : Op Written) (s : FixedLagSmoother) (w : Window) {ws : List ℕ} {ns : List Float} {p : Pushed} {w' : Window} {ws' : List ℕ} {ns' : List Float}
+    (l : Smoothed s w) (h : Promised o s w ws ns p w' ws' ns') where
   -- the call
   abbrev call : Call
   call =
       record {
         sent = o;
         lent = w;
-        words = empty_buffers.words;
-        numbers = empty_buffers.numbers;
+        words = ws;
+        numbers = ns;
         answer = p.answer;
         value = p.state;
         memory = w';
-        words_back = ws;
-        numbers_back = ns;
+        words_back = ws';
+        numbers_back = ns';
       }
 
   serves : Smoothed p.state w'
@@ -96,17 +87,18 @@ module _ (o : Op Written) (s : FixedLagSmoother) (w : Window) {p : Pushed} {w' :
         reached = subst (λ (d : SmootherConfig). Reached d (l.calls ++ more (roomy (length call.words) (length call.numbers)) o) p.state w') (sym e) a;
       }
 
--- the same of a call with output buffers b
+-- the same, without the calls
 pub served :
-    {o : Op Written} {s : FixedLagSmoother} {w : Window} {b : FrameBuffers} {p : Pushed} {w' : Window} {ws : List ℕ} {ns : List Float} →
-    b ≡ empty_buffers → Promised o s w b.words b.numbers p w' ws ns → ∥ Smoothed s w ∥₁ → ∥ Smoothed p.state w' ∥₁
-served {o} {s} {w} {p = p} {w'} {ws} {ns} e h t =
-    ∥∥₁_map t (λ l. serves o s w l (subst (λ (b : FrameBuffers). Promised o s w b.words b.numbers p w' ws ns) e h))
+    {o : Op Written} {s : FixedLagSmoother} {w : Window} {ws : List ℕ} {ns : List Float} {p : Pushed} {w' : Window} {ws' : List ℕ} {ns' : List Float} →
+    Promised o s w ws ns p w' ws' ns' → ∥ Smoothed s w ∥₁ → ∥ Smoothed p.state w' ∥₁
+served {o} {s} {w} h t = ∥∥₁_map t (λ l. serves o s w l h)
 
 module _ {k k' : Smoother} {out' : List ℕ} {end : ℕ} where
-  fewer : Smoothed k.state (lent_to k) → 0 < k.state.held → Tells k k' out' end taken → k.state.held ≡ suc k'.state.held
+  fewer :
+      length k.output.words ≡ WORDS → length k.output.numbers ≡ NUMBERS → Smoothed k.state (lent_to k) → 0 < k.state.held → Tells k k' out' end taken →
+      k.state.held ≡ suc k'.state.held
   unfolding takes
-  fewer l some h =
+  fewer words numbers l some h =
       let s = k.state in
       let w = lent_to k in
       let d = s.config in
@@ -116,8 +108,9 @@ module _ {k k' : Smoother} {out' : List ℕ} {end : ℕ} where
       let after : k'.state.held ≡ length (emit_oldest u u.frames).1.frames =
       ap (λ s. s.held) h.state
       ∙ sym (held_is h.given.state (lent_to k'))
-      ∙ ap (λ t. length t.frames) (n ∙ ap (λ b. (checked (cond b 0 4) u (reply u taken)).1) enough) in
+      ∙ ap (λ t. length t.frames) (n ∙ ap (λ b. (checked (cond b 0 4) u (reply u taken)).1) (enough words numbers)) in
       sym held ∙ take-fewer u u.frames (omega arith) ∙ ap suc (sym after)
 
-  pub tells_fewer : 0 < k.state.held → Tells k k' out' end taken → k.state.held ≡ suc k'.state.held
-  tells_fewer some h = ∥∥₁_elim k.led (ℕ_set _ _) (λ l. fewer l some h)
+  pub tells_fewer :
+      length k.output.words ≡ WORDS → length k.output.numbers ≡ NUMBERS → 0 < k.state.held → Tells k k' out' end taken → k.state.held ≡ suc k'.state.held
+  tells_fewer words numbers some h = ∥∥₁_elim k.led (ℕ_set _ _) (λ l. fewer words numbers l some h)

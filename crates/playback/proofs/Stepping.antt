@@ -12,7 +12,6 @@ use Rattle.buffers.specs.Answer.{Op, pushed, taken, Reply, refused, waits, gives
 use Rattle.engine.specs.declared.config.FgoConfig.{FgoConfig}
 use Rattle.engine.specs.declared.types.BodyKind.TheVariants.{Narrow}
 use Rattle.engine.specs.Body.{Body, body}
-use Rattle.engine.proofs.Passing.{length-rows}
 use Rattle.fgo_spec.specs.Windows.{Scan}
 use Rattle.fgo_spec.specs.Emitting.{Emitted, words_of, written}
 use Rattle.fgo_spec.specs.Refiner.{State, leave, freeze_oldest, takes, reply}
@@ -28,6 +27,7 @@ use Rattle.print.specs.Printed.{Counted}
 use Rattle.print.proofs.Showing.{front}
 use Rattle.histories.specs.Refined.{Call, Same, Reached}
 use Rattle.histories.proofs.CallsLaw.{more}
+use Rattle.histories.proofs.FinishLaw.{held_is}
 use Rattle.histories.proofs.RefinedLaw.{known}
 use Rattle.playback.specs.Played.{Leads, Fewer}
 
@@ -71,11 +71,6 @@ same r m = record { bodies = λ i h. refl; state = refl }
 
 enough : {a b : ℕ} → a ≡ WORDS → b ≡ NUMBERS → roomy a b ≡ true
 enough a b = λ i. roomy (a i) (b i)
-
--- as many frames are held as the refiner counts
-held_is : (r : FixedLagRefiner) (m : Memory) → length (state_of r m).scans ≡ r.held
-unfolding state_of
-held_is r m = length-rows (scan_in m.scans.bodies m.scans.columns) r.first.0 r.held
 
 -- a take leaves one frame fewer, if one is held
 take-fewer : (c : FgoConfig) (t : State) (l : List Scan) → 0 < length l → length l ≡ suc (length (freeze_oldest c t l).1.scans)

@@ -10,6 +10,7 @@ use Rattle.recording.specs.Recording.{recorded_body}
 use Rattle.fgo_state.specs.declared.state.FixedLagRefiner.{FixedLagRefiner}
 use Rattle.fgo_state.specs.declared.state.Memory.{Memory}
 use Rattle.fgo.specs.Promise.{new_by}
+use Rattle.smoother.specs.Smoother.{open_refusal}
 use Rattle.smoother.specs.Promise as Promise
 use Rattle.histories.specs.Refined as Refined
 use Rattle.playback.specs.declared.smoothed.Smoother.{Smoother}
@@ -61,6 +62,11 @@ pub record Opened (c : FgoConfig) (k : Smoother) : Type 0 where
   pub words : k.size.words ≡ (c.lag_frames + 1) * words_for TRACKS
   pub numbers : k.size.numbers ≡ (c.lag_frames + 1) * numbers_for TRACKS
   pub clear : lent_to k ≡ Promise.emptied (lent_to k)
+
+-- what a smoother behind a refiner of these settings is refused for, over a window as long as that lag asks for: 0 for
+-- nothing
+abbrev pub unopened_for : FgoConfig → ℕ
+unopened_for c = open_refusal (smoothing_of c) ((c.lag_frames + 1) * words_for TRACKS) ((c.lag_frames + 1) * numbers_for TRACKS)
 
 -- a smoother holds none
 abbrev pub Emptied : Smoother → Type 0

@@ -25,14 +25,12 @@ lent_to k = lent_of k.size (window k.words k.values)
 
 -- of a smoother k: what is left of it, the lent bytes, and where the text in them ends
 module _ (k k' : Smoother) (out' : List ℕ) (end : ℕ) where
-  -- it is pushed a frame, or taken from, by its contract, with empty output buffers, and its answer is told in full
+  -- it is pushed a frame, or taken from, by its contract, with its output buffers, and its answer is told in full
   pub record Tells (o : Op Written) : Type 0 where
     pub given : Pushed
-    pub words : List ℕ
-    pub numbers : List Float
-    pub promised : Promised o k.state (lent_to k) empty_buffers.words empty_buffers.numbers given (lent_to k') words numbers
+    pub promised : Promised o k.state (lent_to k) k.output.words k.output.numbers given (lent_to k') k'.output.words k'.output.numbers
     pub state : k'.state ≡ given.state
-    pub text : Ready (full_answer given.answer words numbers) out' end
+    pub text : Ready (full_answer given.answer k'.output.words k'.output.numbers) out' end
 
   -- an answer of the refiner, whose frame stands at the front of the words ws and the numbers ns, comes to it: a
   -- refusal is told, and a frame is pushed

@@ -1,8 +1,9 @@
 // Where the refiner's frames go: into text, in short or in full; or to a smoother, whose frames go into text in full.
 //
 // The text of an answer is put together at the start of text, and a function gives back the place where it ends.
-ghost use Rattle.std.specs.Prelude.{◌≤◌, length, OnOk};
+ghost use Rattle.std.specs.Prelude.{◌≡◌, ◌≤◌, length, OnOk, OnErr};
 ghost use Rattle.bounds.specs.Bounds.{LAG};
+ghost use Rattle.refusals.specs.Refusals.{refused};
 ghost use Rattle.buffers.specs.Answer.{answer_in};
 ghost use Rattle.print.specs.Printed.{Counted};
 
@@ -22,6 +23,9 @@ pub trait Sink: Drop {
     // It is opened behind a refiner of these settings, and holds no frame yet.
     ghost opened_of: { FgoConfig → Self → Type 0 };
 
+    // What it is refused for behind a refiner of these settings: a refusal's number, 0 for nothing.
+    ghost refusal_of: { FgoConfig → ℕ };
+
     // It holds no frame.
     ghost emptied_of: { Self → Type 0 };
 
@@ -32,12 +36,14 @@ pub trait Sink: Drop {
     // Before it is opened.
     fn new() -> Self;
 
-    // Opened behind a refiner with these settings; or its refusal.
+    // Opened behind a refiner with these settings; or its refusal, which leaves it as it was.
     // As it is: a sink that is there already is opened, and no sink is given: a smoother's window is long, and would be
     // copied from call to call on its way to where it stays.
     fn open(&mut self, c: FgoConfig) -> Result<(), Refusal>
         requires { c.lag_frames ≤ LAG }
-        ensures { OnOk result (opened_of c self.new) };
+        ensures opened { OnOk result (opened_of c self.new) }
+        ensures refusal { refused result ≡ refusal_of c }
+        ensures kept { OnErr result (self.new ≡ self.old) };
 
     // An answer of the refiner, to where its frames go.
     fn put_answer(&mut self, shown: &AnswerRef<'_>, text: &mut [u8; TEXT]) -> usize
@@ -64,6 +70,8 @@ impl Sink for Short {
     ghost use Rattle.playback.specs.Told.{Puts};
 
     ghost opened_of = { λ c k. Unit {0} };
+
+    ghost refusal_of = { λ c. 0 };
 
     ghost emptied_of = { λ k. Unit {0} };
 
@@ -101,6 +109,8 @@ impl Sink for Full {
     ghost use Rattle.playback.specs.Told.{Puts};
 
     ghost opened_of = { λ c k. Unit {0} };
+
+    ghost refusal_of = { λ c. 0 };
 
     ghost emptied_of = { λ k. Unit {0} };
 

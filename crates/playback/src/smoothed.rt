@@ -2,13 +2,16 @@
 // function gives back the place where it ends.
 ghost use Rattle.std.specs.Prelude.{◌≡◌, ◌≤◌};
 ghost use Rattle.bounds.specs.Bounds.{WINDOW, VALUES};
-ghost use Rattle.buffers.specs.Answer.{pushed, taken};
+ghost use Rattle.buffers.specs.Answer.{answer_in, pushed, taken};
+ghost use Rattle.print.specs.Printed.{Shown};
+ghost use Rattle.print.specs.Text.{Puts, full_answer};
 ghost use Rattle.smoother.specs.Promise.{window as window_of, lent_of};
 ghost use Rattle.playback.specs.Smoothed.{smoothing_of, Smoothed};
 
 use crate::output::FrameBuffers;
 use crate::sink::Sink;
 use bounds::{TEXT, TRACKS, VALUES, WINDOW};
+use buffers::Answer;
 use console::Console;
 use engine::config::FgoConfig;
 use print::answer_ref::AnswerRef;
@@ -18,14 +21,15 @@ use smoother::FrameRef;
 use smoother_window::size::{WindowSize, window_size};
 use smoother_window::{FixedLagSmoother, SmootherConfig};
 
-// A smoother, and the longest window, of which as much is lent to it as its lag asks for. Pushes and takes have led to
-// them.
+// A smoother; the longest window, of which as much is lent to it as its lag asks for; and its output buffers. Pushes and
+// takes have led to smoother and window.
 #[derive(Drop)]
 pub struct Smoother {
     pub state: FixedLagSmoother,
     pub size: WindowSize,
     pub words: [u64; WINDOW],
     pub values: [f64; VALUES],
+    pub output: FrameBuffers,
     pub ghost fits: { (size.words ≤ WINDOW) × (size.numbers ≤ VALUES) },
     pub ghost led: { ∥ Smoothed state (lent_of size (window_of words values)) ∥₁ },
 }
@@ -45,55 +49,58 @@ impl Smoother {
     ghost use Rattle.smoother_frame.specs.Frame.{frame as frame_of};
     ghost use Rattle.playback.specs.Told.{Tells};
 
+    // An answer, whose frame stands in the output buffers, told in full.
+    fn tell(&self, answer: Answer, text: &mut [u8; TEXT]) -> usize
+        requires { Shown (answer_in answer) self.now.output.words self.now.output.numbers }
+        ensures { Puts (full_answer (answer_in answer) self.now.output.words self.now.output.numbers) 0 text.old text.new result }
+    {
+        let shown = AnswerRef {
+            answer,
+            words: &self.output.words,
+            numbers: &self.output.numbers,
+        };
+        answers::put_full(text, &shown)
+    }
+
     // A frame, pushed, and the answer.
     fn push(&mut self, frame: &FrameRef<'_>, text: &mut [u8; TEXT]) -> usize
         ensures { Tells self.old self.new text.new result (pushed (frame_of frame.now.words.now frame.now.numbers.now)) }
     {
-        let mut smoothed = FrameBuffers::new();
         let answer = smoother::push_over(
             &mut self.state,
             self.size,
             &mut self.words,
             &mut self.values,
             frame,
-            &mut smoothed.words,
-            &mut smoothed.numbers,
+            &mut self.output.words,
+            &mut self.output.numbers,
         );
-        let shown = AnswerRef {
-            answer,
-            words: &smoothed.words,
-            numbers: &smoothed.numbers,
-        };
-        answers::put_full(text, &shown)
+        self.tell(answer, text)
     }
 
     // The oldest frame that is held, taken.
     fn take(&mut self, text: &mut [u8; TEXT]) -> usize
         ensures { Tells self.old self.new text.new result taken }
     {
-        let mut smoothed = FrameBuffers::new();
         let answer = smoother::take_over(
             &mut self.state,
             self.size,
             &mut self.words,
             &mut self.values,
-            &mut smoothed.words,
-            &mut smoothed.numbers,
+            &mut self.output.words,
+            &mut self.output.numbers,
         );
-        let shown = AnswerRef {
-            answer,
-            words: &smoothed.words,
-            numbers: &smoothed.numbers,
-        };
-        answers::put_full(text, &shown)
+        self.tell(answer, text)
     }
 }
 
 impl Sink for Smoother {
     ghost use Rattle.playback.specs.Told.{Smooths};
-    ghost use Rattle.playback.specs.Played.{Opened, Emptied};
+    ghost use Rattle.playback.specs.Played.{Opened, unopened_for, Emptied};
 
     ghost opened_of = { Opened };
+
+    ghost refusal_of = { unopened_for };
 
     ghost emptied_of = { Emptied };
 
@@ -114,6 +121,7 @@ impl Sink for Smoother {
             size: window_size(0, TRACKS),
             words: [0; WINDOW],
             values: [0.0; VALUES],
+            output: FrameBuffers::new(),
         }
     }
 

@@ -1,24 +1,31 @@
 -- The ways through opening, push and take, each with its promise. Assumes nothing.
 use Prim.Native.Nat.{ℕ, ◌≤◌, ◌<◌}
 use mathlib.Core.Path.{◌≡◌, refl, sym, ap, ◌∙◌, subst}
-use mathlib.Core.Bool.{true, false}
+use mathlib.Core.Bool.{true, false, cond}
 use mathlib.Core.List.{List, [], ◌∷◌, ◌++◌}
 use native.Mathlib.Omega.{arith}
+use Rattle.std.specs.Prelude.{Option as Maybe, Ok, Err}
+use Rattle.std.specs.declared.option.Option.TheVariants.{Some, None}
+use Rattle.std.specs.Option.{ok_or}
 use lib.ListN.{length}
 use lib.Ieee.{Float}
-use borrow.Author.Tests.{lt-ltb, le-ltb}
+use borrow.Author.Tests.{lt-ltb, le-ltb, eqb-false}
+use Rattle.refusals.specs.declared.Refusal.{Refusal}
+use Rattle.refusals.specs.declared.Refusal.TheVariants.{Frame}
+use Rattle.refusals.specs.Refusals.{number_of}
+use Rattle.refusals.proofs.Refused.{numbered}
 use Rattle.buffers.specs.Answer.{Op, pushed, refused, waits, gives, Written, Ends, checked, Held}
 use Rattle.buffers.proofs.Checking.{check_refused}
 use Rattle.smoother_frame.specs.Frame.{well_formed}
 use Rattle.smoother_window.specs.declared.FixedLagSmoother.{FixedLagSmoother}
 use Rattle.smoother_window.specs.Config.{lag, most}
 use Rattle.smoother_window.specs.Window.{held_frame, frames_from, frames_in, all_formed, more, fewer, Fitting, Stored}
-use Rattle.smoother_window.proofs.Forms.{frames_long, formed_more, all_counted}
+use Rattle.smoother_window.proofs.Forms.{formed_more, all_counted}
 use Rattle.smoother_pass.specs.Pass.{emitted}
 use Rattle.smoother_pass.specs.Oldest.{oldest}
 use Rattle.smoother.specs.Smoother.{State, held, emit_oldest, settle, push, takes, reply}
 use Rattle.smoother.specs.Promise.{Window, window, state_in, later_refusal, due, stored, freed, window_after, struct_after, Promised, refused_as, Ready, Emits, Pushed}
-use Rattle.smoother.proofs.Refusals.{passing}
+use Rattle.smoother.proofs.Refusals.{held_is, had_when, lacking_when, passing}
 
 -- ---- what is due
 
@@ -46,11 +53,11 @@ module _ (st : State) (f : Written) where
 module _ (s : FixedLagSmoother) (w : Window) where
   pub settle-held : s.held ≤ lag s.config → settle (state_in s w) ≡ (waits, state_in s w)
   unfolding settle state_in
-  settle-held h = rw (frames_long s w.words w.numbers 0 s.held, le-ltb (lag s.config) s.held h)
+  settle-held h = rw (held_is s w, le-ltb (lag s.config) s.held h)
 
   pub settle_gives : lag s.config < s.held → settle (state_in s w) ≡ emit_oldest (state_in s w) (state_in s w).frames
   unfolding settle state_in
-  settle_gives h = rw (frames_long s w.words w.numbers 0 s.held, lt-ltb (lag s.config) s.held h)
+  settle_gives h = rw (held_is s w, lt-ltb (lag s.config) s.held h)
 
   -- 13
   pub none_held : s.held ≡ 0 → takes (state_in s w) ≡ (refused 13, state_in s w)
@@ -81,6 +88,10 @@ module _ (o : Op Written) (s : FixedLagSmoother) (w : Window) (ws : List ℕ) (n
         numbers = refl;
       }
 
+  -- of 2, 3 or 4
+  pub refuses_early : (r : Refusal) → number_of r ≡ later_refusal s w (length ws) (length ns) → Promised o s w ws ns (refused_as s (number_of r)) w ws ns
+  refuses_early r h = refuses (number_of r) (due_refused o s w ws ns h (eqb-false _ 0 (numbered r))) refl
+
   -- of the oldest that leaves of what r and v hold
   pub gives_oldest : (r : FixedLagSmoother) (v : Window) {p : Pushed} {w' : Window} {ws' : List ℕ} {ns' : List Float} → due s w o ws ns ≡ emit_oldest (state_in r v) (state_in r v).frames
       → fewer r ≡ struct_after s o (gives (oldest r v.words v.numbers)) → freed r v ≡ window_after s o (gives (oldest r v.words v.numbers)) w → Emits r v ws ns p w' ws' ns'
@@ -99,54 +110,69 @@ module _ (o : Op Written) (s : FixedLagSmoother) (w : Window) (ws : List ℕ) (n
         numbers = n;
       }
 
--- ---- a push that stores the frame
+-- ---- a push that none of 1 to 4 refuses: m is its frame, if that is well formed
 
-module _ (s : FixedLagSmoother) (w : Window) (ws : List ℕ) (ns : List Float) (f : Written) (e : later_refusal s w (length ws) (length ns) ≡ 0) (h : well_formed (most s.config) f ≡ true)
-    (r : FixedLagSmoother) (w' : Window) (d : Stored s w.words w.numbers f r w'.words w'.numbers) where
-  stored-frames : frames_in (more s) w'.words w'.numbers ≡ frames_in s w.words w.numbers ++ (f ∷ [])
-  stored-frames = ap (λ r. frames_in r w'.words w'.numbers) (sym d.state) ∙ d.frames
-
-  stored-state : state_in r w' ≡ held (state_in s w) f
+module _ (s : FixedLagSmoother) (w : Window) (ws : List ℕ) (ns : List Float) (f : Written) (passes : 0 ≡ later_refusal s w (length ws) (length ns))
+    {m : Maybe Written} (formed : m ≡ cond (well_formed (most s.config) f) (Some f) None) where
+  -- it is not
+  pub push_refuses : {r : Refusal} → Err r ≡ ok_or m Frame → Promised (pushed f) s w ws ns (refused_as s (number_of r)) w ws ns
   unfolding state_in
-  stored-state = let g = stored-frames in ap (λ r. state_in r w') d.state ∙ (λ i. record { config = s.config; frames = g i })
+  push_refuses lacks =
+      let h = lacking_when (well_formed (most s.config) f) f formed lacks in
+      rw h.1 (refuses (pushed f) s w ws ns 5 (due_passed (pushed f) s w ws ns (sym passes) ∙ push_malformed (state_in s w) f h.0) refl)
 
-  push-due : due s w (pushed f) ws ns ≡ settle (state_in r w')
-  unfolding state_in
-  push-due = due_passed (pushed f) s w ws ns e ∙ push_formed (state_in s w) f h ∙ ap settle (sym stored-state)
+  -- it is, and is stored
+  module _ {g : Written} (has : Ok g ≡ ok_or m Frame) {r : FixedLagSmoother} {w' : Window} (kept : Stored s w.words w.numbers g r w'.words w'.numbers) where
+    had : (well_formed (most s.config) f ≡ true) × (g ≡ f)
+    had = had_when (well_formed (most s.config) f) Frame formed has
 
-  pub push_ready : Ready r w'
-  push_ready =
-      let p = passing s w (length ws) (length ns) e in
-      let g : Fitting (more s) w'.words w'.numbers = record { lags = p.fits.lags; tracks = p.fits.tracks; words = d.words ∙ p.fits.words; numbers = d.numbers ∙ p.fits.numbers } in
-      subst (λ r. Ready r w') (sym d.state)
-      (record {
-        fits = g;
-        few = omega (arith, p.few);
-        some = omega arith;
-        counted =
-            all_counted (more s) w'.words w'.numbers g
-            (subst (λ l. all_formed (most s.config) l ≡ true) (sym stored-frames) (formed_more (most s.config) (frames_in s w.words w.numbers) f p.formed h));
-      })
+    d : Stored s w.words w.numbers f r w'.words w'.numbers
+    d = subst (λ f. Stored s w.words w.numbers f r w'.words w'.numbers) had.1 kept
 
-  stored-window : w' ≡ stored s f w
-  stored-window = λ i. window (d.words_put i) (d.numbers_put i)
+    stored-frames : frames_in (more s) w'.words w'.numbers ≡ frames_in s w.words w.numbers ++ (f ∷ [])
+    stored-frames = ap (λ r. frames_in r w'.words w'.numbers) (sym d.state) ∙ d.frames
 
-  pub push-holds : r.held ≤ lag r.config → Promised (pushed f) s w ws ns (record { answer = Held; state = r }) w' ws ns
-  push-holds l =
-      let a = push-due ∙ settle-held r w' l in
-      record {
-        ends =
-            subst (λ a. Ends (λ f. f) state_in a s w ws ns Held r w' ws ns) (sym a)
-            (record { answered = refl; state = refl; words = refl; numbers = refl; small = tt; unchanged = tt });
-        slots = d.state ∙ ap (λ a. struct_after s (pushed f) a.0) (sym a);
-        window = stored-window ∙ ap (λ a. window_after s (pushed f) a.0 w) (sym a);
-        window_words = d.words;
-        window_numbers = d.numbers;
-        words = refl;
-        numbers = refl;
-      }
+    stored-state : state_in r w' ≡ held (state_in s w) f
+    unfolding state_in
+    stored-state = let g = stored-frames in ap (λ r. state_in r w') d.state ∙ (λ i. record { config = s.config; frames = g i })
 
-  pub push_gives : {p : Pushed} {v : Window} {ws' : List ℕ} {ns' : List Float} → lag r.config < r.held → Emits r w' ws ns p v ws' ns'
-      → length v.words ≡ length w'.words → length v.numbers ≡ length w'.numbers → length ws' ≡ length ws → length ns' ≡ length ns → Promised (pushed f) s w ws ns p v ws' ns'
-  push_gives l m h k =
-      gives_oldest (pushed f) s w ws ns r w' (push-due ∙ settle_gives r w' l) (ap fewer d.state) (λ i. freed (d.state i) (stored-window i)) m (h ∙ d.words) (k ∙ d.numbers)
+    push-due : due s w (pushed f) ws ns ≡ settle (state_in r w')
+    unfolding state_in
+    push-due = due_passed (pushed f) s w ws ns (sym passes) ∙ push_formed (state_in s w) f had.0 ∙ ap settle (sym stored-state)
+
+    pub push_ready : Ready r w'
+    push_ready =
+        let p = passing s w (length ws) (length ns) (sym passes) in
+        let g : Fitting (more s) w'.words w'.numbers = record { lags = p.fits.lags; tracks = p.fits.tracks; words = d.words ∙ p.fits.words; numbers = d.numbers ∙ p.fits.numbers } in
+        subst (λ r. Ready r w') (sym d.state)
+        (record {
+          fits = g;
+          few = omega (arith, p.few);
+          some = omega arith;
+          counted =
+              all_counted (more s) w'.words w'.numbers g
+              (subst (λ l. all_formed (most s.config) l ≡ true) (sym stored-frames) (formed_more (most s.config) (frames_in s w.words w.numbers) f p.formed had.0));
+        })
+
+    stored-window : w' ≡ stored s f w
+    stored-window = λ i. window (d.words_put i) (d.numbers_put i)
+
+    pub push-holds : r.held ≤ lag r.config → Promised (pushed f) s w ws ns (record { answer = Held; state = r }) w' ws ns
+    push-holds l =
+        let a = push-due ∙ settle-held r w' l in
+        record {
+          ends =
+              subst (λ a. Ends (λ f. f) state_in a s w ws ns Held r w' ws ns) (sym a)
+              (record { answered = refl; state = refl; words = refl; numbers = refl; small = tt; unchanged = tt });
+          slots = d.state ∙ ap (λ a. struct_after s (pushed f) a.0) (sym a);
+          window = stored-window ∙ ap (λ a. window_after s (pushed f) a.0 w) (sym a);
+          window_words = d.words;
+          window_numbers = d.numbers;
+          words = refl;
+          numbers = refl;
+        }
+
+    pub push_gives : {p : Pushed} {v : Window} {ws' : List ℕ} {ns' : List Float} → lag r.config < r.held → Emits r w' ws ns p v ws' ns'
+        → length v.words ≡ length w'.words → length v.numbers ≡ length w'.numbers → length ws' ≡ length ws → length ns' ≡ length ns → Promised (pushed f) s w ws ns p v ws' ns'
+    push_gives l m h k =
+        gives_oldest (pushed f) s w ws ns r w' (push-due ∙ settle_gives r w' l) (ap fewer d.state) (λ i. freed (d.state i) (stored-window i)) m (h ∙ d.words) (k ∙ d.numbers)

@@ -35,6 +35,11 @@ fitting s win nums h g =
     let b = both _ _ g in
     record { lags = a.0; tracks = a.1; words = eqb-true _ _ b.0; numbers = eqb-true _ _ b.1 }
 
+-- as many frames are held as the smoother counts
+pub held_is : (s : FixedLagSmoother) (w : Window) → length (state_in s w).frames ≡ s.held
+unfolding state_in
+held_is s w = frames_long s w.words w.numbers 0 s.held
+
 -- something is there where b holds, and it is asked for: where it is had, b holds
 pub had_when : {A E : Type 0} (b : Bool) (e : E) {f g : A} {r : Answer A} → r ≡ cond b (Some f) None → Ok g ≡ ok_or r e → (b ≡ true) × (g ≡ f)
 had_when true e {f} {g} p q = let z : Ok g ≡ ok_or (Some f) e = q ∙ ap (λ r. ok_or r e) p in (refl, cc)
@@ -73,7 +78,7 @@ passing s w n m h =
     let g = fitting s w.words w.numbers p.0 p.1 in
     record {
       fits = g;
-      few = omega (arith, l, frames_long s w.words w.numbers 0 s.held);
+      few = omega (arith, l, held_is s w);
       formed = f.1;
       counted = all_counted s w.words w.numbers g f.1;
       words = leb-true _ _ r.0;

@@ -43,7 +43,7 @@ returns c =
     let l = c.live_in-live.ensures.held in
     let f = c.live_in-live.ensures.frozen in
     let forgot = rw (h.0, h.1, h.2, c.later-r.ensures) at c.forget-r.ensures in
-    let kept = rw (l.0, l.1, l.2, f.0, f.1, c.later-r.ensures) at c.keep_owners-r.ensures.kept in
+    let kept = rw (l.0, l.1, l.2, f.0, f.1, c.later-r.ensures) at c.keep_owners-r.ensures in
     let next : c.later-r.result ≡ record { 0 = c.args.r.now.first.0 + 1 } = ap (λ (i : ℕ). record { 0 = i }) c.later-r.ensures in
     rw (next, c.clear.ensures)
-    (leaving_ends _ _ pre.0 pre.2 c.freeze_scan-many.new.parts.tracks c.freeze_scan-many.new.parts.filters c.freeze_scan-many.result c.freeze_scan-many.ensures.table c.forget-r.new.parts.tracks c.forget-r.new.parts.filters c.forget-r.result (time-is _ _ pre.0 pre.2 c.body.ensures c.time-time.ensures.1) forgot _ _ kept c.typed.ensures.bodies_long c.typed.ensures.columns_long c.put_frame-size.ensures c.keep_owners-r.ensures.cells c.freeze_scan-many.ensures.past)
+    (leaving_ends _ _ pre.0 pre.2 c.freeze_scan-many.new.parts.tracks c.freeze_scan-many.new.parts.filters c.freeze_scan-many.result c.freeze_scan-many.ensures.table c.forget-r.new.parts.tracks c.forget-r.new.parts.filters c.forget-r.result (time-is _ _ pre.0 pre.2 c.body.ensures c.time-time.ensures.1) forgot _ _ kept c.typed.ensures.bodies_long c.typed.ensures.columns_long c.put_frame-size.ensures c.freeze_scan-many.ensures.past)

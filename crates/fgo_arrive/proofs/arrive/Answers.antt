@@ -69,7 +69,7 @@ returns-clause-arrived c =
     let p = c.search_held-t.ensures.parts in
     let h = c.live_in-live.ensures.held in
     let f = c.live_in-live.ensures.frozen in
-    let keeps = rw (h.0, h.1, h.2, f.0, f.1, e, p) at c.keep_owners-r.ensures.kept in
+    let keeps = rw (h.0, h.1, h.2, f.0, f.1, e, p) at c.keep_owners-r.ensures in
     subst (Arrived a.r.now a.m.now (body_of a.b.now) (after u c.keep_owners-r.result c.search_held-t.result))
     (λ i. record { scans = record { bodies = sym e i; columns = n.scans.columns }; owners = c.keep_owners-r.new.owners; parts = sym p i })
-    (arrives a.r.now a.m.now (body_of a.b.now) c.requires.arrives c.typed.ensures.bytes c.are_bytes-bytes.ensures.bytes _ _ _ _ c.hold.ensures _ _ _ _ _ c.search_held-t.ensures.found (record { kept = keeps; cells = c.keep_owners-r.ensures.cells }))
+    (arrives a.r.now a.m.now (body_of a.b.now) c.requires.arrives c.typed.ensures.bytes c.are_bytes-bytes.ensures.bytes _ _ _ _ c.hold.ensures _ _ _ _ _ c.search_held-t.ensures.found (record { many = keeps.0; cells = keeps.1 }))

@@ -35,15 +35,13 @@ searched_by :
     Finds (scene_of (record { config = r.config; first = r.first; detections = n; frozen = r.frozen }) ts dots m.parts.tracks m.parts.filters) r.next_id.0 r.counters
     (table_in m.parts.tracks m.parts.filters r.frozen) (scans_in m.scans.bodies m.scans.columns r.first.0 r.held) ids t →
     {held : ℕ} → held ≡ r.held → Scattered m.scans.bodies r.first.0 held ids m.scans.columns columns' →
-    owners' ≡ over 0 (flat_map owner_words (owners_in owners' r.owned)) m.owners →
-    owners_in owners' r.owned ≡ held_latest ids (take n es') ts r.held (owners_in m.owners r.owned) → SearchedHeld r m columns' owners' t
-searched_by r m w n is es is' es' ts dots g es-long ids columns' owners' t long f {held} many put oc o =
+    owners' ≡ over 0 (flat_map owner_words (held_latest ids (take n es') ts r.held (owners_in m.owners r.owned))) m.owners → SearchedHeld r m columns' owners' t
+searched_by r m w n is es is' es' ts dots g es-long ids columns' owners' t long f {held} many put o =
     record {
       scans = found;
       bodies = λ i l. ap (body_refusal) (s.same i l) ∙ w.held.passes i l;
       columns_put = s.put ∙ ap (λ ss. ids_put r.first.0 ss m.scans.columns) (sym s.scans ∙ found);
-      owners_put = oc;
-      owners = o ∙ ap (λ (h : ℕ × ℕ → ℕ × ℕ). map h (owners_in m.owners r.owned)) (λ z p. (p.0, same p.0 p.1 z));
+      owners_put = o ∙ ap (λ (h : ℕ × ℕ → ℕ × ℕ). over 0 (flat_map owner_words (map h (owners_in m.owners r.owned))) m.owners) (λ z p. (p.0, same p.0 p.1 z));
       next_id = f.next_id;
       counters = f.counters;
     }
@@ -104,4 +102,4 @@ returns-clause-found c = let f = c.args in
     let k = c.requires.gathered.as_many in
     let v = c.improve-t.ensures in
     searched_by f.r.now f.m.now w _ _ _ _ _ _ _ g refl _ _ _ _ v.long (v.found _ _ (represents_held f.r.now f.m.now w _ _ _ _ _ _ _ g d))
-    k c.scatter.ensures.ids c.hold_latest.ensures.cells (rw (k, c.of-index.ensures) at c.hold_latest.ensures.latest)
+    k c.scatter.ensures.ids (rw (k, c.of-index.ensures) at c.hold_latest.ensures)

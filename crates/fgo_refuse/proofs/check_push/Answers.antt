@@ -6,7 +6,9 @@ use Rattle.std.proofs.lemmas.Result.{err_from_is_err_and}
 use Rattle.refusals.proofs.Refused.{numbered}
 use Rattle.std.proofs.lemmas.Bool.Decides.{nat_tests}
 use Rattle.fgo_refuse.specs.Refusing.{refused_by, push_refusal}
-use Rattle.fgo_state.proofs.Detections.{found_few}
+use Rattle.engine.specs.Body.{body_of}
+use Rattle.fgo_refuse.proofs.Joining.{joined_most}
+use Rattle.fgo_refuse.proofs.check_push.Goals.{else-r-ids-gt-OWNED-via-then-r-ids-gt-OWNED+else-joined_count-gt-OWNED, else-r-ids-gt-OWNED-via-else-r-ids-gt-OWNED}
 use Rattle.fgo_refuse.proofs.check_push.Goals as goal
 
 -- 5, 6 and 7 come first
@@ -26,18 +28,14 @@ unfolding push_refusal
 returns-then-is_full c = grind (arith, nat_tests)
 
 pub overflow_add-r : goal.overflow_add-r
-overflow_add-r c =
-    let h = c.held_in.result in
-    record { fits = omega (arith, c.requires.frozen, c.requires.few, c.window_count.ensures, c.held_in.ensures.2, found_few h.scans.now.bodies h.scans.now.columns h.first.0 h.count) }
+overflow_add-r c = record { fits = omega (arith, c.requires.frozen, c.requires.room) }
 
 pub overflow_add-r-2 : goal.overflow_add-r-2
-overflow_add-r-2 c =
-    let h = c.held_in.result in
-    record { fits = omega (arith, c.requires.frozen, c.requires.few, c.window_count.ensures, c.held_in.ensures.2, found_few h.scans.now.bodies h.scans.now.columns h.first.0 h.count, c.id_count.ensures.1) }
+overflow_add-r-2 c = record { fits = omega (arith, c.requires.frozen, c.requires.room, c.id_count-ids.ensures.1) }
 
-pub returns-then-r-window_count-gt-DETECTIONS : goal.returns-then-r-window_count-gt-DETECTIONS
+pub returns-then-r-detections-gt-DETECTIONS : goal.returns-then-r-detections-gt-DETECTIONS
 unfolding push_refusal
-returns-then-r-window_count-gt-DETECTIONS c = grind (arith, nat_tests)
+returns-then-r-detections-gt-DETECTIONS c = grind (arith, nat_tests)
 
 pub returns-then-joined_count-gt-OWNED : goal.returns-then-joined_count-gt-OWNED
 unfolding push_refusal
@@ -45,4 +43,9 @@ returns-then-joined_count-gt-OWNED c = grind (arith, nat_tests)
 
 pub returns : goal.returns
 unfolding push_refusal
-returns c = grind (arith, nat_tests)
+returns c =
+    let few = joined_most c.args.owners.now c.args.r.now.owned (body_of c.args.b.now) in
+    elim c.else-r-ids-gt-OWNED.branch [
+      | else-r-ids-gt-OWNED-via-then-r-ids-gt-OWNED+else-joined_count-gt-OWNED w ↦ grind (arith, nat_tests)
+      | else-r-ids-gt-OWNED-via-else-r-ids-gt-OWNED w ↦ grind (arith, nat_tests, few)
+    ]

@@ -1,7 +1,4 @@
-use borrow.Author.Tests.{eqb-false}
 use Rattle.std.proofs.lemmas.Result.{err_from_is_err_and}
-use Rattle.refusals.specs.Refusals.{number_of}
-use Rattle.refusals.proofs.Refused.{numbered}
 use mathlib.Core.Path.{refl, sym, ◌∙◌}
 use native.Mathlib.Omega.{arith}
 use lib.ListN.{length}
@@ -9,19 +6,13 @@ use Rattle.buffers.specs.Answer.{taken}
 use Rattle.smoother.specs.Smoother.{takes}
 use Rattle.smoother.specs.Promise.{window}
 use Rattle.smoother.proofs.Refusals.{passing}
-use Rattle.smoother.proofs.Calls.{due_refused, due_passed, none_held, refuses, gives_oldest}
+use Rattle.smoother.proofs.Calls.{due_passed, none_held, refuses, refuses_early, gives_oldest}
 use Rattle.smoother.proofs.take.Goals as goal
 
 pub returns-in_err-check_call : goal.returns-in_err-check_call
 returns-in_err-check_call c =
-    let g = c.args in
-    let w = window g.window.now g.values.now in
-    let ws = g.words.now in
-    let ns = g.numbers.now in
-    let r = c.in_err-check_call.field-0.0 in
     let p = err_from_is_err_and c.from_residual.result c.from_residual.ensures.1 in
-    let d = due_refused (taken) g.s.now w ws ns c.in_err-check_call.ensures (eqb-false _ 0 (numbered r)) in
-    rw (p.1, p.2) (refuses (taken) g.s.now w ws ns (number_of r) d refl)
+    rw (p.1, p.2) (refuses_early _ _ _ _ _ c.in_err-check_call.field-0.0 c.in_err-check_call.ensures)
 
 pub returns-then-s-eq0 : goal.returns-then-s-eq0
 returns-then-s-eq0 c =

@@ -1,8 +1,11 @@
 use native.Mathlib.Omega.{arith}
-use mathlib.Core.Path.{◌≡◌, sym, ◌∙◌}
+use mathlib.Core.Path.{◌≡◌, sym, ap, ◌∙◌}
+use mathlib.Core.List.{flat_map}
 use lib.ListN.{length}
 use borrow.Author.Rules.{rules}
 use Rattle.bounds.specs.Bounds.{OWNERS}
+use Rattle.buffers.specs.Buffers.{over}
+use Rattle.fgo_state.specs.Memory.{owner_words}
 use Rattle.fgo_state.proofs.OwnerCells.{owners_over}
 use Rattle.fgo_state.proofs.Tracks.{from_some, from_none}
 use Rattle.fgo_place.proofs.Telling.{kept, changed, all_told}
@@ -21,13 +24,10 @@ loop-k-preserved c = let f = c.args in
       ],
     )
 
-pub returns-clause-cells : goal.returns-clause-cells
-returns-clause-cells c = let f = c.args in
-    let v = c.loop-k.invariant in
-    let long : length f.owners.now ≡ OWNERS = search rules in
-    owners_over f.owned c.loop-k.owners f.owners.now (omega (arith, c.requires.0)) (v.2.long ∙ sym long) v.2.rest
-
-pub returns-clause-latest : goal.returns-clause-latest
-returns-clause-latest c = let f = c.args in
+pub returns : goal.returns
+returns c = let f = c.args in
     let l = c.loop-k in
-    all_told f.gathered.now.ids f.engines.now.ids.now f.gathered.now.starts f.gathered.now.held f.owners.now f.owned l.k l.owners c.loop-k-test.false l.invariant.2
+    let v = l.invariant in
+    let long : length f.owners.now ≡ OWNERS = search rules in
+    owners_over f.owned l.owners f.owners.now (omega (arith, c.requires.0)) (v.2.long ∙ sym long) v.2.rest
+    ∙ ap (λ os. over 0 (flat_map owner_words os) f.owners.now) (all_told f.gathered.now.ids f.engines.now.ids.now f.gathered.now.starts f.gathered.now.held f.owners.now f.owned l.k l.owners c.loop-k-test.false v.2)

@@ -5,7 +5,6 @@ use mathlib.Core.Bool.{Bool}
 use lib.ListN.{length}
 use Rattle.bounds.specs.Bounds.{OWNER}
 use Rattle.fgo_state.specs.Memory.{engine_at}
-use Rattle.fgo_place.specs.Owning.{kept_owners}
 use Rattle.fgo_place.proofs.Owners.{owning}
 use Rattle.fgo_place.proofs.Compacting.{compacts_none, compacts_more, compacts_same, compacts_all}
 use Rattle.fgo_place.proofs.own.keep_owners.Invariants.{lives}
@@ -27,8 +26,6 @@ loop-k-preserved c = let a = c.args in
     ]
 
 pub returns : goal.returns
-unfolding kept_owners
 returns c =
     let few : OWNER * c.args.owned ≤ length c.args.owners.now = omega (arith, c.requires) in
-    let both = compacts_all _ _ _ c.loop-k.invariant c.loop-k-test.false few c.clear.ensures in
-    record { cells = both.0; kept = both.1 }
+    compacts_all _ _ _ c.loop-k.invariant c.loop-k-test.false few c.clear.ensures
