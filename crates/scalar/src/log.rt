@@ -6,28 +6,21 @@ ghost use Rattle.scalar.specs.Ln.{ln_of, ln_near, ln_series};
 
 use crate::digits::{Digits, digits_of, full_digits};
 
-// The f64 nearest 1/n, for n = 21, 19, .., 1.
-const RECIPROCALS: [f64; 11] = [
-    0.047619047619047616,
-    0.05263157894736842,
-    0.058823529411764705,
-    0.06666666666666667,
-    0.07692307692307693,
-    0.09090909090909091,
-    0.1111111111111111,
-    0.14285714285714285,
-    0.2,
-    0.3333333333333333,
-    1.0,
-];
-
 // s = 1/21; then s = s·w + 1/n for n = 19, 17, .., 1.
 fn series(w: f64) -> f64
     ensures { result ≡ ln_series w }
 {
-    RECIPROCALS[1..]
-        .iter()
-        .fold(RECIPROCALS[0], |s, r| s * w + *r)
+    let s = 1.0 / 21.0;
+    let s = s * w + 1.0 / 19.0;
+    let s = s * w + 1.0 / 17.0;
+    let s = s * w + 1.0 / 15.0;
+    let s = s * w + 1.0 / 13.0;
+    let s = s * w + 1.0 / 11.0;
+    let s = s * w + 1.0 / 9.0;
+    let s = s * w + 1.0 / 7.0;
+    let s = s * w + 1.0 / 5.0;
+    let s = s * w + 1.0 / 3.0;
+    s * w + 1.0 / 1.0
 }
 
 // The exponent k - 1074 as a float.
