@@ -19,7 +19,7 @@ use calls_cells::hashing;
 use calls_cells::lent::{LastFrame, Output};
 use calls_input::{Call, RefinerCall, SmootherCall};
 use calls_refiner::LentRefiner;
-use calls_smoother::window::{LentSmoother, LentWindow};
+use calls_smoother::window::{InputFrame, LentSmoother, LentWindow};
 use fgo_state::state::{FixedLagRefiner, Memory};
 use print::lines;
 use smoother_window::FixedLagSmoother;
@@ -52,6 +52,7 @@ impl Desk {
         let smoother = LentSmoother {
             state: FixedLagSmoother::of(&[0; SMOOTHER]),
             window: LentWindow::new(),
+            input: InputFrame::new(),
         };
         Desk {
             stages: Stages { refiner, smoother },

@@ -1,2 +1,3 @@
 pub mod Smoothed
 mod Fronts
+mod Reading

@@ -10,7 +10,8 @@ use Rattle.calls_input.specs.declared.SmootherCall.TheVariants.{Open, PushLast, 
 use Rattle.calls_cells.proofs.Opened.{ready_in}
 use Rattle.calls_smoother.specs.declared.window.Room.{Room}
 use Rattle.calls_smoother.specs.declared.window.LentSmoother.{LentSmoother}
-use Rattle.calls_smoother.specs.Smoothing.{Tells, Answers, Smooths}
+use Rattle.calls_smoother.specs.declared.window.LentWindow.{LentWindow}
+use Rattle.calls_smoother.specs.Smoothing.{Tells, AnswersOver, Smooths}
 
 module _ {s s' : LentSmoother} {ws ws' : List ℕ} {ns ns' : List Float} {end : ℕ} {front : List ℕ} (rest : List ℕ) where
   pub tells_in :
@@ -27,7 +28,11 @@ module _ {s s' : LentSmoother} {ws ws' : List ℕ} {ns ns' : List Float} {end : 
         text_is = ready_in rest t.text_is;
       }
 
-  pub answers_in : {op : Op Written} → Answers s ws ns s' ws' ns' end front op → Answers s ws ns s' ws' ns' end (front ++ rest) op
+module _ {s s' : FixedLagSmoother} {w w' : LentWindow} {ws ws' : List ℕ} {ns ns' : List Float} {end : ℕ} {front : List ℕ} (rest : List ℕ) where
+  pub answers_in :
+      {op : Op Written} →
+      AnswersOver s w ws ns s' w' ws' ns' end front op →
+      AnswersOver s w ws ns s' w' ws' ns' end (front ++ rest) op
   answers_in a =
       record {
         given = a.given;

@@ -93,6 +93,15 @@ window_with c w = by c.place
 
 -- ---- the calls
 
+-- a push or a take over what is lent of the window, by its contract, and its answer is printed
+pub record AnswersOver (s : FixedLagSmoother) (w : LentWindow) (ws : List ℕ) (ns : List Float)
+    (s' : FixedLagSmoother) (w' : LentWindow) (ws' : List ℕ) (ns' : List Float) (end : ℕ) (out' : List ℕ) (op : Op Written) : Type 0 where
+  pub given : Pushed
+  pub promised : Promised op s (lent_in w) ws ns given (lent_in w') ws' ns'
+  pub window_rest : WindowRestStays w w'
+  pub smoother_is : s' ≡ given.state
+  pub text_is : Ready (call_answer given.answer ws' ns') out' end
+
 -- with the smoother s and its window, and the output buffers ws and ns, and what is left of them
 module _ (s : LentSmoother) (ws : List ℕ) (ns : List Float) (s' : LentSmoother) (ws' : List ℕ) (ns' : List Float) (end : ℕ) (out' : List ℕ) where
   -- the buffers stay, and this is printed
@@ -104,13 +113,9 @@ module _ (s : LentSmoother) (ws : List ℕ) (ns : List Float) (s' : LentSmoother
     pub numbers : ns' ≡ ns
     pub text_is : Ready text out' end
 
-  -- a push or a take over what is lent of the window, by its contract, and its answer is printed
-  pub record Answers (op : Op Written) : Type 0 where
-    pub given : Pushed
-    pub promised : Promised op s.state (lent_in s.window) ws ns given (lent_in s'.window) ws' ns'
-    pub window_rest : WindowRestStays s.window s'.window
-    pub smoother_is : s'.state ≡ given.state
-    pub text_is : Ready (call_answer given.answer ws' ns') out' end
+  -- a push or a take, over its fields and its window
+  abbrev pub Answers : Op Written → Type 0
+  Answers = AnswersOver s.state s.window ws ns s'.state s'.window ws' ns' end out'
 
   -- an opening with these settings, over the window that is lent then, which it clears
   abbrev pub Opens : SmootherConfig → Type 0

@@ -24,9 +24,9 @@ ghost use Rattle.calls_cells.specs.Lent.{last_frame};
 ghost use Rattle.calls_smoother.specs.declared.window.Room.TheVariants.{Asked};
 ghost use Rattle.calls_smoother.specs.Room.{Fits};
 ghost use Rattle.calls_smoother.specs.Smoothing.{settings_in, asked_by, room_for, frame_in, smoother_with, window_in, window_with};
-ghost use Rattle.calls_smoother.specs.Smoothing.{Answers, Opens, Smooths};
+ghost use Rattle.calls_smoother.specs.Smoothing.{AnswersOver, Answers, Opens, Smooths};
 
-use bounds::{LENT_NUMBERS, LENT_WORDS, SETTING, TEXT};
+use bounds::{SETTING, TEXT};
 use buffers::FrameSize;
 use calls_cells::cells::Fields;
 use calls_cells::lent::LastFrame;
@@ -37,9 +37,9 @@ use print::answer_ref::AnswerRef;
 use print::{answers, lines};
 use scalar::bits;
 use smoother::FrameRef;
-use smoother_window::SmootherConfig;
 use smoother_window::size::{WindowSize, window_size};
-use window::{LentSmoother, Room};
+use smoother_window::{FixedLagSmoother, SmootherConfig};
+use window::{LentSmoother, LentWindow, Room};
 
 // ---- opening
 
@@ -115,23 +115,24 @@ fn tell(shown: &AnswerRef<'_>, out: &mut [u8; TEXT]) -> usize
     answers::put_call(out, shown)
 }
 
-// A frame is pushed.
+// A frame is pushed. Of the smoother its fields and its window are lent, and not where the frame may stand.
 fn push(
-    smoother: &mut LentSmoother,
+    state: &mut FixedLagSmoother,
+    window: &mut LentWindow,
     frame: &FrameRef<'_>,
     words: &mut [u64],
     numbers: &mut [f64],
     out: &mut [u8; TEXT],
 ) -> usize
-    ensures { Answers smoother.old words.old numbers.old smoother.new words.new numbers.new result out.new
+    ensures { AnswersOver state.old window.old words.old numbers.old state.new window.new words.new numbers.new result out.new
         (pushed (frame_of frame.now.words.now frame.now.numbers.now)) }
 {
-    let size = smoother.window.room.size();
+    let size = window.room.size();
     let answer = smoother::push_over(
-        &mut smoother.state,
+        state,
         size,
-        &mut smoother.window.words,
-        &mut smoother.window.values,
+        &mut window.words,
+        &mut window.values,
         frame,
         words,
         numbers,
@@ -219,19 +220,25 @@ fn push_read(
     ensures { Answers smoother.old words.old numbers.old smoother.new words.new numbers.new result out.new
         (pushed (frame_in s.now size.words size.numbers)) }
 {
-    let mut frame_words = [0u64; LENT_WORDS];
-    let mut frame_numbers = [0.0; LENT_NUMBERS];
-    read(s, SETTING * 2, &mut frame_words[..size.words]);
+    read(s, SETTING * 2, &mut smoother.input.words[..size.words]);
     read(
         s,
         SETTING * (2 + size.words),
-        &mut frame_numbers[..size.numbers],
+        &mut smoother.input.numbers[..size.numbers],
     );
+    let input = &smoother.input;
     let frame = FrameRef {
-        words: &frame_words[..size.words],
-        numbers: &frame_numbers[..size.numbers],
+        words: &input.words[..size.words],
+        numbers: &input.numbers[..size.numbers],
     };
-    push(smoother, &frame, words, numbers, out)
+    push(
+        &mut smoother.state,
+        &mut smoother.window,
+        &frame,
+        words,
+        numbers,
+        out,
+    )
 }
 
 // ---- cells
@@ -276,7 +283,14 @@ pub fn call(
                 words: &last.words[..last.size.words],
                 numbers: &last.numbers[..last.size.numbers],
             };
-            push(smoother, &frame, words, numbers, text)
+            push(
+                &mut smoother.state,
+                &mut smoother.window,
+                &frame,
+                words,
+                numbers,
+                text,
+            )
         }
         SmootherCall::Push(size) => push_read(smoother, size, s, words, numbers, text),
         SmootherCall::Take => take(smoother, words, numbers, text),

@@ -1,11 +1,11 @@
-// A smoother, and the window that is lent to it.
+// A smoother, the window that is lent to it, and where a frame of the input is read for it.
 ghost use Rattle.std.specs.Prelude.{◌≡◌, ◌≤◌, replicate, from_bits};
 ghost use Rattle.std.specs.Float.{binary64};
-ghost use Rattle.bounds.specs.Bounds.{WINDOW, VALUES};
+ghost use Rattle.bounds.specs.Bounds.{WINDOW, VALUES, LENT_WORDS, LENT_NUMBERS};
 ghost use Rattle.calls_smoother.specs.declared.window.Room.TheVariants.{Asked, Said};
 ghost use Rattle.calls_smoother.specs.Room.{Fits, size_of};
 
-use bounds::{VALUES, WINDOW};
+use bounds::{LENT_NUMBERS, LENT_WORDS, VALUES, WINDOW};
 use smoother_window::FixedLagSmoother;
 use smoother_window::size::WindowSize;
 
@@ -38,11 +38,34 @@ pub struct LentWindow {
     pub ghost fits: { Fits room },
 }
 
-// The smoother as one caller has it: its fields, and the window that the caller lends it at every call.
+// Where a frame of the input stands while it is pushed. What stood there before is of no account.
+// As it is: kept from call to call, since it is long: made anew for each push it was the most of what a push took.
+#[derive(Drop)]
+pub struct InputFrame {
+    pub words: [u64; LENT_WORDS],
+    pub numbers: [f64; LENT_NUMBERS],
+}
+
+// The smoother as one caller has it: its fields, the window that the caller lends it at every call, and where a frame
+// of the input is read.
 #[derive(Drop)]
 pub struct LentSmoother {
     pub state: FixedLagSmoother,
     pub window: LentWindow,
+    pub input: InputFrame,
+}
+
+impl InputFrame {
+    // All zero.
+    pub fn new() -> InputFrame
+        ensures words { result.words ≡ replicate LENT_WORDS 0 }
+        ensures numbers { result.numbers ≡ replicate LENT_NUMBERS (from_bits binary64 0) }
+    {
+        InputFrame {
+            words: [0; LENT_WORDS],
+            numbers: [0.0; LENT_NUMBERS],
+        }
+    }
 }
 
 impl LentWindow {

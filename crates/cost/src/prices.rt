@@ -7,7 +7,7 @@ use engine::types::ScanIndex;
 use kf::filter::Dot;
 
 // The settings, the number of the oldest scan held, which is far from where a word ends, and the dots.
-#[derive(Drop)]
+#[derive(Clone, Copy)]
 pub struct Prices<'a> {
     pub config: FgoConfig,
     pub first: ScanIndex,

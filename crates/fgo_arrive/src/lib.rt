@@ -68,7 +68,13 @@ fn search_held(
         filters: &m.parts.filters,
     };
     let t = pass::improve(&scene, r.next_id, r.counters, &mut gathered.ids);
-    gather::scatter(&mut m.scans, r.first, gathered.held, &gathered.ids);
+    gather::scatter(
+        &m.scans.bodies,
+        &mut m.scans.columns,
+        r.first,
+        gathered.held,
+        &gathered.ids,
+    );
     let index = IdIndex::of(&engines[..gathered.count]);
     own::hold_latest(&mut m.owners, r.owned, gathered, &index);
     t

@@ -13,8 +13,7 @@ ghost use Rattle.fgo_state.specs.Gathering.{HeldScans, GathersScan, GatheredScan
 use crate::held::HeldRef;
 use crate::scan::HeldScan;
 use crate::scans;
-use crate::scans::Scans;
-use bounds::{COLUMN, COLUMNS, DETECTIONS, STARTS};
+use bounds::{BODIES, COLUMN, COLUMNS, DETECTIONS, STARTS};
 use engine::config::FgoConfig;
 use engine::types::{EngineId, RefinedId, ScanIndex};
 use id_index::IdIndex;
@@ -207,15 +206,20 @@ fn scatter_scan(
 }
 
 // The ids of the held scans, put back. It asks what `gather` asks.
-pub fn scatter(scans: &mut Scans, first: ScanIndex, held: usize, ids: &[u64; DETECTIONS])
-    requires { HeldScans scans.old.bodies scans.old.columns first.0 held }
-    ensures ids { Scattered scans.old.bodies first.0 held ids.now scans.old.columns scans.new.columns }
-    ensures bodies { scans.new.bodies ≡ scans.old.bodies }
+pub fn scatter(
+    bodies: &[u8; BODIES],
+    columns: &mut [u64; COLUMNS],
+    first: ScanIndex,
+    held: usize,
+    ids: &[u64; DETECTIONS],
+)
+    requires { HeldScans bodies.now columns.old first.0 held }
+    ensures { Scattered bodies.now first.0 held ids.now columns.old columns.new }
 {
     let mut p: usize = 0;
     for k in 0..held {
         let n = first.later(k);
-        let m = scans.count_of(n);
-        p = scatter_scan(&mut scans.columns, n, m, p, ids);
+        let m = scans::count_of(bodies, columns, n);
+        p = scatter_scan(columns, n, m, p, ids);
     }
 }

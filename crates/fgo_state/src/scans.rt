@@ -60,6 +60,54 @@ pub fn are_bytes(l: &[u8]) -> usize
     l.len()
 }
 
+// ---- a held scan, in bodies and columns that need not lie side by side
+
+// The head of its column, which says the length of its body.
+fn head_at(columns: &[u64; COLUMNS], n: ScanIndex) -> u64
+    ensures { result ≡ head_at columns.now n.0 }
+{
+    columns[COLUMN * slot_of(n)]
+}
+
+// Its body.
+pub fn body_in<'a>(bodies: &'a [u8; BODIES], columns: &[u64; COLUMNS], n: ScanIndex) -> Body<'a>
+    ensures { body_of result ≡ body_at bodies.now columns.now n.0 }
+{
+    let a = BODY * slot_of(n);
+    let e = a + length_in(head_at(columns, n));
+    Body {
+        kind: BodyKind::Narrow,
+        bytes: &bodies[a..e],
+    }
+}
+
+// The refined id of its association j; 0 past the last that there is room for.
+// As it is, here and in `HeldScan::id`: an id of which 0 is clutter. An Option is no plainer: the definitions read a
+// column as numbers, the rule compares 0 with the next id, `stands_in` may be asked of 0, and a frame has 0 written
+// out, so each of these would make the number again.
+pub fn id_at(columns: &[u64; COLUMNS], n: ScanIndex, j: usize) -> RefinedId
+    ensures { result.0 ≡ id_at columns.now n.0 j }
+{
+    if j < ASSOCIATIONS {
+        return RefinedId(columns[COLUMN * slot_of(n) + (1 + j)]);
+    }
+    RefinedId(0)
+}
+
+// How many associations it has.
+pub fn count_of(bodies: &[u8; BODIES], columns: &[u64; COLUMNS], n: ScanIndex) -> usize
+    ensures { result ≡ associations_in (body_at bodies.now columns.now n.0) }
+{
+    body_in(bodies, columns, n).association_count()
+}
+
+// Whether a refined id stands in its column, from association i to before association e.
+pub fn stands_in(columns: &[u64; COLUMNS], n: ScanIndex, i: usize, e: usize, id: RefinedId) -> bool
+    ensures { result ≡ has id.0 (rows (id_at columns.now n.0) i (e - i)) }
+{
+    (i..e).any(|j| id == id_at(columns, n, j))
+}
+
 impl Scans {
     // Memory that was never used.
     pub fn new() -> Scans
@@ -82,50 +130,32 @@ impl Scans {
 
     // ---- a held scan
 
-    // The head of its column, which says the length of its body.
-    fn head_at(&self, n: ScanIndex) -> u64
-        ensures { result ≡ head_at self.now.columns n.0 }
-    {
-        self.columns[COLUMN * slot_of(n)]
-    }
-
     // Its body.
     pub fn body(&self, n: ScanIndex) -> Body<'_>
         ensures { body_of result ≡ body_at self.now.bodies self.now.columns n.0 }
     {
-        let a = BODY * slot_of(n);
-        let e = a + length_in(self.head_at(n));
-        Body {
-            kind: BodyKind::Narrow,
-            bytes: &self.bodies[a..e],
-        }
+        body_in(&self.bodies, &self.columns, n)
     }
 
     // The refined id of its association j; 0 past the last that there is room for.
-    // As it is, here and in `HeldScan::id`: an id of which 0 is clutter. An Option is no plainer: the definitions read
-    // a column as numbers, the rule compares 0 with the next id, `stands_in` may be asked of 0, and a frame has 0
-    // written out, so each of these would make the number again.
     pub fn id_at(&self, n: ScanIndex, j: usize) -> RefinedId
         ensures { result.0 ≡ id_at self.now.columns n.0 j }
     {
-        if j < ASSOCIATIONS {
-            return RefinedId(self.columns[COLUMN * slot_of(n) + (1 + j)]);
-        }
-        RefinedId(0)
+        id_at(&self.columns, n, j)
     }
 
     // How many associations it has.
     pub fn count_of(&self, n: ScanIndex) -> usize
         ensures { result ≡ associations_in (body_at self.now.bodies self.now.columns n.0) }
     {
-        self.body(n).association_count()
+        count_of(&self.bodies, &self.columns, n)
     }
 
     // Whether a refined id stands in its column, from association i to before association e.
     pub fn stands_in(&self, n: ScanIndex, i: usize, e: usize, id: RefinedId) -> bool
         ensures { result ≡ has id.0 (rows (id_at self.now.columns n.0) i (e - i)) }
     {
-        (i..e).any(|j| id == self.id_at(n, j))
+        stands_in(&self.columns, n, i, e, id)
     }
 
     // Whether a refined id stands in its column.

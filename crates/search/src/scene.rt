@@ -14,7 +14,7 @@ use search_rows::starts::StartsRef;
 
 // What prices windows; how many detections are gathered, and where those of each scan begin; and the frozen tracks, in
 // the words and numbers that are lent.
-#[derive(Drop)]
+#[derive(Clone, Copy)]
 pub struct SceneRef<'a> {
     pub prices: &'a Prices<'a>,
     pub detections: usize,

@@ -102,4 +102,4 @@ returns-clause-found c = let f = c.args in
     let k = c.requires.gathered.as_many in
     let v = c.improve-t.ensures in
     searched_by f.r.now f.m.now w _ _ _ _ _ _ _ g refl _ _ _ _ v.long (v.found _ _ (represents_held f.r.now f.m.now w _ _ _ _ _ _ _ g d))
-    k c.scatter.ensures.ids (rw (k, c.of-index.ensures) at c.hold_latest.ensures)
+    k c.scatter.ensures (rw (k, c.of-index.ensures) at c.hold_latest.ensures)

@@ -1,6 +1,6 @@
 use borrow.Author.Tests.{lt-ltb, le-ltb}
 use Rattle.fgo_state.specs.Memory.{id_at}
-use Rattle.fgo_state.proofs.scans.Scans.id_at.Goals as goal
+use Rattle.fgo_state.proofs.scans.id_at.Goals as goal
 
 pub returns-then-j-lt-ASSOCIATIONS : goal.returns-then-j-lt-ASSOCIATIONS
 unfolding id_at

@@ -3,7 +3,7 @@ use mathlib.Core.Path.{◌≡◌}
 use native.Mathlib.Omega.{arith}
 use Rattle.bounds.specs.Bounds.{BODY}
 use Rattle.fgo_state.specs.Memory.{bytes_at, kind_in}
-use Rattle.fgo_state.proofs.scans.Scans.body.Goals as goal
+use Rattle.fgo_state.proofs.scans.body_in.Goals as goal
 
 pub returns : goal.returns
 unfolding bytes_at kind_in
