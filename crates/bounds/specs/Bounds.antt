@@ -168,7 +168,7 @@ KEPT = 256
 
 -- What an id is divided by in an index of ids: each residue has a chain.
 abbrev pub RESIDUES : ℕ
-RESIDUES = 64
+RESIDUES = 61
 
 -- ---- an emitted frame
 

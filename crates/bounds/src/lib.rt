@@ -134,8 +134,9 @@ pub const STARTS: usize = SCANS + 1;
 // Logarithms that are kept at most.
 pub const KEPT: usize = 256;
 
-// What an id is divided by in an index of ids: each residue has a chain.
-pub const RESIDUES: usize = 64;
+// What an id is divided by in an index of ids: each residue has a chain. A prime, so that ids that lie apart by a
+// power of two, or of ten, have different residues all the same.
+pub const RESIDUES: usize = 61;
 
 // ---- an emitted frame
 

@@ -1,12 +1,16 @@
 // An index of a list of ids by their remainders, as a hash table has: where an id stands, without going over the list.
 #![tactic(auto)]
 
-ghost use Rattle.std.specs.Prelude.{◌≡◌, ◌≤◌, ◌<◌, length};
+ghost use Rattle.std.specs.Prelude.{ℕ, ◌≡◌, ◌≤◌, ◌<◌, length, get_or};
 ghost use Rattle.bounds.specs.Bounds.{OWNED, RESIDUES};
 ghost use Rattle.fgo_spec.specs.Lists.{has};
 ghost use Rattle.id_index.specs.Index.{residue, Chained, IsLastPlace};
 
 use bounds::{OWNED, RESIDUES};
+
+// Places of a chain that are looked at, before the rest of the list is gone over place by place: that takes less than a
+// long chain, each of whose places tells the next one.
+const LOOKED_AT: usize = 16;
 
 // A list of ids with, for each residue, the places where an id has it: chained, from the last to the first.
 // A place is told as one more than it is; 0 ends a chain.
@@ -26,6 +30,22 @@ fn residue(x: u64) -> usize
     ensures { (result ≡ residue x) × (result < RESIDUES) }
 {
     (x % RESIDUES as u64) as usize
+}
+
+// The last place of an id, if it stands in the list, where it can only stand below p: place by place.
+fn place_below(ids: &[u64], x: u64, p: usize) -> Option<usize>
+    requires inside { p ≤ length ids.now }
+    requires none_past { (i : ℕ) → i < length ids.now → x ≡ get_or ids.now i 0 → i < p }
+    ensures { IsLastPlace ids.now x result }
+{
+    let mut k = p;
+    while 0 < k {
+        k -= 1;
+        if ids[k] == x {
+            return Some(k);
+        }
+    }
+    None
 }
 
 impl<'a> IdIndex<'a> {
@@ -49,10 +69,15 @@ impl<'a> IdIndex<'a> {
         ensures { IsLastPlace self.now.ids.now x result }
     {
         let mut p = usize::from(self.last[residue(x)]);
+        let mut left = LOOKED_AT;
         while 0 < p {
+            if left == 0 {
+                return place_below(self.ids, x, p);
+            }
             if self.ids[p - 1] == x {
                 return Some(p - 1);
             }
+            left -= 1;
             p = usize::from(self.before[p - 1]);
         }
         None
