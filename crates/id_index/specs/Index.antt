@@ -18,6 +18,10 @@ pub record Chained (ids : List ℕ) (n : ℕ) (last before : List ℕ) : Type 0 
   pub lasts : (r : ℕ) → r < RESIDUES → TellsLast ids n r (get_or last r 0)
   pub befores : (k : ℕ) → k < n → TellsLast ids k (residue (get_or ids k 0)) (get_or before k 0)
 
+-- x stands in a list below p alone, if at all
+abbrev pub StandsBelow : List ℕ → ℕ → ℕ → Type 0
+StandsBelow ids x p = (i : ℕ) → i < length ids → x ≡ get_or ids i 0 → i < p
+
 -- r is the last place of x in a list; there is none where it does not stand there
 abbrev pub IsLastPlace : List ℕ → ℕ → Option ℕ → Type 0
 IsLastPlace ids x r =

@@ -1,10 +1,11 @@
-// An index of a list of ids by their remainders, as a hash table has: where an id stands, without going over the list.
+// An index of a list of ids by their remainders, as a hash table has: where an id stands, without going over the list
+// but where many ids have one remainder.
 #![tactic(auto)]
 
-ghost use Rattle.std.specs.Prelude.{ℕ, ◌≡◌, ◌≤◌, ◌<◌, length, get_or};
+ghost use Rattle.std.specs.Prelude.{◌≡◌, ◌≤◌, ◌<◌, length};
 ghost use Rattle.bounds.specs.Bounds.{OWNED, RESIDUES};
 ghost use Rattle.fgo_spec.specs.Lists.{has};
-ghost use Rattle.id_index.specs.Index.{residue, Chained, IsLastPlace};
+ghost use Rattle.id_index.specs.Index.{residue, Chained, StandsBelow, IsLastPlace};
 
 use bounds::{OWNED, RESIDUES};
 
@@ -35,7 +36,7 @@ fn residue(x: u64) -> usize
 // The last place of an id, if it stands in the list, where it can only stand below p: place by place.
 fn place_below(ids: &[u64], x: u64, p: usize) -> Option<usize>
     requires inside { p ≤ length ids.now }
-    requires none_past { (i : ℕ) → i < length ids.now → x ≡ get_or ids.now i 0 → i < p }
+    requires none_past { StandsBelow ids.now x p }
     ensures { IsLastPlace ids.now x result }
 {
     let mut k = p;
